@@ -1,0 +1,5 @@
+pub mod Print
+pub mod Order
+pub mod Sorted
+pub mod Columns
+pub mod TextBytes

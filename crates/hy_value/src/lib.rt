@@ -193,20 +193,18 @@ impl ColMask {
         ColMask(0)
     }
 
-    /// The set with one more column.
+    /// The set with one more column. From 32 on there is none.
     pub fn with(self, column: u32) -> ColMask
-        requires { column < 32 }
         ensures { result ≡ with self column }
     {
-        ColMask(self.0 | (1 << column))
+        if column < 32 { ColMask(self.0 | (1 << column)) } else { self }
     }
 
     /// Whether the set has the column.
     pub fn has(self, column: u32) -> bool
-        requires { column < 32 }
         ensures { result ≡ has self column }
     {
-        (self.0 >> column) & 1 == 1
+        column < 32 && (self.0 >> column) & 1 == 1
     }
 }
 

@@ -1,0 +1,3 @@
+pub mod Predicate
+pub mod Assignment
+pub mod Records

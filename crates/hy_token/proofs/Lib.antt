@@ -1,0 +1,5 @@
+pub mod Blanks
+pub mod Progress
+pub mod RunSteps
+pub mod Spellings
+pub mod Texts

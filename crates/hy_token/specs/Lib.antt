@@ -1,0 +1,4 @@
+pub mod Keyword
+pub mod Lengths
+pub mod Sign
+pub mod Token

@@ -1,0 +1,114 @@
+// How many bytes of each kind stand first.
+
+ghost use Rattle.std.specs.Prelude.{◌≡◌, ◌≤◌, length, IfSome};
+ghost use Rattle.hy_token.specs.Lengths.{is_space, is_within_line, piece_len, begins_word, continues_word, blank_len, word_len, digits_len, text_rest_len};
+ghost use Rattle.std.specs.List.{prefix_len};
+
+fn is_space(byte: u8) -> bool
+    ensures { result ≡ is_space byte }
+{
+    byte == b' ' || byte == b'\t' || byte == b'\r' || byte == b'\n'
+}
+
+// What a word begins with.
+pub fn begins_word(byte: u8) -> bool
+    ensures { result ≡ begins_word byte }
+{
+    byte.is_ascii_alphabetic() || byte == b'_'
+}
+
+// What a word goes on with.
+fn continues_word(byte: u8) -> bool
+    ensures { result ≡ continues_word byte }
+{
+    byte.is_ascii_alphanumeric() || byte == b'_'
+}
+
+// A word's bytes.
+#[tactic(auto, using(crate::proofs::RunSteps::run_steps))]
+pub fn word_len(bytes: &[u8]) -> usize
+    ensures { result ≡ word_len bytes.now }
+{
+    let mut len = 0;
+    while len < bytes.len() && continues_word(bytes[len]) {
+        len += 1;
+    }
+    len
+}
+
+// The bytes of an integer.
+#[tactic(auto, using(crate::proofs::RunSteps::run_steps))]
+pub fn digits_len(bytes: &[u8]) -> usize
+    ensures { result ≡ digits_len bytes.now }
+{
+    let mut len = 0;
+    while len < bytes.len() && bytes[len].is_ascii_digit() {
+        len += 1;
+    }
+    len
+}
+
+// The bytes before the next line feed or the end.
+#[tactic(auto, using(crate::proofs::RunSteps::run_steps))]
+fn line_len(bytes: &[u8]) -> usize
+    ensures { result ≡ prefix_len is_within_line bytes.now }
+{
+    let mut len = 0;
+    while len < bytes.len() && bytes[len] != b'\n' {
+        len += 1;
+    }
+    len
+}
+
+// The space or the comment that stands first, a comment up to its line feed.
+fn piece_len(bytes: &[u8]) -> usize
+    ensures { result ≡ piece_len bytes.now }
+{
+    let Some(&first) = bytes.first() else {
+        return 0;
+    };
+    if is_space(first) {
+        1
+    } else if bytes.starts_with(b"--") {
+        line_len(bytes)
+    } else {
+        0
+    }
+}
+
+// Spaces and comments.
+#[tactic(auto, using(crate::proofs::Blanks::blank_steps), unfolding(crate::specs::Lengths::blank_len))]
+pub fn blank_len(bytes: &[u8]) -> usize
+    ensures value { result ≡ blank_len bytes.now }
+    ensures in_range { result ≤ length bytes.now }
+{
+    let mut len = 0;
+    loop {
+        let step = piece_len(&bytes[len..]);
+        if step == 0 {
+            return len;
+        }
+        len += step;
+    }
+}
+
+// What follows the quote that opens a text, with the quote that closes it.
+pub fn text_rest_len(bytes: &[u8]) -> Option<usize>
+    ensures value { result ≡ text_rest_len bytes.now }
+    ensures in_range { IfSome result (λ len. len ≤ length bytes.now) }
+{
+    let mut len = 0;
+    while len < bytes.len() {
+        if bytes[len] < b' ' {
+            return None;
+        }
+        if bytes[len] != b'\'' {
+            len += 1;
+        } else if len + 1 < bytes.len() && bytes[len + 1] == b'\'' {
+            len += 2;
+        } else {
+            return Some(len + 1);
+        }
+    }
+    None
+}

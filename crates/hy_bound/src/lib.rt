@@ -144,6 +144,18 @@ pub enum Reply {
 /// The replies of a transaction.
 pub type Replies = Seq<Reply>;
 
+/// An item of a schedule: one step of a session, or its steps until it answers or can't go on.
+#[derive(Clone, Copy, Debug, PartialEq, Eq)]
+pub struct Item {
+    /// The session.
+    pub session: u32,
+    /// Whether it is the steps of a whole statement.
+    pub whole: bool,
+}
+
+/// The items of a schedule.
+pub type Schedule = Seq<Item>;
+
 /// Whether a predicate is true of a row. What is unknown because of a NULL is not true.
 pub fn truth(pred: &Pred, row: &Row) -> bool
     ensures { result ≡ truth_of pred.now row.now }

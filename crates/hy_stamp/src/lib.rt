@@ -94,5 +94,4 @@ impl Clock {
 pub fn identifiers_are_apart()
     ensures one { (a b : Label) → IsLabel a → IsLabel b → id_of a ≡ id_of b → a ≡ b }
     ensures above { (a : Label) (time : ℕ) → time < 2 ^ 63 → time < id_of a }
-{
-}
+{}

@@ -197,7 +197,11 @@ impl ColMask {
     pub fn with(self, column: u32) -> ColMask
         ensures { result ≡ with self column }
     {
-        if column < 32 { ColMask(self.0 | (1 << column)) } else { self }
+        if column < 32 {
+            ColMask(self.0 | (1 << column))
+        } else {
+            self
+        }
     }
 
     /// Whether the set has the column.

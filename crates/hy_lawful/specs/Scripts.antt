@@ -1,0 +1,48 @@
+use Rattle.std.specs.Prelude.{ℕ, suc, ◌-◌, List, [], ◌∷◌, ◌++◌, Option, None, Some, slice_index_or, slice_get, take, map, IsTrue, not}
+use Rattle.hy_bound.specs.declared.Txn.{Txn}
+use Rattle.hy_bound.specs.declared.Bound.{Bound}
+use Rattle.hy_stamp.specs.declared.Label.{Label}
+use Rattle.hy_render.specs.declared.Committed.{Committed}
+use Rattle.hy_meaning.specs.Statement.{Table, Database}
+use Rattle.hy_meaning.specs.Serial.{serial, database_of}
+
+-- the transactions of a script, by session
+abbrev pub Programs : Type 0
+Programs = List (List Txn)
+
+-- the transaction of this label, if the script has it
+abbrev pub txn_of : Programs → Label → Option Txn
+txn_of programs label = slice_get (slice_index_or programs label.session []) (label.txn - 1)
+
+abbrev pub statements_in : Option Txn → List Bound
+statements_in None = []
+statements_in (Some txn) = txn.statements
+
+-- the statements of the transaction of this label
+abbrev pub statements_of : Programs → Label → List Bound
+statements_of programs label = statements_in (txn_of programs label)
+
+-- whether a transaction closes with COMMIT, or with ROLLBACK
+abbrev pub ClosesWithCommit : Option Txn → Type 0
+ClosesWithCommit None = ⊥
+ClosesWithCommit (Some txn) = IsTrue txn.commits
+
+abbrev pub ClosesWithRollback : Option Txn → Type 0
+ClosesWithRollback None = ⊥
+ClosesWithRollback (Some txn) = IsTrue (not txn.commits)
+
+-- the labels of a session's transactions, the first of them having this number
+abbrev pub labels_of : ℕ → ℕ → List Txn → List Label
+labels_of session number [] = []
+labels_of session number (txn ∷ txns) = record { session = session; txn = number } ∷ labels_of session (suc number) txns
+
+-- the labels of a script's transactions, by session and then number, the first session having this number
+abbrev pub labels_from : ℕ → Programs → List Label
+labels_from session [] = []
+labels_from session (txns ∷ programs) = labels_of session 1 txns ++ labels_from (suc session) programs
+
+-- the serial databases: the one after the first `place` transactions of the commit order ran alone, one
+-- after another, from the first rows on
+abbrev pub database_at : List Table → Programs → List Committed → ℕ → Database
+database_at first programs order place =
+    serial (map (λ entry. statements_of programs entry.label) (take place order)) (database_of first)

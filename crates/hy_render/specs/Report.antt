@@ -1,4 +1,4 @@
-use Rattle.std.specs.Prelude.{ℕ, suc, ◌+◌, List, [], ◌∷◌, ◌++◌, Option, None, Some, slice_index_or, codes, length, if◌then◌else◌, ◌==◌}
+use Rattle.std.specs.Prelude.{ℕ, suc, List, [], ◌∷◌, ◌++◌, Option, None, Some, slice_index_or, codes, length, if◌then◌else◌, ◌==◌}
 use Rattle.std.specs.List.{flat_map}
 use Rattle.std.specs.Fmt.{decimal}
 use Rattle.hy_value.specs.declared.Value.{Value}
@@ -55,16 +55,24 @@ ending_text names (Full table) = codes "full " ++ table_name names table
 abbrev pub wrote_line : Names → Place → List ℕ
 wrote_line names place = line (codes "wrote " ++ place_name names place.table place.pos)
 
+-- the line of a table where inserts were placed
+abbrev pub placed_line : Names → ℕ → ℕ → List ℕ
+placed_line names table count =
+    if count == 0 then [] else line (codes "placed " ++ word (table_name names table) ++ decimal count)
+
 -- a line for each table where inserts were placed, the first of them having this number
 abbrev pub placed_lines : Names → ℕ → List ℕ → List ℕ
 placed_lines names table [] = []
 placed_lines names table (count ∷ counts) =
-    (if count == 0 then [] else line (codes "placed " ++ word (table_name names table) ++ decimal count))
-    ++ placed_lines names (suc table) counts
+    placed_line names table count ++ placed_lines names (suc table) counts
+
+-- the first line of a transaction
+abbrev pub start_line : Names → Label → ℕ → List ℕ
+start_line names label start = line (codes "txn " ++ word (label_name names label) ++ codes "start " ++ decimal start)
 
 abbrev pub txn_text : Names → TxnOutcome → List ℕ
 txn_text names txn =
-    line (codes "txn " ++ word (label_name names txn.label) ++ codes "start " ++ decimal txn.start)
+    start_line names txn.label txn.start
     ++ flat_map reply_text txn.replies
     ++ line (ending_text names txn.ending)
     ++ flat_map (wrote_line names) txn.wrote
@@ -75,24 +83,35 @@ abbrev pub row_or_none : Option (List Value) → List ℕ
 row_or_none None = codes "none"
 row_or_none (Some row) = printed_row row
 
+-- the row before a change, and the row after it
+abbrev pub versions : Option (List Value) → Option (List Value) → List ℕ
+versions before after = codes "from " ++ word (row_or_none before) ++ codes "to " ++ row_or_none after
+
 abbrev pub change_line : Names → Change → List ℕ
 change_line names change =
-    line (codes "change " ++ word (place_name names change.table change.pos) ++ codes "from " ++ word (row_or_none change.before)
-        ++ codes "to " ++ row_or_none change.after)
+    line (codes "change " ++ word (place_name names change.table change.pos) ++ versions change.before change.after)
+
+-- the first line of an entry of the commit order
+abbrev pub entry_line : Names → ℕ → Label → List ℕ
+entry_line names place label = line (codes "entry " ++ word (decimal place) ++ label_name names label)
 
 -- the entries of the commit order, the first of them at this place
 abbrev pub order_lines : Names → ℕ → List Entry → List ℕ
 order_lines names place [] = []
 order_lines names place (entry ∷ entries) =
-    line (codes "entry " ++ word (decimal place) ++ label_name names entry.label)
+    entry_line names place entry.label
     ++ flat_map (change_line names) entry.changes
     ++ order_lines names (suc place) entries
+
+-- the first line of a table
+abbrev pub table_line : Names → ℕ → ℕ → List ℕ
+table_line names table count = line (codes "table " ++ word (table_name names table) ++ decimal count)
 
 -- the tables, the first of them having this number
 abbrev pub table_lines : Names → ℕ → List (List (List Value)) → List ℕ
 table_lines names table [] = []
 table_lines names table (rows ∷ tables) =
-    line (codes "table " ++ word (table_name names table) ++ decimal (length rows))
+    table_line names table (length rows)
     ++ flat_map row_line rows
     ++ table_lines names (suc table) tables
 

@@ -1,11 +1,18 @@
 //! What a run of the engine comes to, and the text that prints it.
 #![tactic(auto)]
 
-use hy_bound::{Replies, Rows};
-use hy_change::Changes;
+ghost use Rattle.std.specs.Prelude.{◌≡◌, [], ◌∷◌, ◌++◌, OnOk, slice_index_or};
+ghost use Rattle.std.specs.List.{flat_map};
+ghost use Rattle.std.specs.Option.{option_copied};
+ghost use Rattle.std.specs.Fmt.{decimal};
+ghost use Rattle.hy_render.specs.Report.{line, word, table_name, label_name, place_name, row_line, reply_text, ending_text, wrote_line, placed_line, placed_lines, start_line, txn_text, row_or_none, versions, change_line, entry_line, order_lines, table_line, table_lines, text};
+
+use hy_bound::{Replies, Reply, Rows};
+use hy_change::{Change, Changes};
 use hy_seq::Seq;
 use hy_stamp::Label;
-use hy_value::Text;
+use hy_value::{Row, Text, print_row};
+use std::alloc::AllocError;
 
 /// Names, in file order.
 pub type Texts = Seq<Text>;
@@ -112,4 +119,395 @@ pub struct Outcome {
     pub order: Seq<Committed>,
     /// The rows of each table at the end, ascending.
     pub tables: Seq<Rows>,
+}
+
+/// Appends what `run` prints of an outcome: each transaction, the commit order, the final tables.
+/// Without memory some of it may be there.
+pub fn render(names: &Names, outcome: &Outcome, out: &mut Vec<u8>) -> Result<(), AllocError>
+    ensures { OnOk result (out.new.items ≡ out.old.items ++ text names.now outcome.now) }
+{
+    print_txns(names, outcome.txns.as_slice(), out)?;
+    print_count(b"order ", outcome.order.len(), out)?;
+    print_order(names, outcome.order.as_slice(), out)?;
+    print_tables(names, outcome.tables.as_slice(), out)?;
+    print_line(b"end", out)
+}
+
+/// Appends bytes.
+fn put(bytes: &[u8], out: &mut Vec<u8>) -> Result<(), AllocError>
+    ensures { OnOk result (out.new.items ≡ out.old.items ++ bytes.now) }
+{
+    out.extend_from_slice(bytes)
+}
+
+/// Appends a number in decimal.
+fn print_number(number: u64, out: &mut Vec<u8>) -> Result<(), AllocError>
+    ensures { OnOk result (out.new.items ≡ out.old.items ++ decimal number) }
+{
+    let digits = number.to_string(*out.allocator())?;
+    put(digits.as_bytes(), out)
+}
+
+/// Appends a whole line.
+fn print_line(bytes: &[u8], out: &mut Vec<u8>) -> Result<(), AllocError>
+    ensures { OnOk result (out.new.items ≡ out.old.items ++ line bytes.now) }
+{
+    put(bytes, out)?;
+    end_line(out)
+}
+
+/// Appends the end of a line.
+fn end_line(out: &mut Vec<u8>) -> Result<(), AllocError>
+    ensures { OnOk result (out.new.items ≡ out.old.items ++ 10 ∷ []) }
+{
+    out.push(b'\n')?;
+    Ok(())
+}
+
+/// Appends a space.
+fn end_word(out: &mut Vec<u8>) -> Result<(), AllocError>
+    ensures { OnOk result (out.new.items ≡ out.old.items ++ 32 ∷ []) }
+{
+    out.push(b' ')?;
+    Ok(())
+}
+
+/// Appends a line of some words and a number of things.
+fn print_count(words: &[u8], count: usize, out: &mut Vec<u8>) -> Result<(), AllocError>
+    ensures { OnOk result (out.new.items ≡ out.old.items ++ line (words.now ++ decimal count)) }
+{
+    put(words, out)?;
+    print_number(count as u64, out)?;
+    end_line(out)
+}
+
+/// The name of this number, or no bytes where there is none.
+fn name_of(names: &Texts, number: usize) -> &[u8]
+    ensures { result.now ≡ slice_index_or names.now number [] }
+{
+    match names.as_slice().get(number) {
+        Some(name) => name.as_bytes(),
+        None => &[],
+    }
+}
+
+/// Appends a table's name.
+fn print_table(names: &Names, table: u32, out: &mut Vec<u8>) -> Result<(), AllocError>
+    ensures { OnOk result (out.new.items ≡ out.old.items ++ table_name names.now table) }
+{
+    put(name_of(&names.tables, table as usize), out)
+}
+
+/// Appends the name of a transaction.
+fn print_label(names: &Names, label: Label, out: &mut Vec<u8>) -> Result<(), AllocError>
+    ensures { OnOk result (out.new.items ≡ out.old.items ++ label_name names.now label) }
+{
+    put(name_of(&names.sessions, label.session as usize), out)?;
+    out.push(b'.')?;
+    print_number(u64::from(label.txn), out)
+}
+
+/// Appends a table's name and a position.
+fn print_place(names: &Names, table: u32, pos: u32, out: &mut Vec<u8>) -> Result<(), AllocError>
+    ensures { OnOk result (out.new.items ≡ out.old.items ++ place_name names.now table pos) }
+{
+    print_table(names, table, out)?;
+    end_word(out)?;
+    print_number(u64::from(pos), out)
+}
+
+/// Appends the line of a row.
+fn print_row_line(row: &Row, out: &mut Vec<u8>) -> Result<(), AllocError>
+    ensures { OnOk result (out.new.items ≡ out.old.items ++ row_line row.now) }
+{
+    put(b"row ", out)?;
+    print_row(row, out)?;
+    end_line(out)
+}
+
+/// Appends a line for each row.
+fn print_rows(rows: &[Row], out: &mut Vec<u8>) -> Result<(), AllocError>
+    ensures { OnOk result (out.new.items ≡ out.old.items ++ flat_map row_line rows.now) }
+{
+    for row in rows {
+        print_row_line(row, out)?;
+    }
+    Ok(())
+}
+
+/// Appends a reply.
+fn print_reply(reply: &Reply, out: &mut Vec<u8>) -> Result<(), AllocError>
+    ensures { OnOk result (out.new.items ≡ out.old.items ++ reply_text reply.now) }
+{
+    match reply {
+        Reply::Rows(rows) => {
+            print_count(b"rows ", rows.len(), out)?;
+            print_rows(rows.as_slice(), out)
+        }
+        Reply::Updated(count) => print_updated(*count, out),
+    }
+}
+
+/// Appends how many rows an UPDATE selected.
+fn print_updated(count: u64, out: &mut Vec<u8>) -> Result<(), AllocError>
+    ensures { OnOk result (out.new.items ≡ out.old.items ++ reply_text (Reply.Updated count)) }
+{
+    put(b"updated ", out)?;
+    print_number(count, out)?;
+    end_line(out)
+}
+
+/// Appends replies.
+fn print_replies(replies: &[Reply], out: &mut Vec<u8>) -> Result<(), AllocError>
+    ensures { OnOk result (out.new.items ≡ out.old.items ++ flat_map reply_text replies.now) }
+{
+    for reply in replies {
+        print_reply(reply, out)?;
+    }
+    Ok(())
+}
+
+/// Appends how a transaction ended.
+fn print_ending(names: &Names, ending: &Ending, out: &mut Vec<u8>) -> Result<(), AllocError>
+    ensures { OnOk result (out.new.items ≡ out.old.items ++ ending_text names.now ending.now) }
+{
+    match ending {
+        Ending::Committed { place } => {
+            put(b"committed ", out)?;
+            print_number(u64::from(*place), out)
+        }
+        Ending::Read => put(b"read", out),
+        Ending::RolledBack => put(b"rolledback", out),
+        Ending::Conflict { table, pos, other } => {
+            put(b"conflict ", out)?;
+            print_rival(names, *table, *pos, *other, out)
+        }
+        Ending::Invalid {
+            table,
+            pos,
+            other,
+            statement,
+        } => {
+            put(b"invalid ", out)?;
+            print_rival(names, *table, *pos, *other, out)?;
+            put(b" statement ", out)?;
+            print_number(u64::from(*statement), out)
+        }
+        Ending::Range { table, pos } => {
+            put(b"range ", out)?;
+            print_place(names, *table, *pos, out)
+        }
+        Ending::Full { table } => {
+            put(b"full ", out)?;
+            print_table(names, *table, out)
+        }
+    }
+}
+
+/// Appends the line of how a transaction ended.
+fn print_end(names: &Names, ending: &Ending, out: &mut Vec<u8>) -> Result<(), AllocError>
+    ensures { OnOk result (out.new.items
+        ≡ out.old.items ++ line (ending_text names.now ending.now)) }
+{
+    print_ending(names, ending, out)?;
+    end_line(out)
+}
+
+/// Appends a position and the transaction that changed it.
+fn print_rival(
+    names: &Names,
+    table: u32,
+    pos: u32,
+    other: Label,
+    out: &mut Vec<u8>,
+) -> Result<(), AllocError>
+    ensures { OnOk result (out.new.items
+        ≡ out.old.items ++ (word (place_name names.now table pos) ++ label_name names.now other)) }
+{
+    print_place(names, table, pos, out)?;
+    end_word(out)?;
+    print_label(names, other, out)
+}
+
+/// Appends the line of a position that a transaction wrote.
+fn print_wrote(names: &Names, place: &Place, out: &mut Vec<u8>) -> Result<(), AllocError>
+    ensures { OnOk result (out.new.items ≡ out.old.items ++ wrote_line names.now place.now) }
+{
+    put(b"wrote ", out)?;
+    print_place(names, place.table, place.pos, out)?;
+    end_line(out)
+}
+
+/// Appends a line for each position that a transaction wrote.
+fn print_places(names: &Names, places: &[Place], out: &mut Vec<u8>) -> Result<(), AllocError>
+    ensures { OnOk result (out.new.items
+        ≡ out.old.items ++ flat_map (wrote_line names.now) places.now) }
+{
+    for place in places {
+        print_wrote(names, place, out)?;
+    }
+    Ok(())
+}
+
+/// Appends a line for each table where inserts were placed.
+fn print_placed(names: &Names, counts: &[u64], out: &mut Vec<u8>) -> Result<(), AllocError>
+    ensures { OnOk result (out.new.items ≡ out.old.items ++ placed_lines names.now 0 counts.now) }
+{
+    for (table, count) in counts.iter().enumerate() {
+        print_inserts(names, table, *count, out)?;
+    }
+    Ok(())
+}
+
+/// Appends the line of a table where inserts were placed.
+fn print_inserts(
+    names: &Names,
+    table: usize,
+    count: u64,
+    out: &mut Vec<u8>,
+) -> Result<(), AllocError>
+    ensures { OnOk result (out.new.items ≡ out.old.items ++ placed_line names.now table count) }
+{
+    if count == 0 {
+        return Ok(());
+    }
+    put(b"placed ", out)?;
+    put(name_of(&names.tables, table), out)?;
+    end_word(out)?;
+    print_number(count, out)?;
+    end_line(out)
+}
+
+/// Appends what a transaction came to.
+fn print_txn(names: &Names, txn: &TxnOutcome, out: &mut Vec<u8>) -> Result<(), AllocError>
+    ensures { OnOk result (out.new.items ≡ out.old.items ++ txn_text names.now txn.now) }
+{
+    print_start(names, txn.label, txn.start, out)?;
+    print_replies(txn.replies.as_slice(), out)?;
+    print_end(names, &txn.ending, out)?;
+    print_places(names, txn.wrote.as_slice(), out)?;
+    print_placed(names, txn.placed.as_slice(), out)
+}
+
+/// Appends the first line of a transaction.
+fn print_start(names: &Names, label: Label, start: u32, out: &mut Vec<u8>) -> Result<(), AllocError>
+    ensures { OnOk result (out.new.items ≡ out.old.items ++ start_line names.now label start) }
+{
+    put(b"txn ", out)?;
+    print_label(names, label, out)?;
+    put(b" start ", out)?;
+    print_number(u64::from(start), out)?;
+    end_line(out)
+}
+
+/// Appends transactions.
+fn print_txns(names: &Names, txns: &[TxnOutcome], out: &mut Vec<u8>) -> Result<(), AllocError>
+    ensures { OnOk result (out.new.items
+        ≡ out.old.items ++ flat_map (txn_text names.now) txns.now) }
+{
+    for txn in txns {
+        print_txn(names, txn, out)?;
+    }
+    Ok(())
+}
+
+/// Appends a row that is there or not.
+fn print_version(row: Option<&Row>, out: &mut Vec<u8>) -> Result<(), AllocError>
+    ensures { OnOk result (out.new.items ≡ out.old.items ++ row_or_none (option_copied row.entry)) }
+{
+    match row {
+        Some(row) => print_row(row, out),
+        None => put(b"none", out),
+    }
+}
+
+/// Appends the line of a change.
+fn print_change(names: &Names, change: &Change, out: &mut Vec<u8>) -> Result<(), AllocError>
+    ensures { OnOk result (out.new.items ≡ out.old.items ++ change_line names.now change.now) }
+{
+    put(b"change ", out)?;
+    print_place(names, change.table, change.pos, out)?;
+    end_word(out)?;
+    print_versions(change.before.as_ref(), change.after.as_ref(), out)?;
+    end_line(out)
+}
+
+/// Appends the row before a change and the row after it.
+fn print_versions(
+    before: Option<&Row>,
+    after: Option<&Row>,
+    out: &mut Vec<u8>,
+) -> Result<(), AllocError>
+    ensures { OnOk result (out.new.items
+        ≡ out.old.items ++ versions (option_copied before.entry) (option_copied after.entry)) }
+{
+    put(b"from ", out)?;
+    print_version(before, out)?;
+    put(b" to ", out)?;
+    print_version(after, out)
+}
+
+/// Appends a line for each change.
+fn print_changes(names: &Names, changes: &[Change], out: &mut Vec<u8>) -> Result<(), AllocError>
+    ensures { OnOk result (out.new.items
+        ≡ out.old.items ++ flat_map (change_line names.now) changes.now) }
+{
+    for change in changes {
+        print_change(names, change, out)?;
+    }
+    Ok(())
+}
+
+/// Appends the line of an entry of the commit order.
+fn print_entry(
+    names: &Names,
+    place: usize,
+    label: Label,
+    out: &mut Vec<u8>,
+) -> Result<(), AllocError>
+    ensures { OnOk result (out.new.items ≡ out.old.items ++ entry_line names.now place label) }
+{
+    put(b"entry ", out)?;
+    print_number(place as u64, out)?;
+    end_word(out)?;
+    print_label(names, label, out)?;
+    end_line(out)
+}
+
+/// Appends the entries of the commit order, with their changes.
+fn print_order(names: &Names, order: &[Committed], out: &mut Vec<u8>) -> Result<(), AllocError>
+    ensures { OnOk result (out.new.items ≡ out.old.items ++ order_lines names.now 0 order.now) }
+{
+    for (place, entry) in order.iter().enumerate() {
+        print_entry(names, place, entry.label, out)?;
+        print_changes(names, entry.changes.as_slice(), out)?;
+    }
+    Ok(())
+}
+
+/// Appends the first line of a table.
+fn print_size(
+    names: &Names,
+    table: usize,
+    count: usize,
+    out: &mut Vec<u8>,
+) -> Result<(), AllocError>
+    ensures { OnOk result (out.new.items ≡ out.old.items ++ table_line names.now table count) }
+{
+    put(b"table ", out)?;
+    put(name_of(&names.tables, table), out)?;
+    end_word(out)?;
+    print_number(count as u64, out)?;
+    end_line(out)
+}
+
+/// Appends the tables, with their rows.
+fn print_tables(names: &Names, tables: &[Rows], out: &mut Vec<u8>) -> Result<(), AllocError>
+    ensures { OnOk result (out.new.items ≡ out.old.items ++ table_lines names.now 0 tables.now) }
+{
+    for (table, rows) in tables.iter().enumerate() {
+        print_size(names, table, rows.len(), out)?;
+        print_rows(rows.as_slice(), out)?;
+    }
+    Ok(())
 }

@@ -2,4 +2,12 @@
 #![tactic(auto)]
 
 #[cfg(test)]
+mod faults;
+#[cfg(test)]
 mod lower;
+#[cfg(test)]
+mod meanings;
+#[cfg(test)]
+mod refusals;
+#[cfg(test)]
+mod runs;

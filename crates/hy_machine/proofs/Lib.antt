@@ -1,0 +1,4 @@
+pub mod Overlays
+pub mod Counting
+pub mod Rows
+pub mod Replaced

@@ -1,0 +1,4 @@
+pub mod Lexeme
+pub mod Form
+pub mod Script
+pub mod Reading

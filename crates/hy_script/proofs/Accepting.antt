@@ -1,5 +1,5 @@
 -- The whole of a script: what is read is what is written, and the conditions on it.
-use Rattle.std.proofs.Common.{◌≡◌, ℕ, suc, ◌+◌, ◌≤◌, Bool, true, false, not, cond, List, [], ◌∷◌, ◌++◌, length, map, Option, Some, None, Result, Ok, Err, refl, sym, ap, subst, ◌∙◌, arith}
+use Rattle.std.proofs.Common.{◌≡◌, ℕ, ◌+◌, ◌≤◌, Bool, true, false, not, cond, List, [], ◌∷◌, ◌++◌, length, map, Option, Some, None, Result, Ok, Err, refl, sym, ap, subst, ◌∙◌, arith}
 use Rattle.std.specs.Prelude.{nat_le, ◌&&◌, ◌||◌, count_by, fold, MatchResult, IfOk}
 use Rattle.std.specs.Result.{is_err}
 use Rattle.std.specs.List.{flat_map, AllByRecursion, IsDistinct, list_any}
@@ -15,17 +15,16 @@ use Rattle.hy_token.specs.declared.Token.TheVariants as token
 use Rattle.hy_token.specs.declared.Keyword.TheVariants.{End, Insert, Schedule, Session}
 use Rattle.hy_token.specs.declared.Sign.TheVariants.{Semicolon}
 use Rattle.hy_value.specs.declared.Value.{Value}
-use Rattle.hy_bound.specs.declared.Bound.{Bound}
 use Rattle.hy_bound.specs.declared.Txn.{Txn}
 use Rattle.hy_bound.specs.declared.Item.{Item}
 use Rattle.hy_script.specs.declared.Script.{Script}
 use Rattle.hy_script.specs.declared.ReadError.{ReadError}
 use Rattle.hy_script.specs.declared.ReadError.TheVariants.{Refused, OutOfMemory}
-use Rattle.hy_script.specs.Lexeme.{Lexeme, Key, Mark, next_lexeme, IsAtEnd, Lexes}
-use Rattle.hy_script.specs.Form.{Statement, Read, Write, Block, Form, Fits, BlockFits, IsForm, creation, insertion, session, turn, ending, written, names_of, place_of, is_write, writes}
+use Rattle.hy_script.specs.Lexeme.{Lexeme, Key, Mark, Lexes}
+use Rattle.hy_script.specs.Form.{Statement, Read, Write, Block, Form, Fits, BlockFits, IsForm, creation, insertion, session, turn, written, names_of, is_write, writes}
 use Rattle.hy_script.specs.Script.{row_of, bound_of, program_of, item_of, script_of, Spells}
-use Rattle.hy_script.specs.Reading.{◌>>=◌, Gives, same, after, begins, begins_name, many, creation_at, row_at, rows_at, session_at, sessions_at, unzipped, item_at, items_at, all_differ, is_update, has_update, updates, are_sessions, ends, at_end, parts_at, script_at}
-use Rattle.hy_script.proofs.Laws.{Reads, AllFit, Opens, Stops, bind_some, finish, then_fixed, then_read, then_many, many_sound, recast, begins_as, parted, joined, first_is, alone}
+use Rattle.hy_script.specs.Reading.{◌>>=◌, Gives, same, after, begins, begins_name, many, creation_at, row_at, rows_at, session_at, sessions_at, unzipped, item_at, items_at, all_differ, is_update, updates, are_sessions, ends, at_end, parts_at, script_at}
+use Rattle.hy_script.proofs.Laws.{Reads, AllFit, bind_some, finish, then_fixed, then_read, then_many, many_sound, recast, begins_as, parted, joined, first_is, alone}
 use Rattle.hy_script.proofs.Rules.{Always, creation_reads, row_reads, session_of, session_reads, IsOf, item_reads, turn_opens, no_name}
 
 -- ---- the bytes to their end
@@ -175,10 +174,10 @@ sessions_read table column rows =
     (λ f. flat_map (session table column) f.0 ++ written_schedule f.1) (λ f. schedule_view table rows f.0 f.1) (λ f. AllFit BlockFits 64 f.0 × ScheduleFits f.0 f.1)
     (λ bytes. apart (many (begins (Key Session)) (session_at table column) 64 bytes) (schedule_at table rows))
     (then_many (begins (Key Session)) 64 (session_at table column) (session table column) session_of BlockFits (λ all. schedule_at table rows ((map (λ s. s.0) all.0, map (λ s. s.1) all.0), all.1)) (λ blocks f. written_schedule f) (schedule_view table rows) ScheduleFits
-      (session_reads table column) (λ block bytes rest e. begins_as (Key Session) (Key Session) _ bytes rest e)
-      (λ blocks fits. if_reads (are_sessions (names_read blocks) (programs_read blocks)) (Key Schedule ∷ []) (turns_at (made table rows (names_read blocks) (programs_read blocks)) (names_read blocks)) (λ f. flat_map turn f.0 ++ (last ++ [])) (schedule_view table rows blocks) (λ f. AllFit (IsOf (names_read blocks)) 1000000 f.0 × Unit {0})
-        (turns_read (made table rows (names_read blocks) (programs_read blocks)) (names_read blocks)))
-      (λ blocks f bytes rest e. begins_as (Key Session) (Key Schedule) _ bytes rest e))
+    (session_reads table column) (λ block bytes rest e. begins_as (Key Session) (Key Session) _ bytes rest e)
+    (λ blocks fits. if_reads (are_sessions (names_read blocks) (programs_read blocks)) (Key Schedule ∷ []) (turns_at (made table rows (names_read blocks) (programs_read blocks)) (names_read blocks)) (λ f. flat_map turn f.0 ++ (last ++ [])) (schedule_view table rows blocks) (λ f. AllFit (IsOf (names_read blocks)) 1000000 f.0 × Unit {0})
+    (turns_read (made table rows (names_read blocks) (programs_read blocks)) (names_read blocks)))
+    (λ blocks f bytes rest e. begins_as (Key Session) (Key Schedule) _ bytes rest e))
 
 -- behind the rows there is no INSERT
 no_row : (table column : List ℕ) (blocks : List Block) (f : Scheduled) (bytes rest : List ℕ) → after (flat_map (session table column) blocks ++ written_schedule f) bytes ≡ Some rest → begins (Key Insert) bytes ≡ false
@@ -251,7 +250,7 @@ parts_read =
     recast {F = Parts} parts_at (λ f. creation f.0.0 f.0.1 ++ written_behind f.0.0 f.0.1 f.1) (λ f. behind_view f.0.0 f.1) (λ f. Always f.0 × BehindFits f.1) written script_of IsForm form_of parts_of
     (λ f fits. (form_fits f fits, script_is f, refl)) (λ form fits. (parts_fit form fits, script_is (parts_of form), refl))
     (then_read creation_at (λ names. creation names.0 names.1) (λ names. names) Always (λ names. rows_at names.0.0 4096 names.1 >>= λ rows. sessions_at names.0.0 names.0.1 64 rows.1 >>= schedule_at names.0.0 rows.0) (λ names f. written_behind names.0 names.1 f) (λ names f. behind_view names.0 f) (λ names f. BehindFits f) creation_reads
-      (λ names fits. rows_read names.0 names.1))
+    (λ names fits. rows_read names.0 names.1))
 
 -- ---- the laws
 

@@ -1,9 +1,9 @@
 -- The lexemes that come first.
-use Rattle.std.proofs.Common.{◌≡◌, ℕ, suc, ◌+◌, ◌≤◌, ◌<◌, length, map, get_or, drop, add-one, drop-cons, Bool, true, false, cond, Option, Some, None, List, [], ◌∷◌, ◌++◌, refl, sym, ap, subst, ◌∙◌, arith}
-use Rattle.std.specs.Option.{option_map, option_map_or, option_and_then}
+use Rattle.std.proofs.Common.{◌≡◌, ℕ, suc, ◌+◌, ◌≤◌, ◌<◌, length, map, get_or, drop, add-one, drop-cons, Bool, true, false, cond, Option, Some, None, List, [], ◌∷◌, refl, sym, ◌∙◌}
+use Rattle.std.specs.Option.{option_map, option_map_or}
 use Rattle.std.proofs.lemmas.List.{drop_all}
 use Rattle.hy_token.specs.declared.Token.{Token}
-use Rattle.hy_script.specs.Lexeme.{Lexeme, meant, piece_at, lexeme_of, next_lexeme}
+use Rattle.hy_script.specs.Lexeme.{Lexeme, meant, piece_at, next_lexeme}
 use Rattle.hy_script.specs.Reading.{◌>>=◌, same, is_met, wanted, after}
 use Rattle.hy_script.specs.declared.lexemes.Expected.{Expected}
 

@@ -1,10 +1,9 @@
 -- What it is that a reader reads what is written so, and nothing else; and how readers are put together.
-use Rattle.std.proofs.Common.{◌≡◌, ℕ, zero, suc, ◌+◌, ◌≤◌, Bool, true, false, cond, List, [], ◌∷◌, ◌++◌, length, map, Option, Some, None, refl, sym, ap, subst, ◌∙◌, append_assoc, length-append, arith, eq-eqb}
+use Rattle.std.proofs.Common.{◌≡◌, ℕ, zero, suc, ◌≤◌, Bool, true, false, cond, List, [], ◌∷◌, ◌++◌, length, map, Option, Some, None, refl, sym, ap, subst, ◌∙◌, arith, eq-eqb}
 use Rattle.std.specs.List.{flat_map, AllByRecursion}
 use Rattle.std.specs.Str.{bytes_eq}
 use Rattle.std.proofs.lemmas.Bool.{eqb-true}
 use Rattle.std.proofs.lemmas.Option.{same_Some}
-use Rattle.std.proofs.lemmas.List.{append-nil}
 use Rattle.std.proofs.lemmas.Slice.Eq.{bytes_eq-Decides}
 use Rattle.hy_token.specs.Keyword.{keyword_of, spelling as word_spelling}
 use Rattle.hy_token.specs.Sign.{sign_of, spelling as sign_spelling}
@@ -117,14 +116,14 @@ pub then_read : {A B F G : Type 0} (read : List ℕ → Option (A × List ℕ)) 
     → Reads {F = F × G} (λ bytes. read bytes >>= k) (λ fg. write fg.0 ++ write' fg.0 fg.1) (λ fg. view' fg.0 fg.1) (λ fg. Fits fg.0 × Fits' fg.0 fg.1)
 then_read {A} read write view Fits k write' view' Fits' one others = record {
   sound = λ bytes rest x e. (
-    let s = bind_some (read bytes) k (x, rest) e in
-    let t = one.sound bytes s.0.1 s.0.0 s.1 in
-    let moved : k (view t.0, s.0.1) ≡ Some (x, rest) = ap (λ (y : A). k (y, s.0.1)) (sym t.2) ∙ s.2 in
-    let u = (others t.0 t.1).sound s.0.1 rest x moved in
-    ((t.0, u.0), (t.1, u.1), u.2, joined (write t.0) (write' t.0 u.0) bytes s.0.1 rest t.3 u.3));
+      let s = bind_some (read bytes) k (x, rest) e in
+      let t = one.sound bytes s.0.1 s.0.0 s.1 in
+      let moved : k (view t.0, s.0.1) ≡ Some (x, rest) = ap (λ (y : A). k (y, s.0.1)) (sym t.2) ∙ s.2 in
+      let u = (others t.0 t.1).sound s.0.1 rest x moved in
+      ((t.0, u.0), (t.1, u.1), u.2, joined (write t.0) (write' t.0 u.0) bytes s.0.1 rest t.3 u.3));
   complete = λ bytes rest fg fits e. (
-    let s = parted (write fg.0) (write' fg.0 fg.1) bytes rest e in
-    ap (λ (o : Option (A × List ℕ)). o >>= k) (one.complete bytes s.0 fg.0 fits.0 s.1) ∙ (others fg.0 fits.0).complete s.0 rest fg.1 fits.1 s.2);
+      let s = parted (write fg.0) (write' fg.0 fg.1) bytes rest e in
+      ap (λ (o : Option (A × List ℕ)). o >>= k) (one.complete bytes s.0 fg.0 fits.0 s.1) ∙ (others fg.0 fits.0).complete s.0 rest fg.1 fits.1 s.2);
 }
 
 -- the same reader, with what is written seen otherwise
@@ -212,15 +211,15 @@ pub then_many : {A B F G : Type 0} (starts : List ℕ → Bool) (n : ℕ) (read 
     → Reads {F = List F × G} (λ bytes. many starts read n bytes >>= k) (λ fg. flat_map write fg.0 ++ write' fg.0 fg.1) (λ fg. view' fg.0 fg.1) (λ fg. AllFit Fits n fg.0 × Fits' fg.0 fg.1)
 then_many {A} starts n read write view Fits k write' view' Fits' one opens others stops = record {
   sound = λ bytes rest x e. (
-    let s = bind_some (many starts read n bytes) k (x, rest) e in
-    let t = many_sound starts read write view Fits one n bytes s.0.1 s.0.0 s.1 in
-    let moved : k (map view t.0, s.0.1) ≡ Some (x, rest) = ap (λ (y : List A). k (y, s.0.1)) (sym t.2) ∙ s.2 in
-    let u = (others t.0 t.1).sound s.0.1 rest x moved in
-    ((t.0, u.0), (t.1, u.1), u.2, joined (flat_map write t.0) (write' t.0 u.0) bytes s.0.1 rest t.3 u.3));
+      let s = bind_some (many starts read n bytes) k (x, rest) e in
+      let t = many_sound starts read write view Fits one n bytes s.0.1 s.0.0 s.1 in
+      let moved : k (map view t.0, s.0.1) ≡ Some (x, rest) = ap (λ (y : List A). k (y, s.0.1)) (sym t.2) ∙ s.2 in
+      let u = (others t.0 t.1).sound s.0.1 rest x moved in
+      ((t.0, u.0), (t.1, u.1), u.2, joined (flat_map write t.0) (write' t.0 u.0) bytes s.0.1 rest t.3 u.3));
   complete = λ bytes rest fg fits e. (
-    let s = parted (flat_map write fg.0) (write' fg.0 fg.1) bytes rest e in
-    let last = stops fg.0 fg.1 s.0 rest s.2 in
-    ap (λ (o : Option (List A × List ℕ)). o >>= k) (many_complete starts read write view Fits one opens n bytes s.0 fg.0 fits.0 s.1 last) ∙ (others fg.0 fits.0).complete s.0 rest fg.1 fits.1 s.2);
+      let s = parted (flat_map write fg.0) (write' fg.0 fg.1) bytes rest e in
+      let last = stops fg.0 fg.1 s.0 rest s.2 in
+      ap (λ (o : Option (List A × List ℕ)). o >>= k) (many_complete starts read write view Fits one opens n bytes s.0 fg.0 fits.0 s.1 last) ∙ (others fg.0 fits.0).complete s.0 rest fg.1 fits.1 s.2);
 }
 
 -- ---- the lexeme that comes first
@@ -234,20 +233,37 @@ begins_as wanted lexeme lexemes bytes rest e =
     let s = head_is lexeme lexemes bytes rest e in
     rw s.1 (elim (same wanted lexeme) as (λ b. is_some (cond b (Some s.0) None) ≡ b) [ true ↦ refl | false ↦ refl ])
 
+-- what a lexeme says, and where
+abbrev saying : {A : Type 0} → A → List ℕ → Option (A × List ℕ)
+saying value rest = Some (value, rest)
+
+-- what one lexeme was read as
+abbrev Said : {A F : Type 0} → (F → Lexeme) → (F → A) → (F → Type 0) → List ℕ → List ℕ → A → Type 0
+Said {A} {F} write view Fits bytes rest x = (f : F) × Fits f × (x ≡ view f) × (after (write f ∷ []) bytes ≡ Some rest)
+
+value_said : {A F : Type 0} (write : F → Lexeme) (view : F → A) (Fits : F → Type 0) (bytes behind rest : List ℕ) (l : Lexeme) (value x : A) → next_lexeme bytes ≡ Some (l, behind) → (f : F) × Fits f × (value ≡ view f) × (l ≡ write f) → saying value behind ≡ saying x rest → Said write view Fits bytes rest x
+value_said {A} write view Fits bytes behind rest l value x is sense e =
+    let made : A × List ℕ = (value, behind) in
+    let got : A × List ℕ = (x, rest) in
+    let same : made ≡ got = same_Some made got e in
+    let next : next_lexeme bytes ≡ Some (write sense.0, behind) = is ∙ ap (λ (m : Lexeme). Some (m, behind)) sense.3 in
+    (sense.0, sense.1, ap (λ (y : A × List ℕ). y.0) (sym same) ∙ sense.2, alone (write sense.0) bytes behind next ∙ ap (λ (y : A × List ℕ). Some y.1) same)
+
+sense_said : {A F : Type 0} (sense : Lexeme → Option A) (write : F → Lexeme) (view : F → A) (Fits : F → Type 0) → ((l : Lexeme) (a : A) → sense l ≡ Some a → (f : F) × Fits f × (a ≡ view f) × (l ≡ write f)) → (bytes behind rest : List ℕ) (l : Lexeme) (x : A) → next_lexeme bytes ≡ Some (l, behind)
+    → (v : Option A) → sense l ≡ v → (v >>= λ value. Some (value, behind)) ≡ saying x rest → Said write view Fits bytes rest x
+sense_said sense write view Fits sound bytes behind rest l x is None v e = absurd cc
+sense_said sense write view Fits sound bytes behind rest l x is (Some value) v e = value_said write view Fits bytes behind rest l value x is (sound l value v) e
+
+lexeme_said : {A F : Type 0} (sense : Lexeme → Option A) (write : F → Lexeme) (view : F → A) (Fits : F → Type 0) → ((l : Lexeme) (a : A) → sense l ≡ Some a → (f : F) × Fits f × (a ≡ view f) × (l ≡ write f)) → (bytes rest : List ℕ) (x : A)
+    → (o : Option (Lexeme × List ℕ)) → next_lexeme bytes ≡ o → (o >>= λ found. sense found.0 >>= λ value. Some (value, found.1)) ≡ saying x rest → Said write view Fits bytes rest x
+lexeme_said sense write view Fits sound bytes rest x None is e = absurd cc
+lexeme_said sense write view Fits sound bytes rest x (Some found) is e = sense_said sense write view Fits sound bytes found.1 rest found.0 x is (sense found.0) refl e
+
 -- a reader of one lexeme
 pub says_reads : {A F : Type 0} (sense : Lexeme → Option A) (write : F → Lexeme) (view : F → A) (Fits : F → Type 0) → ((l : Lexeme) (a : A) → sense l ≡ Some a → (f : F) × Fits f × (a ≡ view f) × (l ≡ write f)) → ((f : F) → Fits f → sense (write f) ≡ Some (view f))
     → Reads (says sense) (λ f. write f ∷ []) view Fits
 unfolding says
 says_reads {A} sense write view Fits sound complete = record {
-  sound = λ bytes rest x e. (
-    let got : A × List ℕ = (x, rest) in
-    let s = bind_some (next_lexeme bytes) (λ found. sense found.0 >>= λ value. Some (value, found.1)) got e in
-    let t = bind_some (sense s.0.0) (λ value. Some (value, s.0.1)) got s.2 in
-    let made : A × List ℕ = (t.0, s.0.1) in
-    let same : made ≡ got = same_Some made got t.2 in
-    let u = sound s.0.0 t.0 t.1 in
-    let found : Lexeme × List ℕ = (write u.0, rest) in
-    let is : s.0 ≡ found = ap (λ (l : Lexeme). (l, s.0.1)) u.3 ∙ ap (λ (y : A × List ℕ). (write u.0, y.1)) same in
-    (u.0, u.1, ap (λ (y : A × List ℕ). y.0) (sym same) ∙ u.2, alone (write u.0) bytes rest (s.1 ∙ ap (λ (y : Lexeme × List ℕ). Some y) is)));
+  sound = λ bytes rest x e. lexeme_said sense write view Fits sound bytes rest x (next_lexeme bytes) refl e;
   complete = λ bytes rest f fits e. rw (first_is (write f) bytes rest e, complete f fits) refl;
 }

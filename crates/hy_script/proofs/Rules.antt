@@ -1,16 +1,15 @@
 -- Each rule of the form: what is read by it is what is written by it.
-use Rattle.std.proofs.Common.{◌≡◌, ℕ, suc, ◌+◌, ◌≤◌, Bool, true, false, cond, List, [], ◌∷◌, ◌++◌, length, map, Option, Some, None, refl, sym, ap, subst, ◌∙◌, arith}
+use Rattle.std.proofs.Common.{◌≡◌, ℕ, Bool, true, false, cond, List, [], ◌∷◌, ◌++◌, map, Option, Some, None, refl, sym, ap}
 use Rattle.std.specs.Prelude.{ℤ, pos, nat_le, unwrap_or, IsSome}
-use Rattle.std.specs.List.{flat_map, AllByRecursion}
+use Rattle.std.specs.List.{flat_map}
 use Rattle.std.proofs.lemmas.Bool.{leb-true, le-leb}
 use Rattle.std.proofs.lemmas.Option.{same_Some, cond_some}
-use Rattle.hy_token.specs.declared.Keyword.TheVariants.{Begin, Commit, Create, End, From, Insert, Int, Into, Schedule, Select, Session, Set, Table, Update, Values, Where}
+use Rattle.hy_token.specs.declared.Keyword.TheVariants.{Begin, Commit, Create, From, Insert, Int, Into, Select, Session, Set, Table, Update, Values, Where}
 use Rattle.hy_token.specs.declared.Sign.{Sign}
 use Rattle.hy_token.specs.declared.Sign.TheVariants as sign
 use Rattle.hy_token.specs.declared.Sign.TheVariants.{LeftParen, RightParen, Semicolon, Bang, Equal}
 use Rattle.hy_value.specs.declared.Cmp.{Cmp}
 use Rattle.hy_value.specs.declared.Cmp.TheVariants as cmp
-use Rattle.hy_value.specs.declared.Value.{Value}
 use Rattle.hy_value.specs.declared.Value.TheVariants as value
 use Rattle.hy_bound.specs.declared.Bound.{Bound}
 use Rattle.hy_bound.specs.declared.Bound.TheVariants as bound
@@ -18,11 +17,11 @@ use Rattle.hy_bound.specs.declared.Items.TheVariants.{Columns}
 use Rattle.hy_bound.specs.declared.SetExpr.TheVariants as setting
 use Rattle.hy_bound.specs.declared.Txn.{Txn}
 use Rattle.hy_bound.specs.declared.Item.{Item}
-use Rattle.hy_script.specs.Lexeme.{Lexeme, Key, Named, Digits, Mark, Quoted}
+use Rattle.hy_script.specs.Lexeme.{Lexeme, Key, Named, Digits, Mark}
 use Rattle.hy_script.specs.Form.{Condition, Statement, Read, Write, Block, Fits, StatementFits, BlockFits, creation, insertion, comparison, condition, statement, session, turn, place_of}
-use Rattle.hy_script.specs.Script.{row_of, pred_of, bound_of, program_of, item_of}
-use Rattle.hy_script.specs.Reading.{◌>>=◌, same, after, begins, begins_name, begins_statement, many, says, name_in, number_in, value_of, compares, comparison_in, name_at, number_at, comparison_at, creation_at, row_at, condition_at, select_at, update_at, statement_at, statements_at, session_at, item_at, pred}
-use Rattle.hy_script.proofs.Laws.{Reads, AllFit, Opens, Stops, finish, then_fixed, then_read, then_many, recast, says_reads, head_is, begins_as, parted, joined, first_is}
+use Rattle.hy_script.specs.Script.{row_of, bound_of, program_of, item_of}
+use Rattle.hy_script.specs.Reading.{◌>>=◌, after, begins, begins_name, begins_statement, says, name_in, number_in, compares, comparison_in, name_at, number_at, comparison_at, creation_at, row_at, condition_at, select_at, update_at, statement_at, statements_at, session_at, item_at, pred}
+use Rattle.hy_script.proofs.Laws.{Reads, AllFit, Opens, finish, then_fixed, then_read, then_many, recast, says_reads, head_is, begins_as, parted}
 
 abbrev pub Always : {F : Type 0} → F → Type 0
 Always f = Unit {0}
@@ -94,12 +93,12 @@ creation_reads =
     (λ f. (Key Create ∷ Key Table ∷ []) ++ ((Named f.0 ∷ []) ++ ((Mark LeftParen ∷ []) ++ ((Named f.1.0 ∷ []) ++ ((Key Int ∷ Mark RightParen ∷ Mark Semicolon ∷ []) ++ []))))) (λ f. (f.0, f.1.0)) (λ f. Unit {0} × (Unit {0} × Unit {0}))
     (λ names. creation names.0 names.1) (λ names. names) Always (λ f. (f.0, f.1.0)) (λ names. (names.0, (names.1, tt))) (λ f fits. (tt, refl, refl)) (λ names fits. ((tt, (tt, tt)), refl, refl))
     (then_fixed (Key Create ∷ Key Table ∷ [])
-      (λ b. name_at b >>= λ table. after (Mark LeftParen ∷ []) table.1 >>= λ b'. name_at b' >>= λ column. after (Key Int ∷ Mark RightParen ∷ Mark Semicolon ∷ []) column.1 >>= λ rest. Some ((table.0, column.0), rest))
-      (λ (f : List ℕ × (List ℕ × Unit {0})). (Named f.0 ∷ []) ++ ((Mark LeftParen ∷ []) ++ ((Named f.1.0 ∷ []) ++ ((Key Int ∷ Mark RightParen ∷ Mark Semicolon ∷ []) ++ [])))) (λ f. (f.0, f.1.0)) (λ f. Unit {0} × (Unit {0} × Unit {0}))
-      (then_read name_at (λ name. Named name ∷ []) (λ name. name) Always
-        (λ table. after (Mark LeftParen ∷ []) table.1 >>= λ b'. name_at b' >>= λ column. after (Key Int ∷ Mark RightParen ∷ Mark Semicolon ∷ []) column.1 >>= λ rest. Some ((table.0, column.0), rest))
-        (λ table (f : List ℕ × Unit {0}). (Mark LeftParen ∷ []) ++ ((Named f.0 ∷ []) ++ ((Key Int ∷ Mark RightParen ∷ Mark Semicolon ∷ []) ++ []))) (λ table f. (table, f.0)) (λ table f. Unit {0} × Unit {0}) name_reads
-        (λ table fits. between_reads (Mark LeftParen ∷ []) name_at (λ name. Named name ∷ []) (λ name. name) Always (Key Int ∷ Mark RightParen ∷ Mark Semicolon ∷ []) (λ (column : List ℕ). (table, column)) name_reads)))
+    (λ b. name_at b >>= λ table. after (Mark LeftParen ∷ []) table.1 >>= λ b'. name_at b' >>= λ column. after (Key Int ∷ Mark RightParen ∷ Mark Semicolon ∷ []) column.1 >>= λ rest. Some ((table.0, column.0), rest))
+    (λ (f : List ℕ × (List ℕ × Unit {0})). (Named f.0 ∷ []) ++ ((Mark LeftParen ∷ []) ++ ((Named f.1.0 ∷ []) ++ ((Key Int ∷ Mark RightParen ∷ Mark Semicolon ∷ []) ++ [])))) (λ f. (f.0, f.1.0)) (λ f. Unit {0} × (Unit {0} × Unit {0}))
+    (then_read name_at (λ name. Named name ∷ []) (λ name. name) Always
+    (λ table. after (Mark LeftParen ∷ []) table.1 >>= λ b'. name_at b' >>= λ column. after (Key Int ∷ Mark RightParen ∷ Mark Semicolon ∷ []) column.1 >>= λ rest. Some ((table.0, column.0), rest))
+    (λ table (f : List ℕ × Unit {0}). (Mark LeftParen ∷ []) ++ ((Named f.0 ∷ []) ++ ((Key Int ∷ Mark RightParen ∷ Mark Semicolon ∷ []) ++ []))) (λ table f. (table, f.0)) (λ table f. Unit {0} × Unit {0}) name_reads
+    (λ table fits. between_reads (Mark LeftParen ∷ []) name_at (λ name. Named name ∷ []) (λ name. name) Always (Key Int ∷ Mark RightParen ∷ Mark Semicolon ∷ []) (λ (column : List ℕ). (table, column)) name_reads)))
 
 -- what is compared with what
 abbrev comparing : Condition → Cmp × ℤ
@@ -112,13 +111,13 @@ condition_reads column =
     (λ f. (Key Where ∷ Named column ∷ []) ++ ((Mark (comparison f.0) ∷ []) ++ ((Digits f.1.0 ∷ []) ++ ((Mark Semicolon ∷ []) ++ [])))) (λ f. (f.0, pos f.1.0)) (λ f. Unit {0} × (Fits f.1.0 × Unit {0}))
     (condition column) comparing (λ of. Fits of.number) (λ f. record { op = f.0; number = f.1.0 }) (λ of. (of.op, (of.number, tt))) (λ f fits. (fits.1.0, refl, refl)) (λ of fits. ((tt, (fits, tt)), refl, refl))
     (then_fixed (Key Where ∷ Named column ∷ [])
-      (λ left. comparison_at left >>= λ op. number_at op.1 >>= λ right. after (Mark Semicolon ∷ []) right.1 >>= λ rest. Some ((op.0, right.0), rest))
-      (λ (f : Cmp × (ℕ × Unit {0})). (Mark (comparison f.0) ∷ []) ++ ((Digits f.1.0 ∷ []) ++ ((Mark Semicolon ∷ []) ++ []))) (λ f. (f.0, pos f.1.0)) (λ f. Unit {0} × (Fits f.1.0 × Unit {0}))
-      (then_read comparison_at (λ op. Mark (comparison op) ∷ []) (λ op. op) Always
-        (λ op. number_at op.1 >>= λ right. after (Mark Semicolon ∷ []) right.1 >>= λ rest. Some ((op.0, right.0), rest))
-        (λ op (f : ℕ × Unit {0}). (Digits f.0 ∷ []) ++ ((Mark Semicolon ∷ []) ++ [])) (λ op f. (op, pos f.0)) (λ op f. Fits f.0 × Unit {0}) comparison_reads
-        (λ op fits. then_read number_at (λ n. Digits n ∷ []) (λ n. pos n) Fits (λ right. after (Mark Semicolon ∷ []) right.1 >>= λ rest. Some ((op, right.0), rest)) (λ n u. (Mark Semicolon ∷ []) ++ []) (λ n u. (op, pos n)) (λ n u. Unit {0}) number_reads
-          (λ n small. then_fixed (Mark Semicolon ∷ []) (λ rest. Some ((op, pos n), rest)) (λ u. []) (λ u. (op, pos n)) (λ u. Unit {0}) (finish {A = Cmp × ℤ} (op, pos n))))))
+    (λ left. comparison_at left >>= λ op. number_at op.1 >>= λ right. after (Mark Semicolon ∷ []) right.1 >>= λ rest. Some ((op.0, right.0), rest))
+    (λ (f : Cmp × (ℕ × Unit {0})). (Mark (comparison f.0) ∷ []) ++ ((Digits f.1.0 ∷ []) ++ ((Mark Semicolon ∷ []) ++ []))) (λ f. (f.0, pos f.1.0)) (λ f. Unit {0} × (Fits f.1.0 × Unit {0}))
+    (then_read comparison_at (λ op. Mark (comparison op) ∷ []) (λ op. op) Always
+    (λ op. number_at op.1 >>= λ right. after (Mark Semicolon ∷ []) right.1 >>= λ rest. Some ((op.0, right.0), rest))
+    (λ op (f : ℕ × Unit {0}). (Digits f.0 ∷ []) ++ ((Mark Semicolon ∷ []) ++ [])) (λ op f. (op, pos f.0)) (λ op f. Fits f.0 × Unit {0}) comparison_reads
+    (λ op fits. then_read number_at (λ n. Digits n ∷ []) (λ n. pos n) Fits (λ right. after (Mark Semicolon ∷ []) right.1 >>= λ rest. Some ((op, right.0), rest)) (λ n u. (Mark Semicolon ∷ []) ++ []) (λ n u. (op, pos n)) (λ n u. Unit {0}) number_reads
+    (λ n small. then_fixed (Mark Semicolon ∷ []) (λ rest. Some ((op, pos n), rest)) (λ u. []) (λ u. (op, pos n)) (λ u. Unit {0}) (finish {A = Cmp × ℤ} (op, pos n))))))
 
 abbrev select_of : Cmp × ℤ → Bound
 select_of c = bound.Select (0 ∷ []) (pred c.0 c.1) (Columns (0 ∷ []))
@@ -131,8 +130,8 @@ select_reads table column =
     (λ f. front ++ (condition column f.0 ++ [])) (λ f. bound_of (Read f.0)) (λ f. Fits f.0.number × Unit {0})
     (λ of. statement table column (Read of)) (λ of. bound_of (Read of)) (λ of. Fits of.number) (λ f. f.0) (λ of. (of, tt)) (λ f fits. (fits.0, refl, refl)) (λ of fits. ((fits, tt), refl, refl))
     (then_fixed front (λ b. condition_at column b >>= λ c. Some (select_of c.0, c.1)) (λ (f : Condition × Unit {0}). condition column f.0 ++ []) (λ f. bound_of (Read f.0)) (λ f. Fits f.0.number × Unit {0})
-      (then_read (condition_at column) (condition column) comparing (λ of. Fits of.number) (λ c. Some (select_of c.0, c.1)) (λ of u. []) (λ of u. bound_of (Read of)) (λ of u. Unit {0}) (condition_reads column)
-        (λ of fits. finish (bound_of (Read of)))))
+    (then_read (condition_at column) (condition column) comparing (λ of. Fits of.number) (λ c. Some (select_of c.0, c.1)) (λ of u. []) (λ of u. bound_of (Read of)) (λ of u. Unit {0}) (condition_reads column)
+    (λ of fits. finish (bound_of (Read of)))))
 
 abbrev update_of : ℤ → Cmp × ℤ → Bound
 update_of number c = bound.Update 0 (record { column = 0; value = setting.Literal (value.Int number) } ∷ []) (pred c.0 c.1)
@@ -145,9 +144,9 @@ update_reads table column =
     (λ f. front ++ ((Digits f.0 ∷ []) ++ (condition column f.1.0 ++ []))) (λ f. bound_of (Write f.0 f.1.0)) (λ f. Fits f.0 × (Fits f.1.0.number × Unit {0}))
     (λ f. statement table column (Write f.0 f.1)) (λ f. bound_of (Write f.0 f.1)) (λ f. StatementFits (Write f.0 f.1)) (λ f. (f.0, f.1.0)) (λ g. (g.0, (g.1, tt))) (λ f fits. ((fits.0, fits.1.0), refl, refl)) (λ g fits. ((fits.0, (fits.1, tt)), refl, refl))
     (then_fixed front (λ b. number_at b >>= λ number. condition_at column number.1 >>= λ c. Some (update_of number.0 c.0, c.1)) (λ (f : ℕ × (Condition × Unit {0})). (Digits f.0 ∷ []) ++ (condition column f.1.0 ++ [])) (λ f. bound_of (Write f.0 f.1.0)) (λ f. Fits f.0 × (Fits f.1.0.number × Unit {0}))
-      (then_read number_at (λ n. Digits n ∷ []) (λ n. pos n) Fits (λ number. condition_at column number.1 >>= λ c. Some (update_of number.0 c.0, c.1)) (λ n (f : Condition × Unit {0}). condition column f.0 ++ []) (λ n f. bound_of (Write n f.0)) (λ n f. Fits f.0.number × Unit {0}) number_reads
-        (λ n small. then_read (condition_at column) (condition column) comparing (λ of. Fits of.number) (λ c. Some (update_of (pos n) c.0, c.1)) (λ of u. []) (λ of u. bound_of (Write n of)) (λ of u. Unit {0}) (condition_reads column)
-          (λ of fits. finish (bound_of (Write n of))))))
+    (then_read number_at (λ n. Digits n ∷ []) (λ n. pos n) Fits (λ number. condition_at column number.1 >>= λ c. Some (update_of number.0 c.0, c.1)) (λ n (f : Condition × Unit {0}). condition column f.0 ++ []) (λ n f. bound_of (Write n f.0)) (λ n f. Fits f.0.number × Unit {0}) number_reads
+    (λ n small. then_read (condition_at column) (condition column) comparing (λ of. Fits of.number) (λ c. Some (update_of (pos n) c.0, c.1)) (λ of u. []) (λ of u. bound_of (Write n of)) (λ of u. Unit {0}) (condition_reads column)
+    (λ of fits. finish (bound_of (Write n of))))))
 
 -- what a statement was read as
 abbrev IsRead : List ℕ → List ℕ → List ℕ → List ℕ → Bound → Type 0
@@ -202,16 +201,16 @@ session_reads table column =
     (λ f. (Key Session ∷ []) ++ ((Named f.0 ∷ []) ++ (begin ++ (flat_map (statement table column) f.1.0 ++ (commit ++ []))))) (λ f. (f.0, txn_of (map bound_of f.1.0))) (λ f. Unit {0} × (AllFit StatementFits 256 f.1.0 × Unit {0}))
     (session table column) session_of BlockFits (λ f. record { name = f.0; statements = f.1.0 }) (λ b. (b.name, (b.statements, tt))) (λ f fits. (record { few = fits.1.0.0; numbers = fits.1.0.1 }, refl, refl)) (λ b fits. ((tt, ((fits.few, fits.numbers), tt)), refl, refl))
     (then_fixed (Key Session ∷ [])
-      (λ b. name_at b >>= λ name. after begin name.1 >>= λ inside. statements_at table column 256 inside >>= λ ss. after commit ss.1 >>= λ rest. Some ((name.0, txn_of ss.0), rest))
-      (λ (f : List ℕ × (List Statement × Unit {0})). (Named f.0 ∷ []) ++ (begin ++ (flat_map (statement table column) f.1.0 ++ (commit ++ [])))) (λ f. (f.0, txn_of (map bound_of f.1.0))) (λ f. Unit {0} × (AllFit StatementFits 256 f.1.0 × Unit {0}))
-      (then_read name_at (λ name. Named name ∷ []) (λ name. name) Always
-        (λ name. after begin name.1 >>= λ inside. statements_at table column 256 inside >>= λ ss. after commit ss.1 >>= λ rest. Some ((name.0, txn_of ss.0), rest))
-        (λ name (f : List Statement × Unit {0}). begin ++ (flat_map (statement table column) f.0 ++ (commit ++ []))) (λ name f. (name, txn_of (map bound_of f.0))) (λ name f. AllFit StatementFits 256 f.0 × Unit {0}) name_reads
-        (λ name fits. then_fixed begin (λ inside. statements_at table column 256 inside >>= λ ss. after commit ss.1 >>= λ rest. Some ((name, txn_of ss.0), rest)) (λ (f : List Statement × Unit {0}). flat_map (statement table column) f.0 ++ (commit ++ [])) (λ f. (name, txn_of (map bound_of f.0))) (λ f. AllFit StatementFits 256 f.0 × Unit {0})
-          (then_many begins_statement 256 (statement_at table column) (statement table column) bound_of StatementFits (λ ss. after commit ss.1 >>= λ rest. Some ((name, txn_of ss.0), rest)) (λ fs u. commit ++ []) (λ fs u. (name, txn_of (map bound_of fs))) (λ fs u. Unit {0})
-            (statement_reads table column) (statement_opens table column)
-            (λ fs fits. then_fixed commit (λ rest. Some ((name, txn_of (map bound_of fs)), rest)) (λ u. []) (λ u. (name, txn_of (map bound_of fs))) (λ u. Unit {0}) (finish {A = List ℕ × List Txn} (name, txn_of (map bound_of fs))))
-            (λ fs u bytes rest e. no_statement (Mark Semicolon ∷ []) bytes rest e)))))
+    (λ b. name_at b >>= λ name. after begin name.1 >>= λ inside. statements_at table column 256 inside >>= λ ss. after commit ss.1 >>= λ rest. Some ((name.0, txn_of ss.0), rest))
+    (λ (f : List ℕ × (List Statement × Unit {0})). (Named f.0 ∷ []) ++ (begin ++ (flat_map (statement table column) f.1.0 ++ (commit ++ [])))) (λ f. (f.0, txn_of (map bound_of f.1.0))) (λ f. Unit {0} × (AllFit StatementFits 256 f.1.0 × Unit {0}))
+    (then_read name_at (λ name. Named name ∷ []) (λ name. name) Always
+    (λ name. after begin name.1 >>= λ inside. statements_at table column 256 inside >>= λ ss. after commit ss.1 >>= λ rest. Some ((name.0, txn_of ss.0), rest))
+    (λ name (f : List Statement × Unit {0}). begin ++ (flat_map (statement table column) f.0 ++ (commit ++ []))) (λ name f. (name, txn_of (map bound_of f.0))) (λ name f. AllFit StatementFits 256 f.0 × Unit {0}) name_reads
+    (λ name fits. then_fixed begin (λ inside. statements_at table column 256 inside >>= λ ss. after commit ss.1 >>= λ rest. Some ((name, txn_of ss.0), rest)) (λ (f : List Statement × Unit {0}). flat_map (statement table column) f.0 ++ (commit ++ [])) (λ f. (name, txn_of (map bound_of f.0))) (λ f. AllFit StatementFits 256 f.0 × Unit {0})
+    (then_many begins_statement 256 (statement_at table column) (statement table column) bound_of StatementFits (λ ss. after commit ss.1 >>= λ rest. Some ((name, txn_of ss.0), rest)) (λ fs u. commit ++ []) (λ fs u. (name, txn_of (map bound_of fs))) (λ fs u. Unit {0})
+    (statement_reads table column) (statement_opens table column)
+    (λ fs fits. then_fixed commit (λ rest. Some ((name, txn_of (map bound_of fs)), rest)) (λ u. []) (λ u. (name, txn_of (map bound_of fs))) (λ u. Unit {0}) (finish {A = List ℕ × List Txn} (name, txn_of (map bound_of fs))))
+    (λ fs u bytes rest e. no_statement (Mark Semicolon ∷ []) bytes rest e)))))
 
 -- ---- the schedule
 
@@ -236,7 +235,7 @@ item_reads names =
     recast {F = List ℕ × Unit {0}} (item_at names) (λ f. (Named f.0 ∷ []) ++ ((Mark Bang ∷ []) ++ [])) (λ f. item_of names f.0) (λ f. Unit {0} × IsOf names f.0)
     turn (item_of names) (IsOf names) (λ f. f.0) (λ name. (name, tt)) (λ f fits. (fits.1, refl, refl)) (λ name fits. ((tt, fits), refl, refl))
     (then_read name_at (λ name. Named name ∷ []) (λ name. name) Always (λ name. after (Mark Bang ∷ []) name.1 >>= λ rest. place_of names name.0 >>= λ place. Some (turn_of place, rest)) (λ name (u : Unit {0}). (Mark Bang ∷ []) ++ []) (λ name u. item_of names name) (λ name u. IsOf names name) name_reads
-      (λ name fits. then_fixed (Mark Bang ∷ []) (λ rest. place_of names name >>= λ place. Some (turn_of place, rest)) (λ u. []) (λ u. item_of names name) (λ u. IsOf names name) (place_reads (place_of names name))))
+    (λ name fits. then_fixed (Mark Bang ∷ []) (λ rest. place_of names name >>= λ place. Some (turn_of place, rest)) (λ u. []) (λ u. item_of names name) (λ u. IsOf names name) (place_reads (place_of names name))))
 
 pub turn_opens : Opens begins_name turn
 turn_opens name bytes rest e =

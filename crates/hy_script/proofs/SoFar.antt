@@ -1,10 +1,10 @@
 -- Sessions that are read one after the other, their names and their transactions apart.
-use Rattle.std.proofs.Common.{◌≡◌, ℕ, ◌-◌, ◌+◌, ◌<◌, ◌≤◌, Bool, true, false, List, [], ◌∷◌, ◌++◌, Option, Some, None, map, refl, sym, ap, ◌∙◌, arith}
+use Rattle.std.proofs.Common.{◌≡◌, ℕ, ◌-◌, ◌+◌, ◌<◌, ◌≤◌, Bool, true, false, List, [], ◌∷◌, ◌++◌, Option, Some, map, refl, sym, ap, ◌∙◌}
 use Rattle.std.proofs.lemmas.List.{map_push}
 use Rattle.hy_bound.specs.declared.Txn.{Txn}
 use Rattle.hy_script.specs.declared.ReadError.{ReadError}
 use Rattle.hy_script.specs.declared.ReadError.TheVariants as errors
-use Rattle.hy_script.specs.Reading.{◌>>=◌, Fails, many, session_at, unzipped}
+use Rattle.hy_script.specs.Reading.{Fails, many, session_at, unzipped}
 use Rattle.hy_script.proofs.Loop.{with_front, goes_on, ends, stops, is_done, begun}
 
 -- a session's name and its transactions

@@ -1,7 +1,7 @@
 -- The bytes of a name.
-use Rattle.std.proofs.Common.{◌≡◌, ℕ, suc, ◌+◌, ◌-◌, ◌<◌, ◌≤◌, Bool, true, false, cond, Option, Some, None, Result, Ok, Err, List, [], ◌∷◌, length, get_or, take, drop, All, refl, sym, ap, subst, ◌∙◌, arith, nat_eq}
+use Rattle.std.proofs.Common.{◌≡◌, ℕ, suc, ◌+◌, ◌-◌, ◌<◌, ◌≤◌, Bool, true, false, cond, Option, Some, None, List, [], ◌∷◌, length, get_or, take, drop, refl, ap, arith, nat_eq}
 use Rattle.std.specs.Prelude.{Any, nat_le}
-use Rattle.std.specs.Option.{option_map, option_map_or}
+use Rattle.std.specs.Option.{option_map}
 use Rattle.std.specs.Char.{is_ascii_digit}
 use Rattle.std.specs.List.{prefix_len, AllByRecursion}
 use Rattle.std.specs.Str.{IsUtf8}
@@ -12,13 +12,10 @@ use Rattle.std.proofs.lemmas.Str.{IsUtf8-from_ascii}
 use Rattle.std.proofs.lemmas.Str.Ascii.{IsAscii-from_all}
 use Rattle.std.proofs.lemmas.List.Elements.{All-from_recursion}
 use Rattle.std.proofs.lemmas.List.Folds.{length-prefix_len}
-use Rattle.hy_token.specs.Keyword.{keyword_of}
 use Rattle.hy_token.specs.Lengths.{continues_word, begins_word, word_len, digits_len, text_rest_len, blank_len}
 use Rattle.hy_token.specs.Sign.{sign_of, spelling}
-use Rattle.hy_token.specs.Token.{first_word, first_text, first_sign, first_token, word_token, placed, lexed, token_at}
-use Rattle.hy_token.specs.declared.Bad.{Bad}
+use Rattle.hy_token.specs.Token.{first_word, first_token, word_token, placed, lexed}
 use Rattle.hy_token.specs.declared.Sign.{Sign as TheSign}
-use Rattle.hy_token.specs.declared.Span.{Span}
 use Rattle.hy_token.specs.declared.Token.{Token}
 use Rattle.hy_token.specs.declared.Token.TheVariants as token
 use Rattle.hy_script.specs.Lexeme.{IsWord, piece_found, piece_at}

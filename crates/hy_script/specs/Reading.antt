@@ -1,18 +1,17 @@
 -- Reading a script from left to right, as a function on lists. A reader gives what it read and the bytes
 -- behind it, or nothing.
-use Rattle.std.specs.Prelude.{◌≡◌, ℕ, zero, suc, pos, ℤ, Bool, true, false, not, ◌&&◌, ◌||◌, ◌==◌, nat_le, if◌then◌else◌, Option, Some, None, is_some, Result, Ok, Err, List, [], ◌∷◌, ◌++◌, length, map, count_by}
+use Rattle.std.specs.Prelude.{◌≡◌, ℕ, zero, suc, pos, ℤ, Bool, true, false, not, ◌&&◌, ◌||◌, ◌==◌, nat_le, if◌then◌else◌, Option, Some, None, is_some, Result, Ok, Err, List, [], ◌∷◌, map, count_by}
 use Rattle.std.specs.Option.{option_map_or}
 use Rattle.std.specs.List.{list_any}
-use Rattle.std.specs.Str.{bytes_eq, IsUtf8}
+use Rattle.std.specs.Str.{bytes_eq}
 use Rattle.hy_token.specs.Keyword.{spelling as word_spelling}
 use Rattle.hy_token.specs.Sign.{spelling as sign_spelling}
 use Rattle.hy_token.specs.Token.{token_at}
 use Rattle.hy_token.specs.declared.Bad.{Bad}
-use Rattle.hy_token.specs.declared.Keyword.{Keyword}
 use Rattle.hy_token.specs.declared.Keyword.TheVariants.{Begin, Commit, Create, From, Insert, Into, Schedule, Select, Session, Set, Table, Update, Values, Where}
 use Rattle.hy_token.specs.declared.Keyword.TheVariants as keyword
 use Rattle.hy_token.specs.declared.Sign.{Sign}
-use Rattle.hy_token.specs.declared.Sign.TheVariants.{LeftParen, RightParen, Comma, Semicolon, Dot, Star, Plus, Minus, Bang, Equal, NotEqual, Less, LessEqual, Greater, GreaterEqual}
+use Rattle.hy_token.specs.declared.Sign.TheVariants.{LeftParen, RightParen, Semicolon, Bang, Equal, NotEqual, Less, LessEqual, Greater, GreaterEqual}
 use Rattle.hy_token.specs.declared.Span.{Span}
 use Rattle.hy_token.specs.declared.Token.{Token}
 use Rattle.hy_token.specs.declared.Token.TheVariants as token

@@ -1,14 +1,12 @@
 -- The script of a form, with its names resolved, and which bytes spell a script.
 use Rattle.std.specs.Prelude.{◌≡◌, ℕ, ◌≤◌, pos, true, false, List, [], ◌∷◌, length, map, unwrap_or}
 use Rattle.std.specs.Str.{IsUtf8}
-use Rattle.hy_value.specs.declared.Cmp.{Cmp}
 use Rattle.hy_value.specs.declared.Value.{Value}
 use Rattle.hy_value.specs.declared.Value.TheVariants.{Int}
 use Rattle.hy_bound.specs.declared.Side.TheVariants as side
 use Rattle.hy_bound.specs.declared.SetExpr.TheVariants as setting
 use Rattle.hy_bound.specs.declared.Pred.{Pred}
 use Rattle.hy_bound.specs.declared.Pred.TheVariants.{Compare}
-use Rattle.hy_bound.specs.declared.Assign.{Assign}
 use Rattle.hy_bound.specs.declared.Items.TheVariants.{Columns}
 use Rattle.hy_bound.specs.declared.Bound.{Bound}
 use Rattle.hy_bound.specs.declared.Bound.TheVariants.{Select, Update}

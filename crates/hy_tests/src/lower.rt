@@ -1,7 +1,10 @@
 //! One row for each call of the lower crates, with ample memory.
 
 use hy_bound::{Assign, Items, Pred, Record, SetExpr, Side};
-use hy_outside::{CleanSink, CleanSource, MemSink, MemSource, ReadAllError, Sink, Source, StdSink, StdSource, read_all, write_all};
+use hy_outside::{
+    CleanSink, CleanSource, MemSink, MemSource, ReadAllError, Sink, Source, StdSink, StdSource,
+    read_all, write_all,
+};
 use hy_seq::Seq;
 use hy_stamp::{Clock, Label};
 use hy_token::{Bad, Keyword, Sign, Span, Token};
@@ -79,7 +82,9 @@ fn rows_sort_by_their_first_differing_column(rt: HostRuntime) -> Result<(), Fail
 fn a_whole_source_is_read(rt: HostRuntime) -> Result<(), Fail> {
     let bytes = b"abc".to_vec(rt.alloc())?;
     let mut source = MemSource::new(bytes, 2, Vec::new(rt.alloc()));
-    assert!(rt; matches!(read_all(rt.alloc(), &mut source, 3), Ok(read) if read.as_slice() == b"abc".as_slice()));
+    assert!(rt;
+        matches!(read_all(rt.alloc(), &mut source, 3), Ok(read) if read.as_slice() == b"abc".as_slice())
+    );
     Ok(())
 }
 
@@ -87,17 +92,34 @@ fn a_whole_source_is_read(rt: HostRuntime) -> Result<(), Fail> {
 fn a_read_fault_ends_the_reading(rt: HostRuntime) -> Result<(), Fail> {
     let fails = [2].to_vec(rt.alloc())?;
     let mut source = MemSource::new(b"abc".to_vec(rt.alloc())?, 2, fails);
-    assert!(rt; matches!(read_all(rt.alloc(), &mut source, 3), Err(ReadAllError::ReadFault)));
+    assert!(rt;
+        matches!(
+            read_all(rt.alloc(), &mut source, 3),
+            Err(ReadAllError::ReadFault)
+        )
+    );
     Ok(())
 }
 
 #[test]
 fn one_byte_past_the_limit_is_too_long(rt: HostRuntime) -> Result<(), Fail> {
     let mut source = MemSource::new(b"abc".to_vec(rt.alloc())?, 2, Vec::new(rt.alloc()));
-    assert!(rt; matches!(read_all(rt.alloc(), &mut source, 2), Err(ReadAllError::TooLong)));
+    assert!(rt;
+        matches!(
+            read_all(rt.alloc(), &mut source, 2),
+            Err(ReadAllError::TooLong)
+        )
+    );
     let mut clean = CleanSource::new(b"abcd".to_vec(rt.alloc())?);
-    assert!(rt; matches!(read_all(rt.alloc(), &mut clean, 2), Err(ReadAllError::TooLong)));
-    assert!(rt; matches!(read_all(rt.alloc(), &mut clean, 2), Ok(left) if left.as_slice() == b"d".as_slice()));
+    assert!(rt;
+        matches!(
+            read_all(rt.alloc(), &mut clean, 2),
+            Err(ReadAllError::TooLong)
+        )
+    );
+    assert!(rt;
+        matches!(read_all(rt.alloc(), &mut clean, 2), Ok(left) if left.as_slice() == b"d".as_slice())
+    );
     Ok(())
 }
 
@@ -121,7 +143,9 @@ fn a_sink_takes_what_it_has_room_for(rt: HostRuntime) -> Result<(), Fail> {
 #[test]
 fn the_adapters_pass_bytes_on(rt: HostRuntime) -> Result<(), Fail> {
     let mut source = StdSource::new(b"abc".as_slice());
-    assert!(rt; matches!(read_all(rt.alloc(), &mut source, 9), Ok(read) if read.as_slice() == b"abc".as_slice()));
+    assert!(rt;
+        matches!(read_all(rt.alloc(), &mut source, 9), Ok(read) if read.as_slice() == b"abc".as_slice())
+    );
     let mut room = [0u8; 2];
     let mut sink = StdSink::new(room.as_mut_slice());
     assert!(rt; write_all(&mut sink, b"abc").is_err());
@@ -141,13 +165,28 @@ fn times_and_identifiers(rt: HostRuntime) {
 
 #[test]
 fn tokens_are_found(rt: HostRuntime) {
-    assert_eq!(rt; hy_token::next(b"  <= 5", 0), Ok((Token::Sign(Sign::LessEqual), Span { start: 2, end: 4 })));
+    assert_eq!(rt;
+        hy_token::next(b"  <= 5", 0),
+        Ok((Token::Sign(Sign::LessEqual), Span { start: 2, end: 4 }))
+    );
     assert_eq!(rt; hy_token::next(b"#", 0), Err(Bad { at: 0 }));
-    assert_eq!(rt; hy_token::next(b"", 0), Ok((Token::End, Span { start: 0, end: 0 })));
-    assert_eq!(rt; hy_token::next(b"-- x\n sElEcT", 0), Ok((Token::Reserved(Keyword::Select), Span { start: 6, end: 12 })));
-    assert_eq!(rt; hy_token::next(b"'it''s'x", 0), Ok((Token::Text, Span { start: 0, end: 7 })));
+    assert_eq!(rt;
+        hy_token::next(b"", 0),
+        Ok((Token::End, Span { start: 0, end: 0 }))
+    );
+    assert_eq!(rt;
+        hy_token::next(b"-- x\n sElEcT", 0),
+        Ok((Token::Reserved(Keyword::Select), Span { start: 6, end: 12 }))
+    );
+    assert_eq!(rt;
+        hy_token::next(b"'it''s'x", 0),
+        Ok((Token::Text, Span { start: 0, end: 7 }))
+    );
     assert_eq!(rt; hy_token::next(b"'it", 0), Err(Bad { at: 0 }));
-    assert_eq!(rt; hy_token::next(b"007a", 0), Ok((Token::Integer, Span { start: 0, end: 3 })));
+    assert_eq!(rt;
+        hy_token::next(b"007a", 0),
+        Ok((Token::Integer, Span { start: 0, end: 3 }))
+    );
 }
 
 #[test]
@@ -191,7 +230,11 @@ fn set_reads_the_row_before(rt: HostRuntime) -> Result<(), Fail> {
         column: 1,
         value: SetExpr::Literal(Value::Int(90)),
     })?;
-    let new = hy_bound::set_row(rt.alloc(), &Seq::from_vec(sets), &row(rt.alloc(), &[1, 100])?)?;
+    let new = hy_bound::set_row(
+        rt.alloc(),
+        &Seq::from_vec(sets),
+        &row(rt.alloc(), &[1, 100])?,
+    )?;
     let mut out = Vec::new(rt.alloc());
     if let Some(new) = new {
         hy_value::print_row(&new, &mut out)?;

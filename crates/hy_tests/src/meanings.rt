@@ -39,7 +39,11 @@ fn a_transaction_alone(rt: HostRuntime) -> Result<(), Fail> {
     tables.push(Seq::from_vec(rows))?;
     let mut statements = Vec::new(alloc);
     statements.push(update(alloc, 1, 90)?)?;
-    let (replies, after, stop) = hy_meaning::alone(alloc, statements.as_slice(), Seq::from_vec(tables))?;
+    let (replies, after, stop) = hy_meaning::alone(
+        alloc,
+        statements.as_slice(),
+        Seq::from_vec(tables),
+    )?;
     assert!(rt; stop.is_none());
     assert!(rt; matches!(replies.as_slice(), [Reply::Updated(1)]));
     let mut text = Vec::new(alloc);
@@ -64,7 +68,8 @@ fn an_answer_over_two_tables_is_a_product(rt: HostRuntime) -> Result<(), Fail> {
         tables.push(Seq::from_vec(rows))?;
     }
     let items = Items::Columns(Seq::from_slice(alloc, &[2, 0])?);
-    let Reply::Rows(rows) = hy_meaning::answer(alloc, &Pred::True, &items, tables.as_slice())? else {
+    let Reply::Rows(rows) = hy_meaning::answer(alloc, &Pred::True, &items, tables.as_slice())?
+    else {
         return Err(Fail::from("a SELECT has rows"));
     };
     let mut text = Vec::new(alloc);

@@ -118,11 +118,15 @@ fn are_refused(alloc: Global, words: &[&str]) -> Result<bool, Fail> {
     let mut source = MemSource::new(OLD_SNAPSHOT.as_bytes().to_vec(alloc)?, 7, Vec::new(alloc));
     let mut sink = MemSink::new(alloc, 100, Vec::new(alloc))?;
     let report = hy_top::run(alloc, &words, &mut source, &mut sink);
-    let left = read_all(alloc, &mut source, 10_000).ok().ok_or("the source has its bytes")?;
-    Ok(report.status == 1
-        && report.outcome.is_none()
-        && sink.bytes() == b"usage: hy run|check|gen\n".as_slice()
-        && left.as_slice() == OLD_SNAPSHOT.as_bytes())
+    let left = read_all(alloc, &mut source, 10_000)
+        .ok()
+        .ok_or("the source has its bytes")?;
+    Ok(
+        report.status == 1
+            && report.outcome.is_none()
+            && sink.bytes() == b"usage: hy run|check|gen\n".as_slice()
+            && left.as_slice() == OLD_SNAPSHOT.as_bytes(),
+    )
 }
 
 #[test]

@@ -51,7 +51,10 @@ SESSION a; BEGIN; UPDATE t SET n = 5 WHERE n = 1; COMMIT; \
 SESSION b; BEGIN; SELECT n FROM t WHERE n > 0; COMMIT; SCHEDULE a! a! a! b! b! b!; END;",
     )?;
     assert_eq!(rt; status, 0);
-    assert_eq!(rt; text.as_slice(), b"txn a.1 start 0\nupdated 1\ncommitted 0\nwrote t 0\ntxn b.1 start 1\nrows 1\nrow 5\nread\norder 1\nentry 0 a.1\nchange t 0 from 1 to 5\ntable t 1\nrow 5\nend\n".as_slice());
+    assert_eq!(rt;
+        text.as_slice(),
+        b"txn a.1 start 0\nupdated 1\ncommitted 0\nwrote t 0\ntxn b.1 start 1\nrows 1\nrow 5\nread\norder 1\nentry 0 a.1\nchange t 0 from 1 to 5\ntable t 1\nrow 5\nend\n".as_slice()
+    );
     Ok(())
 }
 
@@ -66,7 +69,10 @@ SESSION c; BEGIN; SELECT n FROM t WHERE n >= 3; SELECT n FROM t WHERE n <> 3; CO
 SCHEDULE c! b! a! a! a! b! c! c!; END;",
     )?;
     assert_eq!(rt; status, 0);
-    assert_eq!(rt; text.as_slice(), b"txn a.1 start 0\nupdated 1\ncommitted 0\nwrote t 0\ntxn b.1 start 0\nrows 2\nrow 1\nrow 3\nread\ntxn c.1 start 0\nrows 1\nrow 3\nrows 1\nrow 1\nread\norder 1\nentry 0 a.1\nchange t 0 from 1 to 5\ntable t 2\nrow 3\nrow 5\nend\n".as_slice());
+    assert_eq!(rt;
+        text.as_slice(),
+        b"txn a.1 start 0\nupdated 1\ncommitted 0\nwrote t 0\ntxn b.1 start 0\nrows 2\nrow 1\nrow 3\nread\ntxn c.1 start 0\nrows 1\nrow 3\nrows 1\nrow 1\nread\norder 1\nentry 0 a.1\nchange t 0 from 1 to 5\ntable t 2\nrow 3\nrow 5\nend\n".as_slice()
+    );
     Ok(())
 }
 
@@ -78,7 +84,10 @@ fn an_update_of_no_row_commits_nothing(rt: HostRuntime) -> Result<(), Fail> {
 SESSION a; BEGIN; UPDATE t SET n = 5 WHERE n = 7; COMMIT; SCHEDULE a!; END;",
     )?;
     assert_eq!(rt; status, 0);
-    assert_eq!(rt; text.as_slice(), b"txn a.1 start 0\nupdated 0\nread\norder 0\ntable t 1\nrow 1\nend\n".as_slice());
+    assert_eq!(rt;
+        text.as_slice(),
+        b"txn a.1 start 0\nupdated 0\nread\norder 0\ntable t 1\nrow 1\nend\n".as_slice()
+    );
     Ok(())
 }
 
@@ -91,7 +100,10 @@ SESSION a; BEGIN; UPDATE t SET n = 9 WHERE n <= 1; SELECT n FROM t WHERE n > 0; 
 SESSION b; BEGIN; SELECT n FROM t WHERE n > 0; COMMIT; SCHEDULE a! a! a! a! a! a! a!; END;",
     )?;
     assert_eq!(rt; status, 0);
-    assert_eq!(rt; text.as_slice(), b"txn a.1 start 0\nupdated 1\nrows 2\nrow 2\nrow 9\ncommitted 0\nwrote t 1\ntxn b.1 start 1\nrows 2\nrow 2\nrow 9\nread\norder 1\nentry 0 a.1\nchange t 1 from 1 to 9\ntable t 2\nrow 2\nrow 9\nend\n".as_slice());
+    assert_eq!(rt;
+        text.as_slice(),
+        b"txn a.1 start 0\nupdated 1\nrows 2\nrow 2\nrow 9\ncommitted 0\nwrote t 1\ntxn b.1 start 1\nrows 2\nrow 2\nrow 9\nread\norder 1\nentry 0 a.1\nchange t 1 from 1 to 9\ntable t 2\nrow 2\nrow 9\nend\n".as_slice()
+    );
     Ok(())
 }
 
@@ -102,6 +114,9 @@ fn words_are_read_in_any_case_and_comments_are_space(rt: HostRuntime) -> Result<
         "-- nothing much\ncreate table T (n int); session s; begin; commit; schedule; end; -- over",
     )?;
     assert_eq!(rt; status, 0);
-    assert_eq!(rt; text.as_slice(), b"txn s.1 start 0\nread\norder 0\ntable T 0\nend\n".as_slice());
+    assert_eq!(rt;
+        text.as_slice(),
+        b"txn s.1 start 0\nread\norder 0\ntable T 0\nend\n".as_slice()
+    );
     Ok(())
 }

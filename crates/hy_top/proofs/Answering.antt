@@ -63,7 +63,7 @@ run_answers bytes script status given before after s only law (inr ran) =
       run = λ other t. inr (subst (λ (x : Script). Runs x status given before after) (only other t) ran);
       lawful = λ other t. subst (λ (x : Script). IfSome given (λ o. Lawful x.rows x.programs o)) (only other t)
           (subst (λ (o : Option Outcome). IfSome o (λ x. Lawful script.rows script.programs x)) (sym ran.outcome_is)
-              (law (setting_of script) script.schedule (spelled_is_first bytes script s) (spelled_is_whole bytes script s)));
+          (law (setting_of script) script.schedule (spelled_is_first bytes script s) (spelled_is_whole bytes script s)));
       outcome_there = λ h. ((script, s), ends);
     }
 
@@ -85,7 +85,7 @@ pub answers_whole : (status : ℕ) (given : Option Outcome) (old new : Option (L
 answers_whole status given old new None after bytes h short a = tt
 answers_whole status given old new (Some all) after bytes h short a =
     inr (subst (λ (b : List ℕ). Answers b status given old new)
-        (h.0 ∙ sym (whole_is_read all (subst (λ (b : List ℕ). length b ≤ most_bytes) h.0 short))) a)
+    (h.0 ∙ sym (whole_is_read all (subst (λ (b : List ℕ). length b ≤ most_bytes) h.0 short))) a)
 
 -- what is too long spells no script
 cut_is_refused : (all : List ℕ) → most_bytes < length all → IsRefused (bytes_read all)

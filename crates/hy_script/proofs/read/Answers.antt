@@ -1,4 +1,3 @@
-use Rattle.std.proofs.Common.{arith}
 use Rattle.hy_script.proofs.Accepting.{is_text, accepts, refuses}
 use Rattle.hy_script.proofs.read.Goals as goal
 

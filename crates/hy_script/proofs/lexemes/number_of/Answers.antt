@@ -1,5 +1,4 @@
-use Rattle.std.proofs.Common.{◌≡◌, ◌+◌, ◌-◌, ◌*◌, ◌<◌, drop, get_or, sym}
-use Rattle.hy_script.specs.Lexeme.{number_after}
+use Rattle.std.proofs.Common.{◌≡◌, ◌+◌, ◌-◌, ◌*◌, drop, get_or, sym}
 use Rattle.hy_script.proofs.Numbers.{next_digit, too_large}
 use Rattle.hy_script.proofs.lexemes.number_of.Goals as goal
 

@@ -18,6 +18,6 @@ SELECT n FROM t WHERE n > 0;
 COMMIT;
 
 -- b begins; then a begins, updates and commits; then b reads: its snapshot is from before the commit, so
--- it still sees 1. The last item is the writer's turn no more: what is left of b follows in the rounds.
+-- it still sees 1. Its COMMIT is in no item, and follows in the rounds behind the schedule.
 SCHEDULE b! a! a! a! b!;
 END;

@@ -6,6 +6,8 @@ mod faults;
 #[cfg(test)]
 mod lower;
 #[cfg(test)]
+mod machines;
+#[cfg(test)]
 mod meanings;
 #[cfg(test)]
 mod refusals;

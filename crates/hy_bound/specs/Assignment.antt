@@ -1,13 +1,51 @@
-use Rattle.std.specs.Prelude.{ℕ, List, [], ◌∷◌, Option, None, Some, Result, Ok, Err, slice_set}
+-- What UPDATE sets.
+use Rattle.std.specs.Prelude.{ℕ, ◌^◌, List, [], ◌∷◌, Bool, Option, None, Some, Result, Ok, Err, ℤ, pos, negsuc, ◌+ℤ◌, ◌-ℤ◌, ◌*ℤ◌, nat_lt, if◌then◌else◌, slice_set}
 use Rattle.hy_value.specs.declared.Value.{Value}
-use Rattle.hy_bound.specs.declared.SetExpr.{SetExpr}
-use Rattle.hy_bound.specs.declared.SetExpr.TheVariants.{Literal}
+use Rattle.hy_value.specs.declared.Value.TheVariants.{Null, Int, Text}
 use Rattle.hy_bound.specs.declared.Assign.{Assign}
 use Rattle.hy_bound.specs.declared.Range.{Range}
+use Rattle.hy_bound.specs.declared.expression.Operator.{Operator}
+use Rattle.hy_bound.specs.declared.expression.Operator.TheVariants as operator
+use Rattle.hy_bound.specs.Expression.{Expression, Literal, Column, Add, Sub, Mul}
+use Rattle.hy_bound.specs.Predicate.{column_of}
+
+-- the exact result of an operator
+abbrev pub exact : Operator → ℤ → ℤ → ℤ
+exact operator.Add m n = m +ℤ n
+exact operator.Sub m n = m -ℤ n
+exact operator.Mul m n = m *ℤ n
+
+-- whether a number has a place in 64 bits, one of which is its sign
+abbrev pub has_64_bits : ℤ → Bool
+has_64_bits (pos n) = nat_lt n (2 ^ 63)
+has_64_bits (negsuc n) = nat_lt n (2 ^ 63)
+
+-- a number as a value
+abbrev pub number_of : ℤ → Result Value Range
+number_of z = if has_64_bits z then Ok (Int z) else Err (record {})
+
+-- an operator on two values: NULL where one is NULL. None is a text where names and types are resolved; of
+-- a text it gives NULL too
+abbrev pub applied : Operator → Value → Value → Result Value Range
+applied op (Int m) (Int n) = number_of (exact op m n)
+applied op (Int m) Null = Ok Null
+applied op (Int m) (Text t) = Ok Null
+applied op Null right = Ok Null
+applied op (Text s) right = Ok Null
+
+-- an operator on two sides: out of range where a side is
+abbrev pub combined : Operator → Result Value Range → Result Value Range → Result Value Range
+combined op (Err range) right = Err range
+combined op (Ok left) (Err range) = Err range
+combined op (Ok left) (Ok right) = applied op left right
 
 -- what a right side of SET is in a row
-abbrev pub value_of : SetExpr → List Value → Result Value Range
+abbrev pub value_of : Expression → List Value → Result Value Range
 value_of (Literal value) row = Ok value
+value_of (Column column) row = Ok (column_of row column)
+value_of (Add e f) row = combined operator.Add (value_of e row) (value_of f row)
+value_of (Sub e f) row = combined operator.Sub (value_of e row) (value_of f row)
+value_of (Mul e f) row = combined operator.Mul (value_of e row) (value_of f row)
 
 -- a row with one more column set, unless the value is out of range
 abbrev pub set_column : List Value → ℕ → Result Value Range → Option (List Value)

@@ -1,3 +1,9 @@
+pub mod Condition
+pub mod PredView
+pub mod PredFalls
+pub mod Expression
+pub mod ExprView
+pub mod ExprFalls
 pub mod Predicate
 pub mod Assignment
 pub mod Records

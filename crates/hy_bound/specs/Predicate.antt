@@ -1,3 +1,4 @@
+-- SQL's three-valued logic.
 use Rattle.std.specs.Prelude.{ℕ, suc, List, [], ◌∷◌, Bool, true, false, not, ◌||◌, ◌&&◌, Option, None, Some, slice_index_or}
 use Rattle.std.specs.Ordering.{is_eq}
 use Rattle.hy_value.specs.declared.Value.{Value}
@@ -6,10 +7,9 @@ use Rattle.hy_value.specs.declared.Cmp.{Cmp}
 use Rattle.hy_value.specs.declared.ColMask.{ColMask}
 use Rattle.hy_value.specs.Order.{value_cmp, holds_at}
 use Rattle.hy_value.specs.Columns.{has}
-use Rattle.hy_bound.specs.declared.Side.{Side}
-use Rattle.hy_bound.specs.declared.Side.TheVariants.{Literal}
-use Rattle.hy_bound.specs.declared.Pred.{Pred}
-use Rattle.hy_bound.specs.declared.Pred.TheVariants.{True, Compare}
+use Rattle.hy_bound.specs.declared.predicate.Side.{Side}
+use Rattle.hy_bound.specs.declared.predicate.Side.TheVariants.{Column, Literal}
+use Rattle.hy_bound.specs.Condition.{Condition, True, Compare, IsNull, Not, And, Or}
 
 -- a row's value in a column
 abbrev pub column_of : List Value → ℕ → Value
@@ -27,26 +27,58 @@ compared op (Text left) (Text right) = Some (holds_at op (value_cmp (Text left) 
 
 -- what the right side of a comparison is in a row
 abbrev pub side_of : Side → List Value → Value
+side_of (Column column) row = column_of row column
 side_of (Literal value) row = value
 
--- the three-valued sense of a predicate in a row: true, false, or unknown (None)
-abbrev pub sense : Pred → List Value → Option Bool
+-- whether a value is NULL
+abbrev pub is_null : Value → Bool
+is_null Null = true
+is_null (Int n) = false
+is_null (Text t) = false
+
+-- NOT: of what is unknown it is unknown
+abbrev pub opposite : Option Bool → Option Bool
+opposite None = None
+opposite (Some b) = Some (not b)
+
+-- AND: false where a side is false, else unknown where a side is unknown
+abbrev pub both : Option Bool → Option Bool → Option Bool
+both (Some false) right = Some false
+both (Some true) right = right
+both None None = None
+both None (Some false) = Some false
+both None (Some true) = None
+
+-- OR: true where a side is true, else unknown where a side is unknown
+abbrev pub either : Option Bool → Option Bool → Option Bool
+either (Some true) right = Some true
+either (Some false) right = right
+either None None = None
+either None (Some false) = None
+either None (Some true) = Some true
+
+-- the three-valued sense of a condition in a row: true, false, or unknown (None)
+abbrev pub sense : Condition → List Value → Option Bool
 sense True row = Some true
 sense (Compare column op side) row = compared op (column_of row column) (side_of side row)
+sense (IsNull column) row = Some (is_null (column_of row column))
+sense (Not c) row = opposite (sense c row)
+sense (And c d) row = both (sense c row) (sense d row)
+sense (Or c d) row = either (sense c row) (sense d row)
 
 -- only what is true counts
 abbrev pub is_known : Option Bool → Bool
 is_known None = false
 is_known (Some b) = b
 
--- whether a predicate is true of a row
-abbrev pub truth_of : Pred → List Value → Bool
-truth_of pred row = is_known (sense pred row)
+-- whether a condition is true of a row
+abbrev pub truth_of : Condition → List Value → Bool
+truth_of c row = is_known (sense c row)
 
 -- it is true of no absent row
-abbrev pub truth_at : Pred → Option (List Value) → Bool
-truth_at pred None = false
-truth_at pred (Some row) = truth_of pred row
+abbrev pub truth_at : Condition → Option (List Value) → Bool
+truth_at c None = false
+truth_at c (Some row) = truth_of c row
 
 -- whether two rows differ on a column of the set, the first of them being the column of this number
 abbrev pub differ_from : ColMask → ℕ → List Value → List Value → Bool

@@ -1,8 +1,7 @@
-use Rattle.std.proofs.Common.{◌≡◌, ◌≢◌, ℕ, zero, suc, ◌+◌, ◌-◌, ◌*◌, ◌<◌, ◌≤◌, List, [], ◌∷◌, ◌++◌, Option, None, Some, Bool, true, false, length, get_or, map, refl, ap, sym, ◌∙◌, subst, arith, ◌⊎◌, inl, inr, lit≤, zero-add, add-zero}
-use Rattle.std.specs.Prelude.{if◌then◌else◌, ◌&&◌, ◌==◌, IsTrue}
-use Rattle.std.specs.List.{AllByRecursion}
+use Rattle.std.proofs.Common.{◌≡◌, ◌≢◌, ℕ, zero, suc, ◌+◌, ◌-◌, ◌<◌, ◌≤◌, List, [], ◌∷◌, Bool, true, false, length, get_or, refl, ap, sym, ◌∙◌, subst, arith, lit≤, zero-add, add-zero}
+use Rattle.std.specs.Prelude.{if◌then◌else◌, ◌&&◌, ◌==◌}
 use Rattle.std.proofs.Math.Logic.{⊎_elim}
-use Rattle.std.proofs.Math.ListN.{get_or-map, get_or-eq_default}
+use Rattle.std.proofs.Math.ListN.{get_or-map}
 use Rattle.std.proofs.lemmas.List.{length-map}
 use Rattle.std.proofs.lemmas.Bool.{cases_eq, cases_lt}
 use Rattle.hy_bound.specs.declared.Txn.{Txn}
@@ -14,7 +13,7 @@ use Rattle.hy_machine.specs.Sessions.{fresh, session_at, has_ended}
 use Rattle.hy_machine.specs.Steps.{step}
 use Rattle.hy_machine.specs.Runs.{opening, whole, most_steps, run_item, run_items, round_from, all_ended, rounds, most_rounds, run}
 use Rattle.hy_lawful.specs.FirstForm.{IsFirstForm, IsShort, IsOfWholeStatements}
-use Rattle.hy_lawful.proofs.Stories.{program, Stands, waits, works, ends, Between, finished, working, entries_in}
+use Rattle.hy_lawful.proofs.Stories.{program, Stands, waits, works, ends, Between, entries_in}
 use Rattle.hy_lawful.proofs.Moves.{most_steps_is}
 use Rattle.hy_lawful.proofs.Goes.{Goes, goes, left, left_in, One, none, one, one_of}
 

@@ -1,25 +1,25 @@
-use Rattle.std.proofs.Common.{◌≡◌, ◌≢◌, ℕ, zero, suc, ◌+◌, ◌-◌, ◌*◌, ◌<◌, ◌≤◌, List, [], ◌∷◌, ◌++◌, Option, None, Some, Result, Ok, Err, Bool, true, false, length, take, drop, get_or, map, replicate, refl, ap, sym, ◌∙◌, subst, arith, ◌⊎◌, inl, inr, is_some, zero-add}
-use Rattle.std.specs.Prelude.{if◌then◌else◌, nat_lt, slice_get, count_by}
+use Rattle.std.proofs.Common.{◌≡◌, ◌≢◌, ℕ, zero, suc, ◌+◌, ◌-◌, ◌*◌, ◌<◌, ◌≤◌, List, [], ◌∷◌, ◌++◌, Option, None, Some, Bool, true, false, length, take, drop, get_or, map, replicate, refl, ap, sym, ◌∙◌, subst, arith, is_some}
+use Rattle.std.specs.Prelude.{if◌then◌else◌, slice_get, count_by}
 use Rattle.std.specs.List.{AllByRecursion}
 use Rattle.std.proofs.Math.Logic.{⊎_elim}
-use Rattle.std.proofs.Math.ListN.{set}
 use Rattle.std.proofs.Math.Seq.{drop-nil, take-nil}
 use Rattle.std.proofs.lemmas.List.{append-nil, length-set, length-append, length-map, length-replicate}
 use Rattle.std.proofs.Math.ListN.{get_or-eq_default}
 use Rattle.std.proofs.Math.Nat.{one-mul}
 use Rattle.hy_lawful.proofs.Meanings.{Row}
-use Rattle.std.proofs.lemmas.Bool.{cases_eq, cases_Bool}
+use Rattle.std.proofs.lemmas.Bool.{cases_eq}
 use Rattle.hy_value.specs.declared.Value.{Value}
 use Rattle.hy_bound.specs.declared.Txn.{Txn}
 use Rattle.hy_bound.specs.declared.Bound.{Bound}
-use Rattle.hy_bound.specs.declared.Bound.TheVariants.{Select, Update}
+use Rattle.hy_bound.specs.declared.Bound.TheVariants.{Select, Group, Insert, Update, Delete}
 use Rattle.hy_bound.specs.declared.Reply.{Reply}
-use Rattle.hy_bound.specs.declared.Reply.TheVariants.{Rows, Updated}
-use Rattle.hy_bound.specs.declared.Pred.{Pred}
+use Rattle.hy_bound.specs.declared.Reply.TheVariants.{Updated}
+use Rattle.hy_bound.specs.Condition.{Condition}
+use Rattle.hy_bound.specs.declared.On.{On}
 use Rattle.hy_bound.specs.declared.Items.{Items}
 use Rattle.hy_bound.specs.declared.Assign.{Assign}
-use Rattle.hy_meaning.specs.Statement.{Table, Database, answer, mean}
-use Rattle.hy_meaning.specs.Serial.{Alone, alone_of}
+use Rattle.hy_meaning.specs.Statement.{Table, answer, mean}
+use Rattle.hy_meaning.specs.Serial.{alone_of}
 use Rattle.hy_stamp.specs.declared.Label.{Label}
 use Rattle.hy_render.specs.declared.Ending.TheVariants.{Committed, Read}
 use Rattle.hy_machine.specs.declared.Setting.{Setting}
@@ -28,14 +28,14 @@ use Rattle.hy_machine.specs.declared.Session.{Session}
 use Rattle.hy_machine.specs.declared.Current.{Current}
 use Rattle.hy_machine.specs.declared.Begun.{Begun}
 use Rattle.hy_machine.specs.declared.Entry.{Entry}
-use Rattle.hy_machine.specs.Cells.{Cell, Tables, Own, history, opening_tables, over, over_cells, laid_out, capacity}
-use Rattle.hy_machine.specs.Own.{wrote_nothing, written_chunks}
-use Rattle.hy_machine.specs.Opponents.{opponent, holds, holder_from, changer_or, first_label}
-use Rattle.hy_machine.specs.Visits.{own_with, entry_cells, first_hit, sweep}
+use Rattle.hy_machine.specs.Cells.{Cell, Tables, Own, history, opening_tables, over, laid_out, capacity}
+use Rattle.hy_machine.specs.Own.{wrote_nothing}
+use Rattle.hy_machine.specs.Opponents.{opponent, holds, changer_or, first_label}
+use Rattle.hy_machine.specs.Visits.{own_with, entry_cells, first_hit}
 use Rattle.hy_machine.specs.Sessions.{fresh, session_at, view, start_phase}
 use Rattle.hy_machine.specs.Steps.{beginning, blank_own, answered, rows_seen}
 use Rattle.hy_machine.specs.Runs.{whole}
-use Rattle.hy_lawful.specs.FirstForm.{IsFirstForm, IsOneTransaction, IsShort, AllRead, OnlyReads, HasOneTable}
+use Rattle.hy_lawful.specs.FirstForm.{IsFirstForm, IsOneTransaction, IsShort, AllRead, OnlyReads, HasOneTable, SetsValues, IsLiteral}
 use Rattle.hy_lawful.proofs.Tables.{bag, over_at, length-overlaid}
 use Rattle.hy_lawful.proofs.Meanings.{alone_snoc, select_is, update_is, sweep_is, new_of}
 use Rattle.hy_lawful.proofs.Stories.{program, tables_at, Story, Stands, waits, works, ends, working, finished, ending_of, entry_of, entries_in, Between, story_grows, between_moved, moved_to, at_same, at_other}
@@ -147,7 +147,7 @@ goes_begin setting form machine b most number txn there is e =
 -- a story goes on with an answered statement
 story_answered : (setting : Setting) (order : List Entry) (writer number : ℕ) (txn : Txn) (begun : Begun) (own : Own) (statement : Bound) (reply : Reply)
     → Story setting order writer number txn begun → slice_get txn.statements (length begun.replies) ≡ Some statement
-    → mean statement (bag (over (tables_at setting order begun.prefix) begun.own)) ≡ Some (reply, bag (over (tables_at setting order begun.prefix) own))
+    → mean setting.shapes statement (bag (over (tables_at setting order begun.prefix) begun.own)) ≡ Some (reply, bag (over (tables_at setting order begun.prefix) own))
     → length own ≡ length setting.first → (number ≢ writer → wrote_nothing own ≡ true)
     → Story setting order writer number txn (answered setting (record begun { own = own }) statement reply)
 story_answered setting order writer number txn begun own statement reply s next means places quiet =
@@ -156,9 +156,9 @@ story_answered setting order writer number txn begun own statement reply s next 
     record {
       prefix = s.prefix;
       few = omega arith;
-      told = ap (λ (ss : List Bound). alone_of ss (bag (tables_at setting order begun.prefix)))
+      told = ap (λ (ss : List Bound). alone_of setting.shapes ss (bag (tables_at setting order begun.prefix)))
           (ap (λ (k : ℕ). take k txn.statements) so_many ∙ take_next txn.statements (length begun.replies) statement next)
-          ∙ alone_snoc 1 (take (length begun.replies) txn.statements) statement (bag (tables_at setting order begun.prefix))
+          ∙ alone_snoc setting.shapes 1 (take (length begun.replies) txn.statements) statement (bag (tables_at setting order begun.prefix))
           (bag (over (tables_at setting order begun.prefix) begun.own)) (bag (over (tables_at setting order begun.prefix) own)) begun.replies reply s.told means;
       places = places;
       quiet = quiet;
@@ -174,7 +174,7 @@ goes_answered : (setting : Setting) (form : IsFirstForm setting) (machine : Mach
     → number < length setting.programs → program setting number ≡ txn ∷ [] → session_at machine number ≡ working txn begun
     → Story setting machine.order form.writer number txn begun → slice_get txn.statements (length begun.replies) ≡ Some statement
     → whole (suc most) setting machine number ≡ moved_to machine number (working txn (answered setting (record begun { own = own }) statement reply)) (machine.order ++ [])
-    → mean statement (bag (over (tables_at setting machine.order begun.prefix) begun.own)) ≡ Some (reply, bag (over (tables_at setting machine.order begun.prefix) own))
+    → mean setting.shapes statement (bag (over (tables_at setting machine.order begun.prefix) begun.own)) ≡ Some (reply, bag (over (tables_at setting machine.order begun.prefix) own))
     → length own ≡ length setting.first → (number ≢ form.writer → wrote_nothing own ≡ true)
     → Goes setting form.writer machine number (whole (suc most) setting machine number)
 goes_answered setting form machine b most number txn begun own statement reply there is e s next moves means places quiet =
@@ -207,7 +207,7 @@ room_opening setting form table =
 no_history : (setting : Setting) (order : List Entry) (prefix : ℕ) → order ≡ [] → tables_at setting order prefix ≡ opening_tables setting
 no_history setting order prefix e = ap (λ (o : List Entry). history (opening_tables setting) (take prefix o)) e ∙ ap (history (opening_tables setting)) (take-nil prefix)
 
-only_reads : (setting : Setting) (form : IsFirstForm setting) (number : ℕ) (txn : Txn) (k table : ℕ) (sets : List Assign) (pred : Pred)
+only_reads : (setting : Setting) (form : IsFirstForm setting) (number : ℕ) (txn : Txn) (k table : ℕ) (sets : List Assign) (pred : Condition)
     → program setting number ≡ txn ∷ [] → slice_get txn.statements k ≡ Some (Update table sets pred) → number ≢ form.writer → ⊥
 only_reads setting form number txn k table sets pred is next h =
     let reads_all : AllRead (txn ∷ []) = subst AllRead is (form.others_read number h) in
@@ -234,23 +234,24 @@ nobody setting form machine b number prefix table is empty pos =
     (no_holder setting number table pos 0 machine.sessions (free_position setting form machine b number table pos is))
     ∙ (ap (λ (es : List Entry). changer_or None table pos (drop prefix es)) empty ∙ ap (changer_or None table pos) (drop-nil prefix))
 
-goes_select : (setting : Setting) (form : IsFirstForm setting) (machine : Machine) (b : Between setting form.writer machine) (most number : ℕ) (txn : Txn) (begun : Begun) (from : List ℕ) (pred : Pred) (items : Items)
+goes_select : (setting : Setting) (form : IsFirstForm setting) (machine : Machine) (b : Between setting form.writer machine) (most number : ℕ) (txn : Txn) (begun : Begun) (from : List ℕ) (ons : List On) (pred : Condition) (items : Items)
     → number < length setting.programs → program setting number ≡ txn ∷ [] → IsShort txn → session_at machine number ≡ working txn begun
-    → Story setting machine.order form.writer number txn begun → slice_get txn.statements (length begun.replies) ≡ Some (Select from pred items)
+    → Story setting machine.order form.writer number txn begun → slice_get txn.statements (length begun.replies) ≡ Some (Select from ons pred items)
     → Goes setting form.writer machine number (whole (suc most) setting machine number)
-goes_select setting form machine b most number txn begun from pred items there is short e s next =
-    let one_table : length from ≡ 1 = all_at HasOneTable txn.statements (length begun.replies) (Select from pred items) short.one_table next in
-    goes_answered setting form machine b most number txn begun begun.own (Select from pred items) (answer pred items (map (rows_seen (view setting machine begun)) from)) there is e s next
-    (selects most setting machine number txn begun from pred items b.mark is e next form.one_chunk one_table)
-    (select_is (view setting machine begun) from pred items one_table)
+goes_select setting form machine b most number txn begun from ons pred items there is short e s next =
+    let one_table : length from ≡ 1 = all_at HasOneTable txn.statements (length begun.replies) (Select from ons pred items) short.one_table next in
+    goes_answered setting form machine b most number txn begun begun.own (Select from ons pred items) (answer ons pred items (map (rows_seen (view setting machine begun)) from)) there is e s next
+    (selects most setting machine number txn begun from ons pred items b.mark is e next form.one_chunk one_table)
+    (select_is setting.shapes (view setting machine begun) from ons pred items one_table)
     s.places s.quiet
 
-goes_update : (setting : Setting) (form : IsFirstForm setting) (machine : Machine) (b : Between setting form.writer machine) (most number : ℕ) (txn : Txn) (begun : Begun) (table : ℕ) (sets : List Assign) (pred : Pred)
-    → number < length setting.programs → program setting number ≡ txn ∷ [] → session_at machine number ≡ working txn begun
+goes_update : (setting : Setting) (form : IsFirstForm setting) (machine : Machine) (b : Between setting form.writer machine) (most number : ℕ) (txn : Txn) (begun : Begun) (table : ℕ) (sets : List Assign) (pred : Condition)
+    → number < length setting.programs → program setting number ≡ txn ∷ [] → IsShort txn → session_at machine number ≡ working txn begun
     → Story setting machine.order form.writer number txn begun → slice_get txn.statements (length begun.replies) ≡ Some (Update table sets pred)
     → number ≡ form.writer
     → Goes setting form.writer machine number (whole (suc most) setting machine number)
-goes_update setting form machine b most number txn begun table sets pred there is e s next writes =
+goes_update setting form machine b most number txn begun table sets pred there is short e s next writes =
+    let values : AllByRecursion (λ (set : Assign). IsLiteral set.value) sets = all_at SetsValues txn.statements (length begun.replies) (Update table sets pred) short.values next in
     let empty : machine.order ≡ [] = no_entry setting form.writer machine b number (working txn begun) e refl writes in
     let tables : Tables = tables_at setting machine.order begun.prefix in
     let cells : List Cell = get_or (view setting machine begun) table [] in
@@ -264,8 +265,8 @@ goes_update setting form machine b most number txn begun table sets pred there i
     s.places ∙ sym (ap length (no_history setting machine.order begun.prefix empty) ∙ length-map setting.first (laid_out (capacity setting))) in
     goes_answered setting form machine b most number txn begun (own_with begun.own table 0 news) (Update table sets pred) (Updated (count_by is_some news)) there is e s next
     (updates most setting machine number txn begun table sets pred news b.mark is e next form.one_chunk room
-    (sweep_is sets pred table (opponent setting machine number begun.prefix table) (nobody setting form machine b number begun.prefix table writes empty) 0 cells))
-    (update_is tables begun.own table sets pred same)
+    (sweep_is sets pred values table (opponent setting machine number begun.prefix table) (nobody setting form machine b number begun.prefix table writes empty) 0 cells))
+    (update_is setting.shapes tables begun.own table sets pred values same)
     (length-set begun.own table _ ∙ s.places)
     (λ h. absurd (h writes))
 
@@ -309,10 +310,16 @@ goes_on : (setting : Setting) (form : IsFirstForm setting) (machine : Machine) (
     → Goes setting form.writer machine number (whole (suc most) setting machine number)
 goes_on setting form machine b most number txn begun there is short e s many None next =
     goes_close setting form machine b most number txn begun there is short e s next many (wrote_nothing begun.own) refl
-goes_on setting form machine b most number txn begun there is short e s many (Some (Select from pred items)) next =
-    goes_select setting form machine b most number txn begun from pred items there is short e s next
+goes_on setting form machine b most number txn begun there is short e s many (Some (Select from ons pred items)) next =
+    goes_select setting form machine b most number txn begun from ons pred items there is short e s next
+goes_on setting form machine b most number txn begun there is short e s many (Some (Group table pred key aggregate)) next =
+    absurd (all_at HasOneTable txn.statements (length begun.replies) (Group table pred key aggregate) short.one_table next)
+goes_on setting form machine b most number txn begun there is short e s many (Some (Insert table row)) next =
+    absurd (all_at HasOneTable txn.statements (length begun.replies) (Insert table row) short.one_table next)
+goes_on setting form machine b most number txn begun there is short e s many (Some (Delete table pred)) next =
+    absurd (all_at HasOneTable txn.statements (length begun.replies) (Delete table pred) short.one_table next)
 goes_on setting form machine b most number txn begun there is short e s many (Some (Update table sets pred)) next =
-    goes_update setting form machine b most number txn begun table sets pred there is e s next
+    goes_update setting form machine b most number txn begun table sets pred there is short e s next
     (⊎_elim (λ h. h) (λ h. absurd (only_reads setting form number txn (length begun.replies) table sets pred is next h)) (cases_eq number form.writer))
 
 unmoved : (setting : Setting) (writer : ℕ) (machine : Machine) (number : ℕ) (after : Machine) → Between setting writer machine → after ≡ machine → left setting machine number ≡ 0

@@ -1,5 +1,5 @@
-use Rattle.std.proofs.Common.{◌≡◌, ◌≢◌, ℕ, zero, suc, ◌+◌, ◌-◌, ◌*◌, ◌<◌, ◌≤◌, List, [], ◌∷◌, ◌++◌, Option, None, Some, Bool, true, false, not, cond, length, take, get_or, map, refl, ap, sym, ◌∙◌, subst, arith, ◌⊎◌, inl, inr, zero-add, add-zero, is_some}
-use Rattle.std.specs.Prelude.{if◌then◌else◌, IsTrue, slice_get, ◌||◌}
+use Rattle.std.proofs.Common.{◌≡◌, ℕ, zero, suc, ◌+◌, ◌-◌, ◌<◌, ◌≤◌, List, [], ◌∷◌, ◌++◌, Option, None, Some, Bool, true, false, not, length, take, get_or, map, refl, ap, sym, ◌∙◌, subst, arith, zero-add, add-zero, is_some}
+use Rattle.std.specs.Prelude.{if◌then◌else◌, slice_get, ◌||◌}
 use Rattle.std.specs.List.{AllByRecursion, list_any}
 use Rattle.std.specs.Option.{option_map}
 use Rattle.std.proofs.Math.Logic.{⊎_elim}
@@ -10,8 +10,8 @@ use Rattle.std.proofs.lemmas.Bool.{cases_eq, cases_lt, cases_Bool}
 use Rattle.hy_bound.specs.declared.Txn.{Txn}
 use Rattle.hy_bound.specs.declared.Item.{Item}
 use Rattle.hy_bound.specs.declared.Bound.{Bound}
-use Rattle.hy_meaning.specs.Statement.{Table, Database}
-use Rattle.hy_meaning.specs.Serial.{Alone, alone_of, serial, database_of}
+use Rattle.hy_meaning.specs.Statement.{Database}
+use Rattle.hy_meaning.specs.Serial.{Alone, alone_of}
 use Rattle.hy_stamp.specs.declared.Label.{Label}
 use Rattle.hy_render.specs.declared.Ending.{Ending}
 use Rattle.hy_render.specs.declared.Ending.TheVariants.{Committed, Read}
@@ -26,14 +26,14 @@ use Rattle.hy_machine.specs.declared.Entry.{Entry}
 use Rattle.hy_machine.specs.Cells.{Cell, Tables, Own, history, opening_tables, over}
 use Rattle.hy_machine.specs.Own.{wrote_nothing, places_from, written_from, written}
 use Rattle.hy_machine.specs.Sessions.{fresh, session_at}
-use Rattle.hy_machine.specs.Outcomes.{sorted_rows, txn_outcome, outcomes_of, all_outcomes, committed_of, outcome}
+use Rattle.hy_machine.specs.Outcomes.{txn_outcome, outcomes_of, all_outcomes, committed_of, outcome}
 use Rattle.hy_machine.specs.Runs.{run}
 use Rattle.hy_lawful.specs.Scripts.{Programs, txn_of, statements_in, statements_of, labels_of, labels_from, database_at, ClosesWithCommit}
-use Rattle.hy_lawful.specs.Lawful.{IsFirstOf, AnswersAsMany, RepliesAreOfPrefix, GivesReplies, ReplaysAt, Replays, MayEnd, HasCommitted, Lawful}
+use Rattle.hy_lawful.specs.Lawful.{AnswersAsMany, RepliesAreOfPrefix, GivesReplies, Replays, MayEnd, HasCommitted, Lawful}
 use Rattle.hy_lawful.specs.FirstForm.{IsFirstForm, IsShort, IsOfWholeStatements}
 use Rattle.hy_lawful.proofs.Tables.{bag, bag_opening, entered_tables}
 use Rattle.hy_lawful.proofs.Quiet.{or_left, or_right, not_true}
-use Rattle.hy_lawful.proofs.Stories.{program, tables_at, Story, Stands, waits, works, ends, working, finished, ending_of, entry_of, entries_in, Between}
+use Rattle.hy_lawful.proofs.Stories.{program, tables_at, Story, Stands, waits, works, ends, finished, ending_of, entry_of, entries_in}
 use Rattle.hy_lawful.proofs.Moves.{txn_first}
 use Rattle.hy_lawful.proofs.Goes.{left, left_in, One, none, one, one_of}
 use Rattle.hy_lawful.proofs.Ends.{Over, over_run}
@@ -139,10 +139,10 @@ statements_done setting order writer number session d = ap statements_in (txn_fi
 
 -- what a transaction is told in all
 told_done : (setting : Setting) (order : List Entry) (writer number : ℕ) (session : Session) (d : Done setting order writer number session)
-    → alone_of (statements_of setting.programs (record { session = number; txn = 1 })) (bag (tables_at setting order d.begun.prefix))
+    → alone_of setting.shapes (statements_of setting.programs (record { session = number; txn = 1 })) (bag (tables_at setting order d.begun.prefix))
     ≡ record { replies = d.begun.replies; database = bag (over (tables_at setting order d.begun.prefix) d.begun.own); stop = None }
 told_done setting order writer number session d =
-    ap (λ (ss : List Bound). alone_of ss (bag (tables_at setting order d.begun.prefix)))
+    ap (λ (ss : List Bound). alone_of setting.shapes ss (bag (tables_at setting order d.begun.prefix)))
     (statements_done setting order writer number session d ∙ (sym (take-length d.txn.statements) ∙ ap (λ (k : ℕ). take k d.txn.statements) (sym d.all)))
     ∙ d.story.told
 
@@ -168,17 +168,17 @@ order_of setting form machine o = ⊎_elim
 
 -- the serial databases are those of the history
 databases : (setting : Setting) (writer : ℕ) (machine : Machine) → Order setting writer machine → (prefix : ℕ) → prefix ≤ length machine.order
-    → database_at setting.first setting.programs (map committed_of machine.order) prefix ≡ bag (tables_at setting machine.order prefix)
+    → database_at setting.shapes setting.first setting.programs (map committed_of machine.order) prefix ≡ bag (tables_at setting machine.order prefix)
 databases setting writer machine (empty e) prefix within =
     let none_before : prefix ≡ 0 = omega (arith, ap length e) in
-    ap (λ (p : ℕ). database_at setting.first setting.programs (map committed_of machine.order) p) none_before
+    ap (λ (p : ℕ). database_at setting.shapes setting.first setting.programs (map committed_of machine.order) p) none_before
     ∙ (sym (bag_opening setting) ∙ ap (λ (p : ℕ). bag (tables_at setting machine.order p)) (sym none_before))
 databases setting writer machine (single d there w e) zero within = sym (bag_opening setting)
 databases setting writer machine (single d there w e) (suc zero) within =
     let statements : List Bound = statements_of setting.programs (record { session = writer; txn = 1 }) in
     let start : tables_at setting machine.order d.begun.prefix ≡ opening_tables setting = ap (tables_at setting machine.order) (d.story.first refl) in
-    ap (λ (o : List Entry). database_at setting.first setting.programs (map committed_of o) 1) e
-    ∙ (ap (λ (db : Database). (alone_of statements db).database) (sym (bag_opening setting) ∙ ap bag (sym start))
+    ap (λ (o : List Entry). database_at setting.shapes setting.first setting.programs (map committed_of o) 1) e
+    ∙ (ap (λ (db : Database). (alone_of setting.shapes statements db).database) (sym (bag_opening setting) ∙ ap bag (sym start))
     ∙ (ap (λ (a : Alone). a.database) (told_done setting machine.order writer writer (session_at machine writer) d)
     ∙ (ap (λ (ts : Tables). bag (over ts d.begun.own)) start
     ∙ (ap bag (sym (entered_tables (opening_tables setting) d.begun.own))
@@ -230,13 +230,13 @@ by_writing P begun f g = ⊎_elim
 
 replies_done : (setting : Setting) (form : IsFirstForm setting) (machine : Machine) → Order setting form.writer machine → (number : ℕ) (session : Session)
     (d : Done setting machine.order form.writer number session)
-    → RepliesAreOfPrefix setting.first setting.programs (map committed_of machine.order) (result_of setting number d.begun)
+    → RepliesAreOfPrefix setting.shapes setting.first setting.programs (map committed_of machine.order) (result_of setting number d.begun)
 replies_done setting form machine order number session d = record {
   prefix = omega (arith, d.story.prefix, length-map machine.order committed_of);
   replies = (
     [],
     append-nil d.begun.replies ∙ sym (ap (λ (a : Alone). a.replies)
-        (ap (alone_of (statements_of setting.programs (record { session = number; txn = 1 }))) (databases setting form.writer machine order d.begun.prefix d.story.prefix)
+        (ap (alone_of setting.shapes (statements_of setting.programs (record { session = number; txn = 1 }))) (databases setting form.writer machine order d.begun.prefix d.story.prefix)
         ∙ told_done setting machine.order form.writer number session d)),
   );
   answered = let all : length d.begun.replies ≡ length (statements_of setting.programs (record { session = number; txn = 1 })) =
@@ -250,9 +250,9 @@ is_writer setting order writer number session d w =
 
 replays_done : (setting : Setting) (form : IsFirstForm setting) (machine : Machine) → Order setting form.writer machine → (number : ℕ) (session : Session)
     (d : Done setting machine.order form.writer number session)
-    → Replays setting.first setting.programs (map committed_of machine.order) (result_of setting number d.begun) (ending_of d.begun)
+    → Replays setting.shapes setting.first setting.programs (map committed_of machine.order) (result_of setting number d.begun) (ending_of d.begun)
 replays_done setting form machine order number session d = by_writing
-    (Replays setting.first setting.programs (map committed_of machine.order) (result_of setting number d.begun)) d.begun (λ e. tt) (λ w.
+    (Replays setting.shapes setting.first setting.programs (map committed_of machine.order) (result_of setting number d.begun)) d.begun (λ e. tt) (λ w.
     let writes : number ≡ form.writer = is_writer setting machine.order form.writer number session d w in
     let start : d.begun.prefix ≡ 0 = d.story.first writes in
     let entries : machine.order ≡ entry_of setting form.writer d.begun ∷ [] =
@@ -262,8 +262,8 @@ replays_done setting form machine order number session d = by_writing
       stands = ap (λ (es : List Entry). option_map (λ (c : Committing). c.label) (slice_get (map committed_of es) 0)) entries
           ∙ ap (λ (n : ℕ). Some (record { session = n; txn = 1 })) (sym writes);
       same = subst (λ (a : Alone). GivesReplies a d.begun.replies)
-          (sym (ap (alone_of (statements_of setting.programs (record { session = number; txn = 1 })))
-          (ap (database_at setting.first setting.programs (map committed_of machine.order)) (sym start) ∙ databases setting form.writer machine order d.begun.prefix d.story.prefix)
+          (sym (ap (alone_of setting.shapes (statements_of setting.programs (record { session = number; txn = 1 })))
+          (ap (database_at setting.shapes setting.first setting.programs (map committed_of machine.order)) (sym start) ∙ databases setting form.writer machine order d.begun.prefix d.story.prefix)
           ∙ told_done setting machine.order form.writer number session d))
           (record { gives = refl; runs_on = refl });
     })
@@ -313,7 +313,7 @@ once_done setting writer machine (single d there w e) place other entry again h 
     p.0 ∙ sym q.0
 
 -- whatever the schedule, the outcome of a script of the first form is lawful
-pub lawful : (setting : Setting) (items : List Item) → IsFirstForm setting → IsOfWholeStatements items → Lawful setting.first setting.programs (outcome setting (run setting items))
+pub lawful : (setting : Setting) (items : List Item) → IsFirstForm setting → IsOfWholeStatements items → Lawful setting.shapes setting.first setting.programs (outcome setting (run setting items))
 lawful setting items form whole_ones =
     let machine : Machine = run setting items in
     let o : Over setting form.writer machine = over_run setting form items whole_ones in
@@ -327,7 +327,7 @@ lawful setting items form whole_ones =
       replays = each_done setting machine.order form.writer _ (replays_done setting form machine order) 0 machine.sessions all;
       committed = committed_done setting form.writer machine order all;
       once = λ place other entry again h k same. once_done setting form.writer machine order place other entry again h k;
-      tables = sym (ap (database_at setting.first setting.programs (map committed_of machine.order)) (length-map machine.order committed_of)
+      tables = sym (ap (database_at setting.shapes setting.first setting.programs (map committed_of machine.order)) (length-map machine.order committed_of)
           ∙ (databases setting form.writer machine order (length machine.order) (omega arith)
           ∙ ap (λ (es : List Entry). bag (history (opening_tables setting) es)) (take-length machine.order)));
       endings = each_done setting machine.order form.writer _ (ends_done setting machine.order form.writer) 0 machine.sessions all;

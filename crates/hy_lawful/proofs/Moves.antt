@@ -1,4 +1,4 @@
-use Rattle.std.proofs.Common.{◌≡◌, ◌≢◌, ℕ, zero, suc, ◌+◌, ◌-◌, ◌*◌, ◌<◌, ◌≤◌, List, [], ◌∷◌, ◌++◌, Option, None, Some, Result, Ok, Err, Bool, true, false, length, take, drop, get_or, map, replicate, refl, ap, sym, ◌∙◌, subst, arith, ◌⊎◌, inl, inr, is_some, zero-add}
+use Rattle.std.proofs.Common.{◌≡◌, ℕ, zero, suc, ◌+◌, ◌-◌, ◌*◌, ◌<◌, ◌≤◌, List, [], ◌∷◌, ◌++◌, Option, None, Some, Ok, Bool, true, false, length, take, drop, get_or, map, refl, ap, sym, ◌∙◌, subst, arith, is_some, zero-add}
 use Rattle.std.specs.Prelude.{if◌then◌else◌, nat_lt, slice_get, count_by}
 use Rattle.std.proofs.Math.Logic.{⊎_elim}
 use Rattle.std.proofs.Math.ListN.{set}
@@ -9,33 +9,32 @@ use Rattle.hy_bound.specs.declared.Txn.{Txn}
 use Rattle.hy_bound.specs.declared.Bound.{Bound}
 use Rattle.hy_bound.specs.declared.Reply.{Reply}
 use Rattle.hy_bound.specs.declared.Bound.TheVariants.{Select, Update}
-use Rattle.hy_bound.specs.declared.Reply.TheVariants.{Rows, Updated}
-use Rattle.hy_bound.specs.declared.Pred.{Pred}
+use Rattle.hy_bound.specs.declared.Reply.TheVariants.{Updated}
+use Rattle.hy_bound.specs.Condition.{Condition}
+use Rattle.hy_bound.specs.declared.On.{On}
 use Rattle.hy_bound.specs.declared.Items.{Items}
 use Rattle.hy_bound.specs.declared.Assign.{Assign}
 use Rattle.hy_value.specs.declared.Value.{Value}
 use Rattle.hy_meaning.specs.Statement.{answer}
-use Rattle.hy_stamp.specs.declared.Label.{Label}
 use Rattle.hy_render.specs.declared.Ending.{Ending}
 use Rattle.hy_render.specs.declared.Ending.TheVariants.{Committed, Read}
 use Rattle.hy_machine.specs.declared.Setting.{Setting}
 use Rattle.hy_machine.specs.declared.Machine.{Machine}
 use Rattle.hy_machine.specs.declared.Session.{Session}
-use Rattle.hy_machine.specs.declared.Current.{Current}
 use Rattle.hy_machine.specs.declared.Begun.{Begun}
 use Rattle.hy_machine.specs.declared.Entry.{Entry}
 use Rattle.hy_machine.specs.declared.Phase.{Phase}
-use Rattle.hy_machine.specs.declared.Phase.TheVariants.{Reading, Writing, Closing, Stamping, Undoing}
+use Rattle.hy_machine.specs.declared.Phase.TheVariants.{Reading, Writing, Closing, Stamping}
 use Rattle.hy_machine.specs.declared.Stepped.{Stepped}
-use Rattle.hy_machine.specs.declared.Stepped.TheVariants.{Blocked, Moved, Answered, Ended}
+use Rattle.hy_machine.specs.declared.Stepped.TheVariants.{Moved, Answered, Ended}
 use Rattle.hy_machine.specs.Cells.{Cell, chunk_of}
 use Rattle.hy_machine.specs.Own.{wrote_nothing, written_chunks}
 use Rattle.hy_machine.specs.Opponents.{opponent}
 use Rattle.hy_machine.specs.Visits.{sweep, own_with, first_hit, entry_cells}
-use Rattle.hy_machine.specs.Sessions.{fresh, session_at, txn_at, blocker_of, start_phase, before_statement, view, snapshot}
-use Rattle.hy_machine.specs.Steps.{Step, step, session_step, open_step, phase_step, begin_step, beginning, unless_blocked, with_current, with_ended, close_step, enter_step, entered, stamp_step, answered, answer_step, rows_seen, reading_step, writing_step, swept_step}
+use Rattle.hy_machine.specs.Sessions.{fresh, session_at, blocker_of, start_phase, before_statement, view, snapshot}
+use Rattle.hy_machine.specs.Steps.{Step, step, session_step, open_step, phase_step, begin_step, beginning, unless_blocked, with_current, with_ended, enter_step, answered, answer_step, rows_seen, reading_step, writing_step, swept_step}
 use Rattle.hy_machine.specs.Runs.{whole, most_steps, has_moved}
-use Rattle.hy_lawful.proofs.Stories.{program, moved_to, finished, working, at_same}
+use Rattle.hy_lawful.proofs.Stories.{program, moved_to, finished, working}
 
 -- a step that does not move is the last of a statement
 pub whole_stops : (most : ℕ) (setting : Setting) (machine : Machine) (number : ℕ) (after : Machine) (stepped : Stepped)
@@ -136,23 +135,23 @@ at_phase : (machine : Machine) (number : ℕ) (txn : Txn) (begun : Begun) (next 
 at_phase machine number txn begun next e q = e ∙ ap (λ (o : Option Bound). record { done = []; now = Some (record { begun = begun; phase = before_statement txn.commits o }) }) q
 
 -- a SELECT of one table of one chunk is answered in one visit
-pub selects : (most : ℕ) (setting : Setting) (machine : Machine) (number : ℕ) (txn : Txn) (begun : Begun) (from : List ℕ) (pred : Pred) (items : Items)
+pub selects : (most : ℕ) (setting : Setting) (machine : Machine) (number : ℕ) (txn : Txn) (begun : Begun) (from : List ℕ) (ons : List On) (pred : Condition) (items : Items)
     → machine.mark ≡ None → program setting number ≡ txn ∷ [] → session_at machine number ≡ working txn begun
-    → slice_get txn.statements (length begun.replies) ≡ Some (Select from pred items) → setting.chunks ≡ 1 → length from ≡ 1
+    → slice_get txn.statements (length begun.replies) ≡ Some (Select from ons pred items) → setting.chunks ≡ 1 → length from ≡ 1
     → whole (suc most) setting machine number
-    ≡ moved_to machine number (working txn (answered setting begun (Select from pred items) (answer pred items (map (rows_seen (view setting machine begun)) from)))) (machine.order ++ [])
-selects most setting machine number txn begun from pred items free is e q chunk one =
+    ≡ moved_to machine number (working txn (answered setting begun (Select from ons pred items) (answer ons pred items (map (rows_seen (view setting machine begun)) from)))) (machine.order ++ [])
+selects most setting machine number txn begun from ons pred items free is e q chunk one =
     let session : Session = record { done = []; now = Some (record { begun = begun; phase = Reading 0 }) } in
     let visits : setting.chunks * length from ≡ 1 = ap (λ (c : ℕ). c * length from) chunk ∙ ap (λ (l : ℕ). 1 * l) one in
-    let reply : Reply = answer pred items (map (rows_seen (view setting machine begun)) from) in
+    let reply : Reply = answer ons pred items (map (rows_seen (view setting machine begun)) from) in
     whole_stops most setting machine number _ Answered
-    (works_on setting machine number txn begun (Reading 0) is (at_phase machine number txn begun (Some (Select from pred items)) e q)
+    (works_on setting machine number txn begun (Reading 0) is (at_phase machine number txn begun (Some (Select from ons pred items)) e q)
     ∙ (ap (reading_step setting machine number session txn begun 0) q
-    ∙ ap (λ (n : ℕ). if nat_lt 1 n then (with_current machine number session begun (Reading 1), Moved) else answer_step setting machine number session txn begun (Select from pred items) reply) visits)) refl
-    ∙ answers setting machine number txn begun (Select from pred items) reply free
+    ∙ ap (λ (n : ℕ). if nat_lt 1 n then (with_current machine number session begun (Reading 1), Moved) else answer_step setting machine number session txn begun (Select from ons pred items) reply) visits)) refl
+    ∙ answers setting machine number txn begun (Select from ons pred items) reply free
 
 -- an UPDATE of a table of one chunk is answered in one visit, where nothing refuses it
-pub updates : (most : ℕ) (setting : Setting) (machine : Machine) (number : ℕ) (txn : Txn) (begun : Begun) (table : ℕ) (sets : List Assign) (pred : Pred) (news : List (Option (List Value)))
+pub updates : (most : ℕ) (setting : Setting) (machine : Machine) (number : ℕ) (txn : Txn) (begun : Begun) (table : ℕ) (sets : List Assign) (pred : Condition) (news : List (Option (List Value)))
     → machine.mark ≡ None → program setting number ≡ txn ∷ [] → session_at machine number ≡ working txn begun
     → slice_get txn.statements (length begun.replies) ≡ Some (Update table sets pred) → setting.chunks ≡ 1
     → length (get_or (view setting machine begun) table []) ≤ setting.rows

@@ -1,17 +1,15 @@
-use Rattle.std.proofs.Common.{◌≡◌, ◌≢◌, ℕ, zero, suc, ◌+◌, ◌-◌, ◌*◌, ◌<◌, ◌≤◌, List, [], ◌∷◌, ◌++◌, Option, None, Some, Bool, true, false, not, cond, length, take, drop, get_or, map, refl, ap, sym, ◌∙◌, subst, arith, is_some, eq-eqb}
+use Rattle.std.proofs.Common.{◌≡◌, ◌≢◌, ℕ, zero, suc, ◌+◌, ◌≤◌, List, [], ◌∷◌, ◌++◌, Option, None, Some, Bool, true, false, not, length, get_or, map, refl, ap, sym, ◌∙◌, arith, is_some, eq-eqb}
 use Rattle.std.specs.Prelude.{◌||◌, ◌&&◌, ◌==◌, if◌then◌else◌}
 use Rattle.std.specs.List.{list_any}
-use Rattle.std.proofs.lemmas.Bool.{cases_eq}
 use Rattle.std.proofs.lemmas.List.{length-append}
-use Rattle.hy_bound.specs.declared.Txn.{Txn}
 use Rattle.hy_stamp.specs.declared.Label.{Label}
 use Rattle.hy_machine.specs.declared.Setting.{Setting}
 use Rattle.hy_machine.specs.declared.Session.{Session}
 use Rattle.hy_machine.specs.declared.Current.{Current}
-use Rattle.hy_machine.specs.Cells.{Cell, Tables, Own, overlaid, own_cell, over_cells, over, chunk_of}
-use Rattle.hy_machine.specs.Own.{wrote_nothing, is_own, is_in_chunks, written_chunks, chunks_from, written_chunks_from, places_from, written_from, written}
+use Rattle.hy_machine.specs.Cells.{Cell, Tables, Own, own_cell, over, chunk_of}
+use Rattle.hy_machine.specs.Own.{wrote_nothing, is_own, chunks_from, written_chunks_from}
 use Rattle.hy_machine.specs.Sessions.{fresh, label_of}
-use Rattle.hy_machine.specs.Opponents.{undone, holds, holder_from, changer_or}
+use Rattle.hy_machine.specs.Opponents.{holds, holder_from}
 use Rattle.hy_lawful.proofs.Tables.{overlaid_nothing}
 
 pub or_left : (a b : Bool) → (a || b) ≡ false → a ≡ false

@@ -1,23 +1,20 @@
-use Rattle.std.proofs.Common.{◌≡◌, ◌≢◌, ℕ, zero, suc, ◌+◌, ◌-◌, ◌*◌, ◌<◌, ◌≤◌, List, [], ◌∷◌, ◌++◌, Option, None, Some, Bool, true, false, length, take, drop, get_or, map, refl, ap, sym, ◌∙◌, subst, arith, ◌⊎◌, inl, inr}
+use Rattle.std.proofs.Common.{◌≡◌, ◌≢◌, ℕ, ◌<◌, ◌≤◌, List, [], ◌∷◌, ◌++◌, None, Some, true, length, take, get_or, refl, ap, sym, ◌∙◌, subst, arith}
 use Rattle.std.proofs.Math.Logic.{⊎_elim}
 use Rattle.std.specs.Prelude.{if◌then◌else◌}
 use Rattle.std.proofs.Math.ListN.{set}
 use Rattle.std.proofs.lemmas.List.{take-append-le, length-append, append-nil, get_or-set_other, get_or-set_same, length-set}
 use Rattle.std.proofs.lemmas.Bool.{cases_eq}
 use Rattle.hy_bound.specs.declared.Txn.{Txn}
-use Rattle.hy_bound.specs.declared.Reply.{Reply}
-use Rattle.hy_meaning.specs.Statement.{Database}
-use Rattle.hy_meaning.specs.Serial.{Alone, alone_of}
+use Rattle.hy_meaning.specs.Serial.{alone_of}
 use Rattle.hy_render.specs.declared.Ending.{Ending}
 use Rattle.hy_render.specs.declared.Ending.TheVariants.{Committed, Read}
 use Rattle.hy_machine.specs.declared.Setting.{Setting}
 use Rattle.hy_machine.specs.declared.Machine.{Machine}
 use Rattle.hy_machine.specs.declared.Session.{Session}
-use Rattle.hy_machine.specs.declared.Current.{Current}
 use Rattle.hy_machine.specs.declared.Finished.{Finished}
 use Rattle.hy_machine.specs.declared.Begun.{Begun}
 use Rattle.hy_machine.specs.declared.Entry.{Entry}
-use Rattle.hy_machine.specs.Cells.{Tables, Own, history, opening_tables, over}
+use Rattle.hy_machine.specs.Cells.{Tables, history, opening_tables, over}
 use Rattle.hy_machine.specs.Own.{wrote_nothing}
 use Rattle.hy_machine.specs.Visits.{entry_cells}
 use Rattle.hy_machine.specs.Sessions.{fresh, session_at, start_phase}
@@ -35,7 +32,7 @@ tables_at setting order prefix = history (opening_tables setting) (take prefix o
 pub record Story (setting : Setting) (order : List Entry) (writer number : ℕ) (txn : Txn) (begun : Begun) : Type 0 where
   pub prefix : begun.prefix ≤ length order
   pub few : length begun.replies ≤ length txn.statements
-  pub told : alone_of (take (length begun.replies) txn.statements) (bag (tables_at setting order begun.prefix))
+  pub told : alone_of setting.shapes (take (length begun.replies) txn.statements) (bag (tables_at setting order begun.prefix))
       ≡ record { replies = begun.replies; database = bag (over (tables_at setting order begun.prefix) begun.own); stop = None }
   pub places : length begun.own ≡ length setting.first
   pub quiet : number ≢ writer → wrote_nothing begun.own ≡ true
@@ -81,7 +78,7 @@ story_grows {setting = setting} {txn = txn} {begun = begun} order extra s =
     record {
       prefix = omega (arith, s.prefix, length-append order extra);
       few = s.few;
-      told = subst (λ (h : Tables). alone_of (take (length begun.replies) txn.statements) (bag h) ≡ record { replies = begun.replies; database = bag (over h begun.own); stop = None }) same s.told;
+      told = subst (λ (h : Tables). alone_of setting.shapes (take (length begun.replies) txn.statements) (bag h) ≡ record { replies = begun.replies; database = bag (over h begun.own); stop = None }) same s.told;
       places = s.places;
       quiet = s.quiet;
       first = s.first;

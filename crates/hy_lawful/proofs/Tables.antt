@@ -1,14 +1,12 @@
-use Rattle.std.proofs.Common.{◌≡◌, ℕ, zero, suc, ◌+◌, ◌-◌, ◌*◌, ◌≤◌, List, [], ◌∷◌, ◌++◌, Option, None, Some, length, take, drop, get_or, replicate, map, refl, ap, sym, ◌∙◌, arith}
+use Rattle.std.proofs.Common.{◌≡◌, ℕ, zero, suc, ◌-◌, List, [], ◌∷◌, ◌++◌, Option, None, Some, length, get_or, replicate, map, refl, ap, sym, ◌∙◌, arith}
 use Rattle.std.proofs.Math.ListN.{set, get_or-map}
 use Rattle.std.proofs.lemmas.List.{map-set, append-nil}
 use Rattle.hy_value.specs.declared.Value.{Value}
 use Rattle.hy_value.specs.Sorted.{sorted}
 use Rattle.hy_meaning.specs.Statement.{Table, Database}
 use Rattle.hy_meaning.specs.Serial.{database_of}
-use Rattle.hy_machine.specs.declared.Pair.{Pair}
-use Rattle.hy_machine.specs.declared.Entry.{Entry}
 use Rattle.hy_machine.specs.declared.Setting.{Setting}
-use Rattle.hy_machine.specs.Cells.{Cell, Tables, Own, overlaid, own_cell, over_cells, over, entry_cell, after_cells, after_entry, capacity, laid_out, opening_tables, rows_of}
+use Rattle.hy_machine.specs.Cells.{Cell, Tables, Own, overlaid, own_cell, over_cells, over, entry_cell, after_cells, capacity, laid_out, opening_tables, rows_of}
 use Rattle.hy_machine.specs.Visits.{own_after, with_new_rows, pair_of, pairs_of, entry_cells}
 use Rattle.hy_machine.specs.Outcomes.{sorted_rows}
 

@@ -3,23 +3,46 @@ use Rattle.std.specs.List.{AllByRecursion}
 use Rattle.hy_bound.specs.declared.Txn.{Txn}
 use Rattle.hy_bound.specs.declared.Item.{Item}
 use Rattle.hy_bound.specs.declared.Bound.{Bound}
-use Rattle.hy_bound.specs.declared.Bound.TheVariants.{Select, Update}
+use Rattle.hy_bound.specs.declared.Bound.TheVariants.{Select, Group, Insert, Update, Delete}
+use Rattle.hy_bound.specs.declared.Assign.{Assign}
+use Rattle.hy_bound.specs.Expression.{Expression, Literal, Column, Add, Sub, Mul}
 use Rattle.hy_machine.specs.declared.Setting.{Setting}
-use Rattle.hy_lawful.specs.Scripts.{Programs}
 
--- a SELECT has one table
+-- a SELECT has one table; GROUP BY, INSERT and DELETE are not of the first form
 abbrev pub HasOneTable : Bound → Type 0
-HasOneTable (Select tables pred items) = length tables ≡ 1
+HasOneTable (Select tables ons pred items) = length tables ≡ 1
+HasOneTable (Group table pred key aggregate) = ⊥
+HasOneTable (Insert table row) = ⊥
 HasOneTable (Update table sets pred) = Unit {0}
+HasOneTable (Delete table pred) = ⊥
+
+abbrev pub IsLiteral : Expression → Type 0
+IsLiteral (Literal value) = Unit {0}
+IsLiteral (Column column) = ⊥
+IsLiteral (Add e f) = ⊥
+IsLiteral (Sub e f) = ⊥
+IsLiteral (Mul e f) = ⊥
+
+-- what an UPDATE sets are values
+abbrev pub SetsValues : Bound → Type 0
+SetsValues (Select tables ons pred items) = Unit {0}
+SetsValues (Group table pred key aggregate) = Unit {0}
+SetsValues (Insert table row) = Unit {0}
+SetsValues (Update table sets pred) = AllByRecursion (λ (set : Assign). IsLiteral set.value) sets
+SetsValues (Delete table pred) = Unit {0}
 
 -- a statement that only reads
 abbrev pub OnlyReads : Bound → Type 0
-OnlyReads (Select tables pred items) = Unit {0}
+OnlyReads (Select tables ons pred items) = Unit {0}
+OnlyReads (Group table pred key aggregate) = Unit {0}
+OnlyReads (Insert table row) = ⊥
 OnlyReads (Update table sets pred) = ⊥
+OnlyReads (Delete table pred) = ⊥
 
 pub record IsShort (txn : Txn) : Type 0 where
   pub commits : IsTrue txn.commits
   pub one_table : AllByRecursion HasOneTable txn.statements
+  pub values : AllByRecursion SetsValues txn.statements
   pub few : length txn.statements ≤ 256
 
 -- a session of one transaction, which commits

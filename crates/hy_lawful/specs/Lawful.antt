@@ -1,8 +1,9 @@
-use Rattle.std.specs.Prelude.{◌≡◌, ℕ, ◌<◌, ◌≤◌, List, [], ◌++◌, Option, None, Some, length, slice_get, map}
+use Rattle.std.specs.Prelude.{◌≡◌, ℕ, ◌<◌, ◌≤◌, List, ◌++◌, Option, None, Some, length, slice_get, map}
 use Rattle.std.specs.List.{AllByRecursion}
 use Rattle.std.specs.Option.{option_map}
 use Rattle.hy_bound.specs.declared.Txn.{Txn}
 use Rattle.hy_bound.specs.declared.Reply.{Reply}
+use Rattle.hy_bound.specs.declared.Shape.{Shape}
 use Rattle.hy_stamp.specs.declared.Label.{Label}
 use Rattle.hy_render.specs.declared.Ending.{Ending}
 use Rattle.hy_render.specs.declared.Ending.TheVariants.{Committed, Read, RolledBack, Conflict, Invalid, Range, Full}
@@ -10,7 +11,7 @@ use Rattle.hy_render.specs.declared.Place.{Place}
 use Rattle.hy_render.specs.declared.TxnOutcome.{TxnOutcome}
 use Rattle.hy_render.specs.declared.Committed.{Committed as Entry}
 use Rattle.hy_render.specs.declared.Outcome.{Outcome}
-use Rattle.hy_meaning.specs.Statement.{Table, Database}
+use Rattle.hy_meaning.specs.Statement.{Table}
 use Rattle.hy_meaning.specs.Serial.{Alone, alone_of}
 use Rattle.hy_lawful.specs.Scripts.{Programs, txn_of, statements_of, labels_from, database_at, ClosesWithCommit, ClosesWithRollback}
 
@@ -29,9 +30,9 @@ AnswersAsMany (Range table pos) answered statements = answered < statements
 AnswersAsMany (Full table) answered statements = answered < statements
 
 -- the replies of a transaction are those that it gets alone, from the database of its start prefix on
-pub record RepliesAreOfPrefix (first : List Table) (programs : Programs) (order : List Entry) (txn : TxnOutcome) : Type 0 where
+pub record RepliesAreOfPrefix (shapes : List Shape) (first : List Table) (programs : Programs) (order : List Entry) (txn : TxnOutcome) : Type 0 where
   pub prefix : txn.start ≤ length order
-  pub replies : IsFirstOf txn.replies (alone_of (statements_of programs txn.label) (database_at first programs order txn.start)).replies
+  pub replies : IsFirstOf txn.replies (alone_of shapes (statements_of programs txn.label) (database_at shapes first programs order txn.start)).replies
   pub answered : AnswersAsMany txn.ending (length txn.replies) (length (statements_of programs txn.label))
 
 -- a transaction that runs alone gives these replies and does not stop
@@ -41,19 +42,19 @@ pub record GivesReplies (alone : Alone) (replies : List Reply) : Type 0 where
 
 -- a committed transaction stands at its place of the commit order, after its start, and replayed there it
 -- gives its replies
-pub record ReplaysAt (first : List Table) (programs : Programs) (order : List Entry) (txn : TxnOutcome) (place : ℕ) : Type 0 where
+pub record ReplaysAt (shapes : List Shape) (first : List Table) (programs : Programs) (order : List Entry) (txn : TxnOutcome) (place : ℕ) : Type 0 where
   pub later : txn.start ≤ place
   pub stands : option_map (λ entry. entry.label) (slice_get order place) ≡ Some txn.label
-  pub same : GivesReplies (alone_of (statements_of programs txn.label) (database_at first programs order place)) txn.replies
+  pub same : GivesReplies (alone_of shapes (statements_of programs txn.label) (database_at shapes first programs order place)) txn.replies
 
-abbrev pub Replays : List Table → Programs → List Entry → TxnOutcome → Ending → Type 0
-Replays first programs order txn (Committed place) = ReplaysAt first programs order txn place
-Replays first programs order txn Read = Unit {0}
-Replays first programs order txn RolledBack = Unit {0}
-Replays first programs order txn (Conflict table pos other) = Unit {0}
-Replays first programs order txn (Invalid table pos other statement) = Unit {0}
-Replays first programs order txn (Range table pos) = Unit {0}
-Replays first programs order txn (Full table) = Unit {0}
+abbrev pub Replays : List Shape → List Table → Programs → List Entry → TxnOutcome → Ending → Type 0
+Replays shapes first programs order txn (Committed place) = ReplaysAt shapes first programs order txn place
+Replays shapes first programs order txn Read = Unit {0}
+Replays shapes first programs order txn RolledBack = Unit {0}
+Replays shapes first programs order txn (Conflict table pos other) = Unit {0}
+Replays shapes first programs order txn (Invalid table pos other statement) = Unit {0}
+Replays shapes first programs order txn (Range table pos) = Unit {0}
+Replays shapes first programs order txn (Full table) = Unit {0}
 
 -- when an ending may come. A transaction commits at a place of the order where it wrote something, and
 -- without one where it wrote nothing; it is rolled back where its script says so. When a refusal comes is
@@ -75,20 +76,21 @@ pub record HasCommitted (txns : List TxnOutcome) (label : Label) (place : ℕ) :
   pub named : txn.label ≡ label
   pub ending : txn.ending ≡ Committed place
 
--- an outcome of a script that has these first rows and transactions is one that the engine may give
-pub record Lawful (first : List Table) (programs : Programs) (outcome : Outcome) : Type 0 where
+-- an outcome of a script that has tables of these shapes, these first rows and transactions is one that the
+-- engine may give
+pub record Lawful (shapes : List Shape) (first : List Table) (programs : Programs) (outcome : Outcome) : Type 0 where
   -- every transaction of the script has its outcome, once
   pub transactions : map (λ txn. txn.label) outcome.txns ≡ labels_from 0 programs
   -- the replies of every transaction are those of its start prefix
-  pub replies : AllByRecursion (RepliesAreOfPrefix first programs outcome.order) outcome.txns
+  pub replies : AllByRecursion (RepliesAreOfPrefix shapes first programs outcome.order) outcome.txns
   -- a committed transaction stands in the order, and replayed at its place gives its replies
-  pub replays : AllByRecursion (λ txn. Replays first programs outcome.order txn txn.ending) outcome.txns
+  pub replays : AllByRecursion (λ txn. Replays shapes first programs outcome.order txn txn.ending) outcome.txns
   -- what stands in the order has committed at its place
   pub committed : (place : ℕ) (entry : Entry) → slice_get outcome.order place ≡ Some entry → HasCommitted outcome.txns entry.label place
   -- and no transaction stands there twice
   pub once : (place other : ℕ) (entry again : Entry) → slice_get outcome.order place ≡ Some entry → slice_get outcome.order other ≡ Some again
       → entry.label ≡ again.label → place ≡ other
   -- the final tables are those of the serial run of the whole order
-  pub tables : outcome.tables ≡ database_at first programs outcome.order (length outcome.order)
+  pub tables : outcome.tables ≡ database_at shapes first programs outcome.order (length outcome.order)
   -- every ending is one that may come
   pub endings : AllByRecursion (λ txn. MayEnd (txn_of programs txn.label) txn.wrote txn.ending) outcome.txns

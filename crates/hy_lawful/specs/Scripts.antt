@@ -1,6 +1,7 @@
 use Rattle.std.specs.Prelude.{ℕ, suc, ◌-◌, List, [], ◌∷◌, ◌++◌, Option, None, Some, slice_index_or, slice_get, take, map, IsTrue, not}
 use Rattle.hy_bound.specs.declared.Txn.{Txn}
 use Rattle.hy_bound.specs.declared.Bound.{Bound}
+use Rattle.hy_bound.specs.declared.Shape.{Shape}
 use Rattle.hy_stamp.specs.declared.Label.{Label}
 use Rattle.hy_render.specs.declared.Committed.{Committed}
 use Rattle.hy_meaning.specs.Statement.{Table, Database}
@@ -42,7 +43,7 @@ labels_from session [] = []
 labels_from session (txns ∷ programs) = labels_of session 1 txns ++ labels_from (suc session) programs
 
 -- the serial databases: the one after the first `place` transactions of the commit order ran alone, one
--- after another, from the first rows on
-abbrev pub database_at : List Table → Programs → List Committed → ℕ → Database
-database_at first programs order place =
-    serial (map (λ entry. statements_of programs entry.label) (take place order)) (database_of first)
+-- after another, from the first rows on, for tables of these shapes
+abbrev pub database_at : List Shape → List Table → Programs → List Committed → ℕ → Database
+database_at shapes first programs order place =
+    serial shapes (map (λ entry. statements_of programs entry.label) (take place order)) (database_of first)

@@ -12,5 +12,5 @@ ghost use Rattle.hy_lawful.specs.FirstForm.{IsFirstForm, IsOfWholeStatements};
 /// Whatever the schedule, what the machine makes of a script of the first form is lawful.
 pub fn runs_are_lawful()
     ensures { (setting : Setting) (schedule : List Item) → IsFirstForm setting → IsOfWholeStatements schedule
-        → Lawful setting.first setting.programs (outcome setting (run setting schedule)) }
+        → Lawful setting.shapes setting.first setting.programs (outcome setting (run setting schedule)) }
 {}

@@ -2,7 +2,7 @@ use Rattle.std.proofs.Common.{◌≡◌, ℕ, ◌+◌, ◌<◌, List, [], ◌∷
 use Rattle.std.proofs.Math.Seq.{drop-cons}
 use Rattle.hy_value.specs.declared.Value.{Value}
 use Rattle.hy_bound.specs.declared.Assign.{Assign}
-use Rattle.hy_bound.specs.declared.Pred.{Pred}
+use Rattle.hy_bound.specs.Condition.{Condition}
 use Rattle.hy_stamp.specs.declared.Label.{Label}
 use Rattle.hy_render.specs.declared.Ending.{Ending}
 use Rattle.hy_machine.specs.Cells.{Cell}
@@ -23,7 +23,7 @@ refused : (news : List (Option (List Value))) (ending : Ending) (rest : Result (
 refused news ending rest = refl
 
 -- a position that isn't refused gives one new row more
-pub sweep_step : (sets : List Assign) (pred : Pred) (table : ℕ) (opponent : ℕ → Option Label) (first : ℕ) (cells : List Cell) (i : ℕ) (cell : Cell) (news : List (Option (List Value))) (new : Option (List Value))
+pub sweep_step : (sets : List Assign) (pred : Condition) (table : ℕ) (opponent : ℕ → Option Label) (first : ℕ) (cells : List Cell) (i : ℕ) (cell : Cell) (news : List (Option (List Value))) (new : Option (List Value))
     → i < length cells → verdict sets pred table (first + i) (opponent (first + i)) (get_or cells i cell) ≡ Ok new
     → and_news news (sweep sets pred table opponent (first + i) (drop i cells)) ≡ and_news (news ++ new ∷ []) (sweep sets pred table opponent (first + (i + 1)) (drop (i + 1) cells))
 sweep_step sets pred table opponent first cells i cell news new h e =
@@ -31,7 +31,7 @@ sweep_step sets pred table opponent first cells i cell news new h e =
     rw (next, add-one, drop-cons cells i cell h, e) (one_more news new (sweep sets pred table opponent (suc (first + i)) (drop (suc i) cells)))
 
 -- a refusal is what the rest comes to
-pub sweep_refused : (sets : List Assign) (pred : Pred) (table : ℕ) (opponent : ℕ → Option Label) (first : ℕ) (cells : List Cell) (i : ℕ) (cell : Cell) (news : List (Option (List Value))) (ending : Ending)
+pub sweep_refused : (sets : List Assign) (pred : Condition) (table : ℕ) (opponent : ℕ → Option Label) (first : ℕ) (cells : List Cell) (i : ℕ) (cell : Cell) (news : List (Option (List Value))) (ending : Ending)
     → i < length cells → verdict sets pred table (first + i) (opponent (first + i)) (get_or cells i cell) ≡ Err ending
     → and_news news (sweep sets pred table opponent (first + i) (drop i cells)) ≡ Err ending
 sweep_refused sets pred table opponent first cells i cell news ending h e =

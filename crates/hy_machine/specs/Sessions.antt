@@ -1,7 +1,7 @@
 use Rattle.std.specs.Prelude.{ℕ, suc, List, [], ◌∷◌, Bool, Option, None, Some, ◌==◌, slice_index_or, slice_get, length, if◌then◌else◌, min, take}
 use Rattle.hy_bound.specs.declared.Txn.{Txn}
 use Rattle.hy_bound.specs.declared.Bound.{Bound}
-use Rattle.hy_bound.specs.declared.Bound.TheVariants.{Select, Update}
+use Rattle.hy_bound.specs.declared.Bound.TheVariants.{Select, Group, Insert, Update, Delete}
 use Rattle.hy_stamp.specs.declared.Label.{Label}
 use Rattle.hy_render.specs.declared.Ending.TheVariants.{RolledBack}
 use Rattle.hy_machine.specs.declared.Setting.{Setting}
@@ -47,11 +47,15 @@ snapshot setting machine prefix = history (opening_tables setting) (take prefix 
 abbrev pub view : Setting → Machine → Begun → Tables
 view setting machine begun = over (snapshot setting machine begun.prefix) begun.own
 
--- where a transaction stands before a statement, or before what closes it
+-- where a transaction stands before a statement, or before what closes it. INSERT and DELETE come to the
+-- machine later: a transaction that comes to one is rolled back, and no script with one is run yet
 abbrev pub before_statement : Bool → Option Bound → Phase
 before_statement commits None = if commits then Closing else Undoing 0 RolledBack
-before_statement commits (Some (Select tables pred items)) = Reading 0
+before_statement commits (Some (Select tables ons pred items)) = Reading 0
+before_statement commits (Some (Group table pred key aggregate)) = Reading 0
+before_statement commits (Some (Insert table row)) = Undoing 0 RolledBack
 before_statement commits (Some (Update table sets pred)) = Writing 0 0
+before_statement commits (Some (Delete table pred)) = Undoing 0 RolledBack
 
 abbrev pub start_phase : Txn → ℕ → Phase
 start_phase txn answered = before_statement txn.commits (slice_get txn.statements answered)

@@ -1,15 +1,14 @@
 use Rattle.std.specs.Prelude.{ℕ, suc, ◌+◌, ◌-◌, ◌*◌, List, [], ◌∷◌, ◌++◌, nat_lt, Option, None, Some, Result, Ok, Err, is_some, slice_index_or, slice_get, slice_set, length, count_by, drop, map, if◌then◌else◌}
 use Rattle.hy_bound.specs.declared.Txn.{Txn}
 use Rattle.hy_bound.specs.declared.Bound.{Bound}
-use Rattle.hy_bound.specs.declared.Bound.TheVariants.{Select, Update}
-use Rattle.hy_bound.specs.declared.Pred.{Pred}
+use Rattle.hy_bound.specs.declared.Bound.TheVariants.{Select, Group, Insert, Update, Delete}
+use Rattle.hy_bound.specs.Condition.{Condition}
 use Rattle.hy_bound.specs.declared.Assign.{Assign}
-use Rattle.hy_bound.specs.declared.Items.{Items}
 use Rattle.hy_bound.specs.declared.Reply.{Reply}
 use Rattle.hy_bound.specs.declared.Reply.TheVariants.{Updated}
 use Rattle.hy_bound.specs.Records.{records_of}
 use Rattle.hy_value.specs.declared.Value.{Value}
-use Rattle.hy_meaning.specs.Statement.{answer}
+use Rattle.hy_meaning.specs.Statement.{answer, grouped}
 use Rattle.hy_stamp.specs.declared.Label.{Label}
 use Rattle.hy_render.specs.declared.Ending.{Ending}
 use Rattle.hy_render.specs.declared.Ending.TheVariants.{Committed, Read}
@@ -77,7 +76,7 @@ abbrev pub answered : Setting → Begun → Bound → Reply → Begun
 answered setting begun statement reply = record begun {
   took = begun.took ++ None ∷ [];
   replies = begun.replies ++ reply ∷ [];
-  records = begun.records ++ records_of setting.widths (suc (length begun.replies)) statement;
+  records = begun.records ++ records_of setting.shapes (suc (length begun.replies)) statement;
 }
 
 abbrev pub answer_step : Setting → Machine → ℕ → Session → Txn → Begun → Bound → Reply → Step
@@ -88,13 +87,12 @@ answer_step setting machine number session txn begun statement reply =
 abbrev pub rows_seen : Tables → ℕ → List (List Value)
 rows_seen tables table = rows_of (slice_index_or tables table [])
 
--- a visit of a SELECT: the last one answers
-abbrev pub read_step : Setting → Machine → ℕ → Session → Txn → Begun → ℕ → Bound → List ℕ → Pred → Items → Step
-read_step setting machine number session txn begun visited statement tables pred items =
-    if nat_lt (suc visited) (setting.chunks * length tables)
+-- a visit of a SELECT of so many tables: the last one answers
+abbrev pub read_step : Setting → Machine → ℕ → Session → Txn → Begun → ℕ → Bound → ℕ → Reply → Step
+read_step setting machine number session txn begun visited statement tables reply =
+    if nat_lt (suc visited) (setting.chunks * tables)
     then (with_current machine number session begun (Reading (suc visited)), Moved)
-    else answer_step setting machine number session txn begun statement
-    (answer pred items (map (rows_seen (view setting machine begun)) tables))
+    else answer_step setting machine number session txn begun statement reply
 
 -- an UPDATE after a visit that was not refused, with its new writes: the last visit answers
 abbrev pub written_step : Setting → Machine → ℕ → Session → Txn → Begun → ℕ → Bound → ℕ → Step
@@ -111,7 +109,7 @@ swept_step setting machine number session txn begun visited count statement tabl
     (record begun { own = own_with begun.own table (visited * setting.rows) news }) visited statement (count + count_by is_some news)
 
 -- a visit of an UPDATE: the positions of the chunk, ascending
-abbrev pub write_step : Setting → Machine → ℕ → Session → Txn → Begun → ℕ → ℕ → Bound → ℕ → List Assign → Pred → Step
+abbrev pub write_step : Setting → Machine → ℕ → Session → Txn → Begun → ℕ → ℕ → Bound → ℕ → List Assign → Condition → Step
 write_step setting machine number session txn begun visited count statement table sets pred =
     swept_step setting machine number session txn begun visited count statement table
     (sweep sets pred table (opponent setting machine number begun.prefix table) (visited * setting.rows)
@@ -155,13 +153,22 @@ undo_step setting machine number session begun visited cause =
 -- about; such a step changes nothing
 abbrev pub reading_step : Setting → Machine → ℕ → Session → Txn → Begun → ℕ → Option Bound → Step
 reading_step setting machine number session txn begun visited None = (machine, Ended)
-reading_step setting machine number session txn begun visited (Some (Select tables pred items)) =
-    read_step setting machine number session txn begun visited (Select tables pred items) tables pred items
+reading_step setting machine number session txn begun visited (Some (Select tables ons pred items)) =
+    read_step setting machine number session txn begun visited (Select tables ons pred items) (length tables)
+    (answer ons pred items (map (rows_seen (view setting machine begun)) tables))
+reading_step setting machine number session txn begun visited (Some (Group table pred key aggregate)) =
+    read_step setting machine number session txn begun visited (Group table pred key aggregate) 1
+    (grouped pred key aggregate (rows_seen (view setting machine begun) table))
+reading_step setting machine number session txn begun visited (Some (Insert table row)) = (machine, Ended)
 reading_step setting machine number session txn begun visited (Some (Update table sets pred)) = (machine, Ended)
+reading_step setting machine number session txn begun visited (Some (Delete table pred)) = (machine, Ended)
 
 abbrev pub writing_step : Setting → Machine → ℕ → Session → Txn → Begun → ℕ → ℕ → Option Bound → Step
 writing_step setting machine number session txn begun visited count None = (machine, Ended)
-writing_step setting machine number session txn begun visited count (Some (Select tables pred items)) = (machine, Ended)
+writing_step setting machine number session txn begun visited count (Some (Select tables ons pred items)) = (machine, Ended)
+writing_step setting machine number session txn begun visited count (Some (Group table pred key aggregate)) = (machine, Ended)
+writing_step setting machine number session txn begun visited count (Some (Insert table row)) = (machine, Ended)
+writing_step setting machine number session txn begun visited count (Some (Delete table pred)) = (machine, Ended)
 writing_step setting machine number session txn begun visited count (Some (Update table sets pred)) =
     write_step setting machine number session txn begun visited count (Update table sets pred) table sets pred
 

@@ -1,6 +1,6 @@
 use Rattle.std.specs.Prelude.{ℕ, suc, List, [], ◌∷◌, ◌++◌, Option, None, Some, Result, Ok, Err, ◌==◌, ◌&&◌, slice_index_or, slice_set, replicate, if◌then◌else◌}
 use Rattle.hy_value.specs.declared.Value.{Value}
-use Rattle.hy_bound.specs.declared.Pred.{Pred}
+use Rattle.hy_bound.specs.Condition.{Condition}
 use Rattle.hy_bound.specs.declared.Assign.{Assign}
 use Rattle.hy_bound.specs.declared.Record.{Record}
 use Rattle.hy_bound.specs.Predicate.{truth_of}
@@ -21,7 +21,7 @@ new_row table pos None None = Err (Range table pos)
 new_row table pos None (Some row) = Ok (Some row)
 
 -- what an UPDATE does at a position: nothing where there is no row or it isn't selected
-abbrev pub verdict : List Assign → Pred → ℕ → ℕ → Option Label → Cell → Result (Option (List Value)) Ending
+abbrev pub verdict : List Assign → Condition → ℕ → ℕ → Option Label → Cell → Result (Option (List Value)) Ending
 verdict sets pred table pos other None = Ok None
 verdict sets pred table pos other (Some row) = if truth_of pred row then new_row table pos other (assigned sets row) else Ok None
 
@@ -33,7 +33,7 @@ and_new (Ok new) (Ok news) = Ok (new ∷ news)
 
 -- what an UPDATE does at these cells, the first of them being at this position: the new rows, or the
 -- first refusal. `opponent` tells whom a write of a position is in conflict with
-abbrev pub sweep : List Assign → Pred → ℕ → (ℕ → Option Label) → ℕ → List Cell → Result (List (Option (List Value))) Ending
+abbrev pub sweep : List Assign → Condition → ℕ → (ℕ → Option Label) → ℕ → List Cell → Result (List (Option (List Value))) Ending
 sweep sets pred table opponent pos [] = Ok []
 sweep sets pred table opponent pos (cell ∷ cells) =
     and_new (verdict sets pred table pos (opponent pos) cell) (sweep sets pred table opponent (suc pos) cells)

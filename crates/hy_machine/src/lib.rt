@@ -4,7 +4,7 @@
 //! by its own writes. It has no times, chains of versions, pruning or locks.
 #![tactic(auto)]
 
-use hy_bound::{Numbers, Records, Replies, Rows, Txns};
+use hy_bound::{Records, Replies, Rows, Shapes, Txns};
 use hy_render::{Ending, Place};
 use hy_seq::Seq;
 use hy_stamp::Label;
@@ -157,8 +157,8 @@ pub struct Setting {
     pub chunks: u32,
     /// How many positions a chunk has.
     pub rows: u32,
-    /// How many columns each table has.
-    pub widths: Numbers,
+    /// The columns of each table.
+    pub shapes: Shapes,
     /// The first rows of each table.
     pub first: Seq<Rows>,
     /// The transactions of each session.

@@ -32,7 +32,12 @@ fn copy_reply(alloc: Global, reply: &Reply) -> Result<Reply, AllocError>
 {
     match reply {
         Reply::Rows(rows) => Ok(Reply::Rows(copy_rows(alloc, rows.as_slice())?)),
+        Reply::Value(total) => Ok(Reply::Value(*total)),
+        Reply::Groups(groups) => Ok(Reply::Groups(Seq::from_slice(alloc, groups.as_slice())?)),
+        Reply::Inserted => Ok(Reply::Inserted),
+        Reply::Duplicate => Ok(Reply::Duplicate),
         Reply::Updated(count) => Ok(Reply::Updated(*count)),
+        Reply::Deleted(count) => Ok(Reply::Deleted(*count)),
     }
 }
 

@@ -158,7 +158,7 @@ pub fn answered(
         records: before,
     } = begun;
     let logged = next(number(replies.len())?)?;
-    let more = records(alloc, setting.widths.as_slice(), statement, logged)?;
+    let more = records(alloc, setting.shapes.as_slice(), statement, logged)?;
     took.push(None)?;
     replies.push(reply)?;
     Ok(Begun {

@@ -1,12 +1,12 @@
 //! The visits of a statement.
 
-ghost use Rattle.std.specs.Prelude.{◌≡◌, ◌+◌, ◌*◌, [], IfOk, IfSome, map, is_some, count_by, slice_index_or};
-ghost use Rattle.hy_meaning.specs.Statement.{answer as answer_of};
+ghost use Rattle.std.specs.Prelude.{◌≡◌, ◌+◌, ◌*◌, suc, [], nat_lt, length, IfOk, IfSome, OnOk, map, is_some, count_by, slice_index_or};
+ghost use Rattle.hy_meaning.specs.Statement.{answer as answer_of, grouped};
 ghost use Rattle.hy_machine.specs.Cells.{chunk_of as part_of};
 ghost use Rattle.hy_machine.specs.Sessions.{session_at, view as view_of};
 ghost use Rattle.hy_machine.specs.Opponents.{opponent as opponent_of};
 ghost use Rattle.hy_machine.specs.Visits.{sweep as sweep_of, own_with as own_with_rows};
-ghost use Rattle.hy_machine.specs.Steps.{answer_step, read_step, written_step, write_step, rows_seen as rows_seen_of};
+ghost use Rattle.hy_machine.specs.Steps.{with_current, answer_step, read_step, written_step, write_step, rows_seen as rows_seen_of};
 
 use crate::lists::next;
 use crate::overlay::{cells_of, chunk_of, rows_of, view};
@@ -14,8 +14,8 @@ use crate::sessions::{Met, answered, put_open, replace_open, set_phase, write_ro
 use crate::states::{open_at, start_phase};
 use crate::visits::{News, sweep};
 use crate::{Begun, Cells, Current, Machine, Phase, Setting, Stepped};
-use hy_bound::{Bound, Items, Pred, Reply, Rows, Sets, Txn};
-use hy_meaning::answer;
+use hy_bound::{Aggregate, Bound, Items, On, Pred, Reply, Rows, Sets, Txn};
+use hy_meaning::{answer, group};
 use hy_render::Ending;
 use hy_seq::Seq;
 use hy_value::Row;
@@ -74,6 +74,29 @@ fn rows_seen(alloc: Global, seen: &[Cells], tables: &[u32]) -> Result<Seq<Rows>,
     Ok(all)
 }
 
+/// Whether a SELECT of so many tables has another visit after this one.
+fn goes_on(setting: &Setting, visited: u32, tables: usize) -> bool
+    ensures { result ≡ nat_lt (suc visited) (setting.now.chunks * tables) }
+{
+    let chunks = setting.chunks;
+    u128::from(visited) + 1 < u128::from(chunks) * tables as u128
+}
+
+/// A visit of a SELECT that is not the last.
+fn visit(
+    alloc: Global,
+    machine: &mut Machine,
+    session: u32,
+    visited: u32,
+) -> Result<Stepped, AllocError>
+    ensures moved { IfOk result (λ stepped. stepped ≡ Stepped.Moved) }
+    ensures machine { OnOk result (IfSome (session_at machine.old session).now (λ current. machine.new ≡ with_current machine.old session (session_at machine.old session) current.begun (Phase.Reading (suc visited)))) }
+{
+    let visited = next(visited)?;
+    set_phase(alloc, machine, session, Phase::Reading { visited });
+    Ok(Stepped::Moved)
+}
+
 /// The last visit of a SELECT, which answers.
 fn read_answer(
     alloc: Global,
@@ -83,10 +106,11 @@ fn read_answer(
     txn: &Txn,
     statement: &Bound,
     tables: &[u32],
+    ons: &[On],
     pred: &Pred,
     items: &Items,
 ) -> Result<Stepped, AllocError>
-    ensures { IfOk result (λ stepped. IfSome (session_at machine.old session).now (λ current. (machine.new, stepped) ≡ answer_step setting.now machine.old session (session_at machine.old session) txn.now current.begun statement.now (answer_of pred.now items.now (map (rows_seen_of (view_of setting.now machine.old current.begun)) tables.now)))) }
+    ensures { IfOk result (λ stepped. IfSome (session_at machine.old session).now (λ current. (machine.new, stepped) ≡ answer_step setting.now machine.old session (session_at machine.old session) txn.now current.begun statement.now (answer_of ons.now pred.now items.now (map (rows_seen_of (view_of setting.now machine.old current.begun)) tables.now)))) }
 {
     let _: Met = None;
     let Some(current) = open_at(machine, session) else {
@@ -94,7 +118,7 @@ fn read_answer(
     };
     let seen = view(alloc, setting, machine, &current.begun)?;
     let rows = rows_seen(alloc, seen.as_slice(), tables)?;
-    let reply = answer(alloc, pred, items, rows.as_slice())?;
+    let reply = answer(alloc, ons, pred, items, rows.as_slice())?;
     answer_open(alloc, setting, machine, session, txn, statement, reply)
 }
 
@@ -108,19 +132,66 @@ pub fn read(
     visited: u32,
     statement: &Bound,
     tables: &[u32],
+    ons: &[On],
     pred: &Pred,
     items: &Items,
 ) -> Result<Stepped, AllocError>
-    ensures { IfOk result (λ stepped. IfSome (session_at machine.old session).now (λ current. (machine.new, stepped) ≡ read_step setting.now machine.old session (session_at machine.old session) txn.now current.begun visited statement.now tables.now pred.now items.now)) }
+    ensures { IfOk result (λ stepped. IfSome (session_at machine.old session).now (λ current. (machine.new, stepped) ≡ read_step setting.now machine.old session (session_at machine.old session) txn.now current.begun visited statement.now (length tables.now) (answer_of ons.now pred.now items.now (map (rows_seen_of (view_of setting.now machine.old current.begun)) tables.now)))) }
 {
-    let all = u128::from(setting.chunks) * tables.len() as u128;
-    if u128::from(visited) + 1 < all {
-        let visited = next(visited)?;
-        set_phase(alloc, machine, session, Phase::Reading { visited });
-        return Ok(Stepped::Moved);
+    if goes_on(setting, visited, tables.len()) {
+        return visit(alloc, machine, session, visited);
     }
     read_answer(
-        alloc, setting, machine, session, txn, statement, tables, pred, items,
+        alloc, setting, machine, session, txn, statement, tables, ons, pred, items,
+    )
+}
+
+/// The last visit of a SELECT with GROUP BY, which answers.
+fn group_answer(
+    alloc: Global,
+    setting: &Setting,
+    machine: &mut Machine,
+    session: u32,
+    txn: &Txn,
+    statement: &Bound,
+    table: u32,
+    pred: &Pred,
+    key: u32,
+    aggregate: Aggregate,
+) -> Result<Stepped, AllocError>
+    ensures { IfOk result (λ stepped. IfSome (session_at machine.old session).now (λ current. (machine.new, stepped) ≡ answer_step setting.now machine.old session (session_at machine.old session) txn.now current.begun statement.now (grouped pred.now key aggregate (rows_seen_of (view_of setting.now machine.old current.begun) table)))) }
+{
+    let _: Met = None;
+    let Some(current) = open_at(machine, session) else {
+        return Ok(Stepped::Ended);
+    };
+    let seen = view(alloc, setting, machine, &current.begun)?;
+    let rows = rows_of(alloc, cells_of(seen.as_slice(), table))?;
+    let reply = group(alloc, pred, key, aggregate, rows.as_slice())?;
+    answer_open(alloc, setting, machine, session, txn, statement, reply)
+}
+
+/// A visit of a SELECT with GROUP BY: the last one answers.
+pub fn read_groups(
+    alloc: Global,
+    setting: &Setting,
+    machine: &mut Machine,
+    session: u32,
+    txn: &Txn,
+    visited: u32,
+    statement: &Bound,
+    table: u32,
+    pred: &Pred,
+    key: u32,
+    aggregate: Aggregate,
+) -> Result<Stepped, AllocError>
+    ensures { IfOk result (λ stepped. IfSome (session_at machine.old session).now (λ current. (machine.new, stepped) ≡ read_step setting.now machine.old session (session_at machine.old session) txn.now current.begun visited statement.now 1 (grouped pred.now key aggregate (rows_seen_of (view_of setting.now machine.old current.begun) table)))) }
+{
+    if goes_on(setting, visited, 1) {
+        return visit(alloc, machine, session, visited);
+    }
+    group_answer(
+        alloc, setting, machine, session, txn, statement, table, pred, key, aggregate,
     )
 }
 

@@ -89,25 +89,25 @@ pub fn blocker(machine: &Machine, session: u32) -> Result<Option<Label>, AllocEr
 pub fn start_phase(txn: &Txn, answered: usize) -> Phase
     ensures { result ≡ start_phase_of txn.now answered }
 {
-    match txn.statements.as_slice().get(answered) {
-        Some(
-            Bound::Select {
-                tables: _,
-                pred: _,
-                items: _,
-            },
-        ) => Phase::Reading { visited: 0 },
-        Some(
-            Bound::Update {
-                table: _,
-                sets: _,
-                pred: _,
-            },
-        ) => Phase::Writing {
+    phase_before(txn.commits, txn.statements.as_slice().get(answered))
+}
+
+/// Where a transaction stands before a statement, or before what closes it. INSERT and DELETE come
+/// later: a transaction that comes to one is rolled back, and no script with one is run yet.
+fn phase_before(commits: bool, statement: Option<&Bound>) -> Phase
+    ensures { result ≡ before_statement commits (option_copied statement.entry) }
+{
+    match statement {
+        None => closing_phase(commits),
+        Some(Bound::Select { .. } | Bound::Group { .. }) => Phase::Reading { visited: 0 },
+        Some(Bound::Update { .. }) => Phase::Writing {
             visited: 0,
             count: 0,
         },
-        None => closing_phase(txn.commits),
+        Some(Bound::Insert { .. } | Bound::Delete { .. }) => Phase::Undoing {
+            visited: 0,
+            cause: Ending::RolledBack,
+        },
     }
 }
 

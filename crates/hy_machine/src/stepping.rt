@@ -7,7 +7,7 @@ ghost use Rattle.hy_machine.specs.Steps.{reading_step, writing_step, phase_step,
 
 use crate::endings::{begin, close, stamp, undo};
 use crate::sessions::Met;
-use crate::statements::{read, write};
+use crate::statements::{read, read_groups, write};
 use crate::states::{done_count, open_at, txn_at};
 use crate::{Machine, Phase, Setting, Stepped};
 use hy_bound::{Bound, Txn};
@@ -41,6 +41,7 @@ fn reading(
     match statement {
         Bound::Select {
             tables,
+            ons,
             pred,
             items,
         } => read(
@@ -52,14 +53,20 @@ fn reading(
             visited,
             statement,
             tables.as_slice(),
+            ons.as_slice(),
             pred,
             items,
         ),
-        Bound::Update {
-            table: _,
-            sets: _,
-            pred: _,
-        } => Ok(Stepped::Ended),
+        Bound::Group {
+            table,
+            pred,
+            key,
+            aggregate,
+        } => read_groups(
+            alloc, setting, machine, session, txn, visited, statement, *table, pred, *key,
+            *aggregate,
+        ),
+        _ => Ok(Stepped::Ended),
     }
 }
 
@@ -80,14 +87,10 @@ fn writing(
         return Ok(Stepped::Ended);
     };
     match statement {
-        Bound::Select {
-            tables: _,
-            pred: _,
-            items: _,
-        } => Ok(Stepped::Ended),
         Bound::Update { table, sets, pred } => write(
             alloc, setting, machine, session, txn, visited, count, statement, *table, sets, pred,
         ),
+        _ => Ok(Stepped::Ended),
     }
 }
 

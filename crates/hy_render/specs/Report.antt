@@ -1,11 +1,12 @@
 use Rattle.std.specs.Prelude.{ℕ, suc, List, [], ◌∷◌, ◌++◌, Option, None, Some, slice_index_or, codes, length, if◌then◌else◌, ◌==◌}
 use Rattle.std.specs.List.{flat_map}
-use Rattle.std.specs.Fmt.{decimal}
+use Rattle.std.specs.Fmt.{decimal, signed_decimal}
 use Rattle.hy_value.specs.declared.Value.{Value}
-use Rattle.hy_value.specs.Print.{printed_row}
+use Rattle.hy_value.specs.Print.{printed, printed_row}
 use Rattle.hy_stamp.specs.declared.Label.{Label}
 use Rattle.hy_bound.specs.declared.Reply.{Reply}
-use Rattle.hy_bound.specs.declared.Reply.TheVariants.{Rows, Updated}
+use Rattle.hy_bound.specs.declared.Grouped.{Grouped}
+use Rattle.hy_bound.specs.declared.Reply.TheVariants.{Rows, Value as Total, Groups, Inserted, Duplicate, Updated, Deleted}
 use Rattle.hy_change.specs.declared.Change.{Change}
 use Rattle.hy_render.specs.declared.Names.{Names}
 use Rattle.hy_render.specs.declared.Ending.{Ending}
@@ -37,10 +38,19 @@ place_name names table pos = word (table_name names table) ++ decimal pos
 abbrev pub row_line : List Value → List ℕ
 row_line row = line (codes "row " ++ printed_row row)
 
--- a SELECT's rows, or how many rows an UPDATE selected
+-- a group's value and its total
+abbrev pub group_line : Grouped → List ℕ
+group_line group = line (codes "group " ++ printed group.value ++ (124 ∷ []) ++ signed_decimal group.total)
+
+-- what a SELECT shows, what an INSERT came to, how many rows an UPDATE selected or a DELETE removed
 abbrev pub reply_text : Reply → List ℕ
 reply_text (Rows rows) = line (codes "rows " ++ decimal (length rows)) ++ flat_map row_line rows
+reply_text (Total total) = line (codes "value " ++ signed_decimal total)
+reply_text (Groups groups) = line (codes "groups " ++ decimal (length groups)) ++ flat_map group_line groups
+reply_text Inserted = line (codes "inserted")
+reply_text Duplicate = line (codes "duplicate")
 reply_text (Updated count) = line (codes "updated " ++ decimal count)
+reply_text (Deleted count) = line (codes "deleted " ++ decimal count)
 
 abbrev pub ending_text : Names → Ending → List ℕ
 ending_text names (Committed place) = codes "committed " ++ decimal place

@@ -4,14 +4,14 @@
 ghost use Rattle.std.specs.Prelude.{◌≡◌, [], ◌∷◌, ◌++◌, OnOk, slice_index_or};
 ghost use Rattle.std.specs.List.{flat_map};
 ghost use Rattle.std.specs.Option.{option_copied};
-ghost use Rattle.std.specs.Fmt.{decimal};
-ghost use Rattle.hy_render.specs.Report.{line, word, table_name, label_name, place_name, row_line, reply_text, ending_text, wrote_line, placed_line, placed_lines, start_line, txn_text, row_or_none, versions, change_line, entry_line, order_lines, table_line, table_lines, text};
+ghost use Rattle.std.specs.Fmt.{decimal, signed_decimal};
+ghost use Rattle.hy_render.specs.Report.{line, word, table_name, label_name, place_name, row_line, group_line, reply_text, ending_text, wrote_line, placed_line, placed_lines, start_line, txn_text, row_or_none, versions, change_line, entry_line, order_lines, table_line, table_lines, text};
 
-use hy_bound::{Replies, Reply, Rows};
+use hy_bound::{Grouped, Replies, Reply, Rows};
 use hy_change::{Change, Changes};
 use hy_seq::Seq;
 use hy_stamp::Label;
-use hy_value::{Row, Text, print_row};
+use hy_value::{Row, Text, print, print_row};
 use std::alloc::AllocError;
 
 /// Names, in file order.
@@ -244,17 +244,63 @@ fn print_reply(reply: &Reply, out: &mut Vec<u8>) -> Result<(), AllocError>
             print_count(b"rows ", rows.len(), out)?;
             print_rows(rows.as_slice(), out)
         }
-        Reply::Updated(count) => print_updated(*count, out),
+        Reply::Value(total) => print_total(*total, out),
+        Reply::Groups(groups) => {
+            print_count(b"groups ", groups.len(), out)?;
+            print_groups(groups.as_slice(), out)
+        }
+        Reply::Inserted => print_line(b"inserted", out),
+        Reply::Duplicate => print_line(b"duplicate", out),
+        Reply::Updated(count) => print_changed(b"updated ", *count, out),
+        Reply::Deleted(count) => print_changed(b"deleted ", *count, out),
     }
 }
 
-/// Appends how many rows an UPDATE selected.
-fn print_updated(count: u64, out: &mut Vec<u8>) -> Result<(), AllocError>
-    ensures { OnOk result (out.new.items ≡ out.old.items ++ reply_text (Reply.Updated count)) }
+/// Appends a line of a word and a number of rows.
+fn print_changed(words: &[u8], count: u64, out: &mut Vec<u8>) -> Result<(), AllocError>
+    ensures { OnOk result (out.new.items ≡ out.old.items ++ line (words.now ++ decimal count)) }
 {
-    put(b"updated ", out)?;
+    put(words, out)?;
     print_number(count, out)?;
     end_line(out)
+}
+
+/// Appends the line of a total.
+fn print_total(total: i128, out: &mut Vec<u8>) -> Result<(), AllocError>
+    ensures { OnOk result (out.new.items ≡ out.old.items ++ reply_text (Reply.Value total)) }
+{
+    put(b"value ", out)?;
+    print_signed(total, out)?;
+    end_line(out)
+}
+
+/// Appends a number in decimal, with its sign where it is negative.
+fn print_signed(number: i128, out: &mut Vec<u8>) -> Result<(), AllocError>
+    ensures { OnOk result (out.new.items ≡ out.old.items ++ signed_decimal number) }
+{
+    let digits = number.to_string(*out.allocator())?;
+    put(digits.as_bytes(), out)
+}
+
+/// Appends the line of a group.
+fn print_group(group: &Grouped, out: &mut Vec<u8>) -> Result<(), AllocError>
+    ensures { OnOk result (out.new.items ≡ out.old.items ++ group_line group.now) }
+{
+    put(b"group ", out)?;
+    print(&group.value, out)?;
+    out.push(b'|')?;
+    print_signed(group.total, out)?;
+    end_line(out)
+}
+
+/// Appends a line for each group.
+fn print_groups(groups: &[Grouped], out: &mut Vec<u8>) -> Result<(), AllocError>
+    ensures { OnOk result (out.new.items ≡ out.old.items ++ flat_map group_line groups.now) }
+{
+    for group in groups {
+        print_group(group, out)?;
+    }
+    Ok(())
 }
 
 /// Appends replies.

@@ -1,8 +1,5 @@
-pub mod Numbers
-pub mod Fronts
-pub mod Loop
-pub mod Words
-pub mod SoFar
-pub mod Laws
-pub mod Rules
-pub mod Accepting
+pub mod Same
+pub mod Causes
+pub mod Tables
+pub mod Lines
+pub mod Runs

@@ -1,4 +1,7 @@
-pub mod Lexeme
-pub mod Form
-pub mod Script
+pub mod Values
+pub mod Codes
+pub mod Stocks
+pub mod Later
+pub mod Refusals
+pub mod Growing
 pub mod Reading

@@ -1,93 +1,154 @@
-//! Scripts: their form, and the one reader of them. A script makes a table of one column with its first
-//! rows, gives the transaction of each session, and says in which order the sessions take their steps.
+//! Scripts: from bytes to tables, first rows, sessions and a schedule, or to the first refusal.
 #![tactic(auto)]
 
-ghost use Rattle.std.specs.Prelude.{◌≡◌, ℕ, List, IfOk};
+ghost use Rattle.std.specs.Prelude.{◌≡◌, ℕ, List, Result};
+ghost use Rattle.hy_script.specs.declared.Options.{Options};
 ghost use Rattle.hy_script.specs.declared.Script.{Script};
-ghost use Rattle.hy_script.specs.declared.ReadError.TheVariants.{Refused, OutOfMemory};
-ghost use Rattle.hy_script.specs.Script.{Spells};
-
-mod lexemes;
-mod schedule;
-mod sessions;
-mod statements;
-mod whole;
+ghost use Rattle.hy_script.specs.declared.Refused.{Refused};
+ghost use Rattle.hy_script.specs.Reading.{Reads, Answers, Says, error_of as error_of_halt};
 
 use hy_bound::{Rows, Schedule, Txns};
+use hy_schema::Catalog;
 use hy_seq::Seq;
 use hy_value::Text;
-use lexemes::Refusal;
-use std::alloc::{AllocError, AllocFailed, Global};
-use std::str;
+use std::alloc::{AllocError, Global};
 
-/// A script has at most this many bytes.
-const MOST_BYTES: usize = 16_777_216;
+mod codes;
+mod growing;
+mod later;
+mod reading;
+mod stocks;
 
-/// Names, in the order of the script.
-pub type Texts = Seq<Text>;
+pub use codes::Code;
+use growing::SoFar;
+use reading::{Halt, Step, line_of};
 
-/// A script with its names resolved: the number of a table, a column or a session is its place among them.
+/// Which statements a script may have.
+#[derive(Clone, Copy, Debug, PartialEq, Eq)]
+pub enum Dialect {
+    /// All of the language.
+    Whole,
+    /// Those that run today: sessions of one transaction that commits, SELECT of one table without groups,
+    /// UPDATE with values in at most one session, turns of whole statements. Any other is a syntax error at
+    /// its first byte.
+    FirstForm,
+}
+
+/// The chunks of a table, the rows of a chunk, and which statements a script may have.
+#[derive(Clone, Copy, Debug, PartialEq, Eq)]
+pub struct Options {
+    /// How many chunks each table has.
+    pub chunks: u32,
+    /// How many rows each chunk has.
+    pub rows: u32,
+    /// The statements that the script may have.
+    pub dialect: Dialect,
+}
+
+/// A session and its transactions.
+#[derive(Drop)]
+pub struct NamedTxns {
+    /// The session's name.
+    pub name: Text,
+    /// Its transactions, in order.
+    pub txns: Txns,
+}
+
+/// A script.
 #[derive(Drop)]
 pub struct Script {
-    /// The names of the tables.
-    pub tables: Texts,
+    /// The tables.
+    pub catalog: Catalog,
     /// Of each table its first rows.
     pub rows: Seq<Rows>,
-    /// The names of the sessions.
-    pub sessions: Texts,
-    /// Of each session its transactions.
-    pub programs: Seq<Txns>,
-    /// The turns of the sessions.
+    /// The sessions, by number.
+    pub sessions: Seq<NamedTxns>,
+    /// The schedule.
     pub schedule: Schedule,
+    /// The chunks and rows of its tables.
+    pub options: Options,
+}
+
+/// A refusal of a script.
+#[derive(Clone, Copy, Debug, PartialEq, Eq)]
+pub struct Refused {
+    /// The line, from 1.
+    pub line: u64,
+    /// The cause.
+    pub code: Code,
 }
 
 /// Why there is no script.
 #[derive(Clone, Copy, Debug, PartialEq, Eq)]
 pub enum ReadError {
-    /// The bytes are no script.
-    Refused,
-    /// There was not enough memory.
+    /// The script is refused.
+    Refused(Refused),
+    /// There is no memory.
     OutOfMemory,
 }
 
-impl From<Refusal> for ReadError {
-    ghost from_gives = { λ _ e. e ≡ Refused };
-
-    fn from(_refusal: Refusal) -> ReadError {
-        ReadError::Refused
-    }
-}
+/// How many bytes a script may have.
+const MOST_BYTES: usize = 16_777_216;
 
 impl From<AllocError> for ReadError {
-    ghost from_gives = { λ _ e. e ≡ OutOfMemory };
+    ghost use Rattle.std.specs.Prelude.{◌≡◌};
+    ghost use Rattle.hy_script.specs.declared.ReadError.{ReadError};
 
-    fn from(_error: AllocError) -> ReadError {
+    ghost from_gives = { λ _ error. error ≡ ReadError.OutOfMemory };
+
+    fn from(_: AllocError) -> ReadError {
         ReadError::OutOfMemory
     }
 }
 
-impl<T: Drop> From<AllocFailed<T>> for ReadError {
-    ghost from_gives = { λ _ e. e ≡ OutOfMemory };
-
-    fn from(_failed: AllocFailed<T>) -> ReadError {
-        ReadError::OutOfMemory
-    }
-}
-
-/// The script that the bytes spell, all of the bytes.
-pub fn read(alloc: Global, bytes: &[u8]) -> Result<Script, ReadError>
-    // What is read is spelled so.
-    ensures accepted { IfOk result (λ script. Spells bytes.now script) }
-    // Only what spells no script is refused.
-    ensures refused { result ≡ Err ReadError.Refused → (script : Script) → Spells bytes.now script → ⊥ }
+/// The script that the bytes spell, or the first refusal.
+pub fn read(alloc: Global, bytes: &[u8], options: &Options) -> Result<Script, ReadError>
+    ensures { Answers result bytes.now options.now }
 {
-    if bytes.len() > MOST_BYTES || str::from_utf8(bytes).is_err() {
-        return Err(ReadError::Refused);
+    if bytes.len() > MOST_BYTES {
+        return Err(ReadError::Refused(Refused {
+            line: 1,
+            code: Code::TooLong,
+        }));
     }
-    whole::script(alloc, bytes)
+    if str::from_utf8(bytes).is_err() {
+        return Err(ReadError::Refused(Refused {
+            line: 1,
+            code: Code::NotUtf8,
+        }));
+    }
+    statements(alloc, bytes, options)
 }
 
-/// A law: no bytes spell two scripts.
-pub fn spelled_once()
-    ensures { (bytes : List ℕ) (s t : Script) → Spells bytes s → Spells bytes t → s ≡ t }
+/// Reads the statements of a script.
+fn statements(alloc: Global, script: &[u8], options: &Options) -> Result<Script, ReadError>
+    ensures { Says result script.now options.now }
+{
+    let mut sofar = SoFar::new(alloc);
+    let mut at = 0;
+    loop {
+        match sofar.step(alloc, script, options, at) {
+            Ok(Step::GoOn(end)) => at = end,
+            Ok(Step::End) => return Ok(sofar.into_script(alloc, options)?),
+            Err(halt) => return Err(error_of(script, halt)),
+        }
+    }
+}
+
+/// The error that a halt is.
+fn error_of(script: &[u8], halt: Halt) -> ReadError
+    ensures { result ≡ error_of_halt script.now halt }
+{
+    match halt {
+        Halt::Refused { code, at } => ReadError::Refused(Refused {
+            line: line_of(script, at),
+            code,
+        }),
+        Halt::OutOfMemory => ReadError::OutOfMemory,
+    }
+}
+
+/// A law: reading bytes comes to one answer.
+pub fn read_once()
+    ensures { (bytes : List ℕ) (options : Options) (one other : Result Script Refused) → Reads bytes options one → Reads bytes options other → one ≡ other }
 {}

@@ -4,6 +4,10 @@
 #[cfg(test)]
 mod faults;
 #[cfg(test)]
+mod front;
+#[cfg(test)]
+mod language;
+#[cfg(test)]
 mod lower;
 #[cfg(test)]
 mod machines;

@@ -1,6 +1,6 @@
 //! One row for each call of the lower crates, with ample memory.
 
-use hy_bound::{Assign, Items, Pred, Record, SetExpr, Side};
+use hy_bound::{Assign, Pred, Record, SetExpr, Side};
 use hy_outside::{
     CleanSink, CleanSource, MemSink, MemSource, ReadAllError, Sink, Source, StdSink, StdSource,
     read_all, write_all,
@@ -23,11 +23,7 @@ fn row(alloc: Global, numbers: &[i64]) -> Result<Row, AllocError> {
 
 /// A column compared with a number.
 fn compare(column: u32, op: Cmp, number: i64) -> Pred {
-    Pred::Compare {
-        column,
-        op,
-        side: Side::Literal(Value::Int(number)),
-    }
+    Pred::compare(column, op, Side::Literal(Value::Int(number)))
 }
 
 #[test]
@@ -205,7 +201,7 @@ fn predicates_and_hits(rt: HostRuntime) -> Result<(), Fail> {
     let any = Record {
         statement: 1,
         table: 0,
-        pred: Pred::True,
+        pred: Pred::always(),
         columns: ColMask::none(),
     };
     assert!(rt; !hy_bound::hits(&any, Some(&before), Some(&after)));
@@ -228,7 +224,7 @@ fn set_reads_the_row_before(rt: HostRuntime) -> Result<(), Fail> {
     let mut sets = Vec::new(rt.alloc());
     sets.push(Assign {
         column: 1,
-        value: SetExpr::Literal(Value::Int(90)),
+        value: SetExpr::literal(Value::Int(90)),
     })?;
     let new = hy_bound::set_row(
         rt.alloc(),

@@ -1,6 +1,8 @@
 //! The machine step by step, and the records of reads.
 
-use hy_bound::{Assign, Bound, Item, Items, Numbers, Pred, SetExpr, Side, Statements, Txn, Txns};
+use hy_bound::{
+    Assign, Bound, Item, Items, Pred, SetExpr, Shape, Shapes, Side, Statements, Txn, Txns,
+};
 use hy_machine::{Machine, Setting, Stepped, opening, outcome, step};
 use hy_render::Ending;
 use hy_seq::Seq;
@@ -10,19 +12,22 @@ use std::alloc::{AllocError, Global};
 use std::process::Abort;
 use std::test::Fail;
 
+/// A table of one column without a key.
+const ONE_COLUMN: Shape = Shape {
+    width: 1,
+    key: None,
+};
+
 /// The one column compared with a number.
 fn compare(op: Cmp, number: i64) -> Pred {
-    Pred::Compare {
-        column: 0,
-        op,
-        side: Side::Literal(Value::Int(number)),
-    }
+    Pred::compare(0, op, Side::Literal(Value::Int(number)))
 }
 
 /// SELECT of the one column of the one table, where it is above 0.
 fn select(alloc: Global) -> Result<Bound, AllocError> {
     Ok(Bound::Select {
         tables: Seq::from_slice(alloc, &[0])?,
+        ons: Seq::new(alloc),
         pred: compare(Cmp::Gt, 0),
         items: Items::Columns(Seq::from_slice(alloc, &[0])?),
     })
@@ -30,13 +35,14 @@ fn select(alloc: Global) -> Result<Bound, AllocError> {
 
 /// UPDATE of the one column to 5, where it is 1.
 fn update(alloc: Global) -> Result<Bound, AllocError> {
-    let set = Assign {
+    let mut sets = Seq::new(alloc);
+    sets.push(Assign {
         column: 0,
-        value: SetExpr::Literal(Value::Int(5)),
-    };
+        value: SetExpr::literal(Value::Int(5)),
+    })?;
     Ok(Bound::Update {
         table: 0,
-        sets: Seq::from_slice(alloc, &[set])?,
+        sets,
         pred: compare(Cmp::Eq, 1),
     })
 }
@@ -63,11 +69,11 @@ fn writer_and_reader(alloc: Global) -> Result<Setting, AllocError> {
     let mut programs = Seq::new(alloc);
     programs.push(program(alloc, update(alloc)?)?)?;
     programs.push(program(alloc, select(alloc)?)?)?;
-    let widths: Numbers = Seq::from_slice(alloc, &[1])?;
+    let shapes: Shapes = Seq::from_slice(alloc, &[ONE_COLUMN])?;
     Ok(Setting {
         chunks: 1,
         rows: 4,
-        widths,
+        shapes,
         first,
         programs,
     })
@@ -138,7 +144,7 @@ fn a_schedule_of_single_steps_is_run(rt: HostRuntime) -> Result<(), Fail> {
 #[test]
 fn an_update_logs_what_its_condition_reads(rt: HostRuntime) -> Result<(), Fail> {
     let alloc = rt.alloc();
-    let all = hy_bound::records(alloc, &[1], &update(alloc)?, 3)?;
+    let all = hy_bound::records(alloc, &[ONE_COLUMN], &update(alloc)?, 3)?;
     assert_eq!(rt; all.len(), 1);
     for of in all.as_slice() {
         assert_eq!(rt; of.statement, 3);

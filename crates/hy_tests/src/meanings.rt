@@ -14,18 +14,15 @@ fn pair(alloc: Global, first: i64, second: i64) -> Result<Row, AllocError> {
 
 /// UPDATE of the one table: its second column is set where its first one is this.
 fn update(alloc: Global, first: i64, second: i64) -> Result<Bound, AllocError> {
-    let set = Assign {
+    let mut sets = Vec::new(alloc);
+    sets.push(Assign {
         column: 1,
-        value: SetExpr::Literal(Value::Int(second)),
-    };
+        value: SetExpr::literal(Value::Int(second)),
+    })?;
     Ok(Bound::Update {
         table: 0,
-        sets: Seq::from_slice(alloc, &[set])?,
-        pred: Pred::Compare {
-            column: 0,
-            op: Cmp::Eq,
-            side: Side::Literal(Value::Int(first)),
-        },
+        sets: Seq::from_vec(sets),
+        pred: Pred::compare(0, Cmp::Eq, Side::Literal(Value::Int(first))),
     })
 }
 
@@ -41,6 +38,7 @@ fn a_transaction_alone(rt: HostRuntime) -> Result<(), Fail> {
     statements.push(update(alloc, 1, 90)?)?;
     let (replies, after, stop) = hy_meaning::alone(
         alloc,
+        &[],
         statements.as_slice(),
         Seq::from_vec(tables),
     )?;
@@ -68,7 +66,13 @@ fn an_answer_over_two_tables_is_a_product(rt: HostRuntime) -> Result<(), Fail> {
         tables.push(Seq::from_vec(rows))?;
     }
     let items = Items::Columns(Seq::from_slice(alloc, &[2, 0])?);
-    let Reply::Rows(rows) = hy_meaning::answer(alloc, &Pred::True, &items, tables.as_slice())?
+    let Reply::Rows(rows) = hy_meaning::answer(
+        alloc,
+        &[],
+        &Pred::always(),
+        &items,
+        tables.as_slice(),
+    )?
     else {
         return Err(Fail::from("a SELECT has rows"));
     };

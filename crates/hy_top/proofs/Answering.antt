@@ -1,71 +1,136 @@
-use Rattle.std.proofs.Common.{◌≡◌, ◌≢◌, ℕ, ◌+◌, ◌<◌, ◌≤◌, List, [], ◌∷◌, Option, None, Some, IsNone, IsSome, IfSome, length, take, drop, refl, ap, sym, ◌∙◌, subst, arith, ◌⊎◌, inl, inr}
+-- How a report answers what was read.
+use Rattle.std.specs.Prelude.{IfErr}
+use Rattle.std.proofs.Common.{◌≡◌, ◌≢◌, ℕ, ◌+◌, ◌*◌, ◌<◌, ◌≤◌, List, [], ◌∷◌, Option, None, Some, Result, Ok, Err, IsNone, IsSome, IfSome, length, take, drop, refl, ap, sym, ◌∙◌, subst, arith, ◌⊎◌, inl, inr}
 use Rattle.std.proofs.Math.Logic.{⊎_elim}
-use Rattle.std.proofs.lemmas.List.{take_all, drop_all, length-take-le, length-drop}
+use Rattle.std.proofs.lemmas.List.{take_all, drop_all, length-take-le}
 use Rattle.hy_bound.specs.declared.Item.{Item}
 use Rattle.hy_outside.specs.Telling.{Takes, TakesSome, GivesAll, GivesPast}
 use Rattle.hy_script.specs.declared.Script.{Script}
-use Rattle.hy_script.specs.Script.{Spells}
+use Rattle.hy_script.specs.declared.Refused.{Refused}
+use Rattle.hy_script.specs.declared.Options.{Options}
+use Rattle.hy_script.specs.declared.codes.Code.TheVariants.{TooLong}
+use Rattle.hy_script.specs.Reading.{Reads, too_long}
 use Rattle.hy_render.specs.declared.Outcome.{Outcome}
 use Rattle.hy_machine.specs.declared.Setting.{Setting}
 use Rattle.hy_machine.specs.Runs.{run}
 use Rattle.hy_machine.specs.Outcomes.{outcome}
 use Rattle.hy_lawful.specs.Lawful.{Lawful}
 use Rattle.hy_lawful.specs.FirstForm.{IsFirstForm, IsOfWholeStatements}
-use Rattle.hy_top.specs.Words.{refusal_line}
-use Rattle.hy_top.specs.Program.{most_bytes, bytes_read, bytes_left, setting_of, outcome_of}
-use Rattle.hy_top.specs.Reports.{IsRefused, Writes, Answers, Runs}
-use Rattle.hy_top.proofs.Forms.{spelled_is_first, spelled_is_whole}
+use Rattle.hy_words.specs.declared.Command.{Command}
+use Rattle.hy_words.specs.declared.Command.TheVariants.{Run, Check}
+use Rattle.hy_top.specs.Lines.{refusal_line}
+use Rattle.hy_top.specs.Program.{most_bytes, bytes_read, bytes_left, options_of, outcome_of}
+use Rattle.hy_top.specs.Settings.{setting_of}
+use Rattle.hy_script.specs.declared.Dialect.TheVariants.{FirstForm}
+use Rattle.hy_top.specs.Reports.{IsRefused, Spells, IsRun, Writes, Answers, Runs, Checks, Does}
 
 none_is : (o : Option Outcome) → IsNone o → o ≡ None
 none_is None h = refl
 none_is (Some x) h = cc
 
-none_is_not_some : IsSome {T = Outcome} None → ⊥
-none_is_not_some h = cc
+none_is_not_some : (o : Option Outcome) → IsNone o → IsSome o → ⊥
+none_is_not_some None h some = cc
+none_is_not_some (Some x) h some = cc
 
 -- the status of what was written
 done_or_four : (done status : ℕ) (before after : Option (List ℕ)) (bytes : List ℕ) → Writes done status before after bytes → (status ≡ done) ⊎ (status ≡ 4)
 done_or_four done status before after bytes w = ⊎_elim (λ p. inl p.0) (λ p. inr p.0) w
 
--- a refusal is an answer to what spells no script
-pub refused_answers : (bytes : List ℕ) (status : ℕ) (given : Option Outcome) (before after : Option (List ℕ)) → IsRefused bytes
-    → Writes 2 status before after refusal_line → IsNone given → Answers bytes status given before after
-refused_answers bytes status given before after unspelled w nothing =
-    let is : given ≡ None = none_is given nothing in
+-- reading comes to one answer
+abbrev pub Once : Type 0
+Once = (bytes : List ℕ) (options : Options) (one other : Result Script Refused) → Reads bytes options one → Reads bytes options other → one ≡ other
+
+not_both : (script : Script) (why : Refused) → ◌≡◌ {A = Result Script Refused} (Ok script) (Err why) → ⊥
+not_both script why h = absurd cc
+
+same_script : (s t : Script) → ◌≡◌ {A = Result Script Refused} (Ok s) (Ok t) → s ≡ t
+same_script s t h = cc
+
+same_refusal : (s t : Refused) → ◌≡◌ {A = Result Script Refused} (Err s) (Err t) → s ≡ t
+same_refusal s t h = cc
+
+abbrev IsLawful : Script → Option Outcome → Type 0
+IsLawful script given = IfSome given (λ o. Lawful (setting_of script).shapes script.rows (setting_of script).programs o)
+
+no_outcome : (script : Script) (given : Option Outcome) → IsNone given → IsLawful script given
+no_outcome script None h = tt
+no_outcome script (Some o) h = absurd (none_is_not_some (Some o) h (let some : IsSome (Some o) = search in some))
+
+-- a refusal is an answer to what is refused
+pub refused_answers : (command : Command) (bytes : List ℕ) (why : Refused) (status : ℕ) (given : Option Outcome) (before after : Option (List ℕ)) → Once → IsRefused command bytes why
+    → ((status ≡ 5) ⊎ Writes 2 status before after (refusal_line why)) → IsNone given → Answers command bytes status given before after
+refused_answers command bytes why status given before after once is w nothing =
     record {
-      refused = λ h. inr w;
-      refuses = λ h. unspelled;
-      run = λ script s. absurd (unspelled script s);
-      lawful = λ script s. absurd (unspelled script s);
-      outcome_there = λ h. absurd (none_is_not_some (subst IsSome is h));
+      refused = λ other h. subst (λ (x : Refused). (status ≡ 5) ⊎ Writes 2 status before after (refusal_line x)) (same_refusal why other (once bytes (options_of command) (Err why) (Err other) is h)) w;
+      refuses = λ h. (why, is);
+      does = λ script s. absurd (not_both script why (once bytes (options_of command) (Ok script) (Err why) s is));
+      lawful = λ script s. absurd (not_both script why (once bytes (options_of command) (Ok script) (Err why) s is));
+      outcome_there = λ h. absurd (none_is_not_some given nothing h);
     }
 
--- the run of a script is an answer to what spells it, and it alone
-pub run_answers : (bytes : List ℕ) (script : Script) (status : ℕ) (given : Option Outcome) (before after : Option (List ℕ)) → Spells bytes script
-    → ((other : Script) → Spells bytes other → script ≡ other)
-    → ((setting : Setting) (schedule : List Item) → IsFirstForm setting → IsOfWholeStatements schedule → Lawful setting.first setting.programs (outcome setting (run setting schedule)))
-    → ((status ≡ 5) × IsNone given) ⊎ Runs script status given before after
-    → Answers bytes status given before after
-run_answers bytes script status given before after s only law (inl none) =
-    let is : given ≡ None = none_is given none.1 in
+-- the machine's theorem, and what it asks of a script that is read to be run
+abbrev pub Theorem : Type 0
+Theorem = (setting : Setting) (schedule : List Item) → IsFirstForm setting → IsOfWholeStatements schedule → Lawful setting.shapes setting.first setting.programs (outcome setting (run setting schedule))
+
+abbrev pub ReadsFirst : Command → List ℕ → Type 0
+ReadsFirst command bytes = (script : Script) → IsRun command → Spells command bytes script → IsFirstForm (setting_of script) × IsOfWholeStatements script.schedule
+
+-- what is read to be run is of the first form
+pub reads_first : (command : Command) (bytes : List ℕ) → ((all : List ℕ) (options : Options) (script : Script) → options.dialect ≡ FirstForm → Reads all options (Ok script) → IsFirstForm (setting_of script) × IsOfWholeStatements script.schedule)
+    → ReadsFirst command bytes
+reads_first (Run prune chunks rows) bytes law script run s = law bytes (options_of (Run prune chunks rows)) script refl s
+reads_first (Check chunks rows) bytes law script run s = absurd run
+
+-- nothing was done for want of memory
+gave_up : (command : Command) (bytes : List ℕ) (script : Script) (status : ℕ) (given : Option Outcome) (before after : Option (List ℕ)) → Once → Spells command bytes script → status ≡ 5 → IsNone given → Answers command bytes status given before after
+gave_up command bytes script status given before after once s five nothing =
     record {
-      refused = λ h. inl none.0;
-      refuses = λ h. absurd (omega (arith, none.0));
-      run = λ other t. inl none.0;
-      lawful = λ other t. subst (λ (o : Option Outcome). IfSome o (λ x. Lawful other.rows other.programs x)) (sym is) tt;
-      outcome_there = λ h. absurd (none_is_not_some (subst IsSome is h));
+      refused = λ why h. inl five;
+      refuses = λ h. absurd (omega (arith, five));
+      does = λ other t. inl five;
+      lawful = λ other t. no_outcome other given nothing;
+      outcome_there = λ h. absurd (none_is_not_some given nothing h);
     }
-run_answers bytes script status given before after s only law (inr ran) =
+
+not_two : (status : ℕ) → (status ≡ 0) ⊎ (status ≡ 4) → status ≡ 2 → ⊥
+not_two status ends two = ⊎_elim (λ e. let never : ⊥ = omega arith in never) (λ e. let never : ⊥ = omega arith in never) ends
+
+-- a run is an answer
+ran_answers : (prune : _) (chunks rows : ℕ) (bytes : List ℕ) (script : Script) (status : ℕ) (given : Option Outcome) (before after : Option (List ℕ)) → Once → Theorem → ReadsFirst (Run prune chunks rows) bytes
+    → Spells (Run prune chunks rows) bytes script → Runs script status given before after → Answers (Run prune chunks rows) bytes status given before after
+ran_answers prune chunks rows bytes script status given before after once law first s ran =
     let ends : (status ≡ 0) ⊎ (status ≡ 4) = done_or_four 0 status before after _ ran.writes in
+    let only : (other : Script) → Spells (Run prune chunks rows) bytes other → script ≡ other = λ other t. same_script script other (once bytes (options_of (Run prune chunks rows)) (Ok script) (Ok other) s t) in
+    let is_first = first script tt s in
     record {
-      refused = λ h. absurd (h script s);
-      refuses = λ h. absurd (⊎_elim (λ e. let never : ⊥ = omega arith in never) (λ e. let never : ⊥ = omega arith in never) ends);
-      run = λ other t. inr (subst (λ (x : Script). Runs x status given before after) (only other t) ran);
-      lawful = λ other t. subst (λ (x : Script). IfSome given (λ o. Lawful x.rows x.programs o)) (only other t)
-          (subst (λ (o : Option Outcome). IfSome o (λ x. Lawful script.rows script.programs x)) (sym ran.outcome_is)
-          (law (setting_of script) script.schedule (spelled_is_first bytes script s) (spelled_is_whole bytes script s)));
-      outcome_there = λ h. ((script, s), ends);
+      refused = λ why h. absurd (not_both script why (once bytes (options_of (Run prune chunks rows)) (Ok script) (Err why) s h));
+      refuses = λ h. absurd (not_two status ends h);
+      does = λ other t. inr (subst (λ (x : Script). Runs x status given before after) (only other t) ran);
+      lawful = λ other t. subst (λ (x : Script). IsLawful x given) (only other t)
+          (subst (λ (o : Option Outcome). IsLawful script o) (sym ran.outcome_is) (law (setting_of script) script.schedule is_first.0 is_first.1));
+      outcome_there = λ h. (tt, (script, s), ends);
     }
+
+-- a check is an answer
+checked_answers : (chunks rows : ℕ) (bytes : List ℕ) (script : Script) (status : ℕ) (given : Option Outcome) (before after : Option (List ℕ)) → Once
+    → Spells (Check chunks rows) bytes script → Checks script status given before after → Answers (Check chunks rows) bytes status given before after
+checked_answers chunks rows bytes script status given before after once s done =
+    let ends : (status ≡ 0) ⊎ (status ≡ 4) = done_or_four 0 status before after _ done.writes in
+    let only : (other : Script) → Spells (Check chunks rows) bytes other → script ≡ other = λ other t. same_script script other (once bytes (options_of (Check chunks rows)) (Ok script) (Ok other) s t) in
+    record {
+      refused = λ why h. absurd (not_both script why (once bytes (options_of (Check chunks rows)) (Ok script) (Err why) s h));
+      refuses = λ h. absurd (not_two status ends h);
+      does = λ other t. inr (subst (λ (x : Script). Checks x status given before after) (only other t) done);
+      lawful = λ other t. no_outcome other given done.nothing_is_run;
+      outcome_there = λ h. absurd (none_is_not_some given done.nothing_is_run h);
+    }
+
+-- what was done with a script is an answer to the bytes that spell it
+pub done_answers : (command : Command) (bytes : List ℕ) (script : Script) (status : ℕ) (given : Option Outcome) (before after : Option (List ℕ)) → Once → Theorem → ReadsFirst command bytes → Spells command bytes script
+    → ((status ≡ 5) × IsNone given) ⊎ Does command script status given before after → Answers command bytes status given before after
+done_answers command bytes script status given before after once law first s (inl none) = gave_up command bytes script status given before after once s none.0 none.1
+done_answers (Run prune chunks rows) bytes script status given before after once law first s (inr ran) = ran_answers prune chunks rows bytes script status given before after once law first s ran
+done_answers (Check chunks rows) bytes script status given before after once law first s (inr done) = checked_answers chunks rows bytes script status given before after once s done
 
 whole_is_read : (all : List ℕ) → length all ≤ most_bytes → bytes_read all ≡ all
 whole_is_read all h = take_all (most_bytes + 1) all (omega arith)
@@ -80,21 +145,24 @@ read_whole status None after bytes h short = tt
 read_whole status (Some all) after bytes h short =
     inr (inr (h.1 ∙ ap Some (sym (nothing_is_left all (subst (λ (b : List ℕ). length b ≤ most_bytes) h.0 short)))))
 
-pub answers_whole : (status : ℕ) (given : Option Outcome) (old new : Option (List ℕ)) (before after : Option (List ℕ)) (bytes : List ℕ) → GivesAll before after bytes → length bytes ≤ most_bytes
-    → Answers bytes status given old new → IfSome before (λ all. (status ≡ 3) ⊎ Answers (bytes_read all) status given old new)
-answers_whole status given old new None after bytes h short a = tt
-answers_whole status given old new (Some all) after bytes h short a =
-    inr (subst (λ (b : List ℕ). Answers b status given old new)
+pub answers_whole : (command : Command) (status : ℕ) (given : Option Outcome) (old new : Option (List ℕ)) (before after : Option (List ℕ)) (bytes : List ℕ) → GivesAll before after bytes → length bytes ≤ most_bytes
+    → Answers command bytes status given old new → IfSome before (λ all. (status ≡ 3) ⊎ Answers command (bytes_read all) status given old new)
+answers_whole command status given old new None after bytes h short a = tt
+answers_whole command status given old new (Some all) after bytes h short a =
+    inr (subst (λ (b : List ℕ). Answers command b status given old new)
     (h.0 ∙ sym (whole_is_read all (subst (λ (b : List ℕ). length b ≤ most_bytes) h.0 short))) a)
 
--- what is too long spells no script
-cut_is_refused : (all : List ℕ) → most_bytes < length all → IsRefused (bytes_read all)
-cut_is_refused all long script s =
-    let so_long : length (bytes_read all) ≡ most_bytes + 1 = length-take-le (most_bytes + 1) all (omega arith) in
-    omega (arith, s.short)
+-- what is too long is refused
+abbrev pub too_long_refusal : Refused
+too_long_refusal = record { line = 1; code = TooLong }
 
-pub answers_cut : (status : ℕ) (given : Option Outcome) (old new : Option (List ℕ)) (before after : Option (List ℕ)) → GivesPast before after most_bytes
-    → Writes 2 status old new refusal_line → IsNone given → IfSome before (λ all. (status ≡ 3) ⊎ Answers (bytes_read all) status given old new)
-answers_cut status given old new None after h w nothing = tt
-answers_cut status given old new (Some all) after h w nothing =
-    inr (refused_answers (bytes_read all) status given old new (cut_is_refused all h.0) w nothing)
+cut_is_refused : (command : Command) (all : List ℕ) → most_bytes < length all → IsRefused command (bytes_read all) too_long_refusal
+cut_is_refused command all long =
+    let so_long : length (bytes_read all) ≡ most_bytes + 1 = length-take-le (most_bytes + 1) all (omega arith) in
+    too_long (omega (arith, so_long))
+
+pub answers_cut : (command : Command) (status : ℕ) (given : Option Outcome) (old new : Option (List ℕ)) (before after : Option (List ℕ)) → Once → GivesPast before after most_bytes
+    → ((status ≡ 5) ⊎ Writes 2 status old new (refusal_line too_long_refusal)) → IsNone given → IfSome before (λ all. (status ≡ 3) ⊎ Answers command (bytes_read all) status given old new)
+answers_cut command status given old new None after once h w nothing = tt
+answers_cut command status given old new (Some all) after once h w nothing =
+    inr (refused_answers command (bytes_read all) too_long_refusal status given old new once (cut_is_refused command all h.0) w nothing)

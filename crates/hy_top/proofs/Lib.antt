@@ -1,3 +1,9 @@
-pub mod Forms
+pub mod Lists
+pub mod Words
+pub mod Causes
+pub mod Bound
+pub mod Places
+pub mod Sessions
+pub mod Kept
+pub mod Reading
 pub mod Answering
-pub mod Commands

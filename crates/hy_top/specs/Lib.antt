@@ -1,3 +1,4 @@
-pub mod Words
+pub mod Lines
+pub mod Settings
 pub mod Program
 pub mod Reports

@@ -1,11 +1,15 @@
--- What a script of the first form comes to.
-use Rattle.std.specs.Prelude.{ℕ, ◌+◌, List, [], ◌∷◌, take, drop}
+-- What a script comes to.
+use Rattle.std.specs.Prelude.{ℕ, ◌+◌, List, take, drop, map}
 use Rattle.hy_script.specs.declared.Script.{Script}
+use Rattle.hy_script.specs.declared.Options.{Options}
+use Rattle.hy_script.specs.declared.Dialect.TheVariants.{Whole, FirstForm}
 use Rattle.hy_render.specs.declared.Names.{Names}
 use Rattle.hy_render.specs.declared.Outcome.{Outcome}
-use Rattle.hy_machine.specs.declared.Setting.{Setting}
+use Rattle.hy_top.specs.Settings.{setting_of}
 use Rattle.hy_machine.specs.Runs.{run}
 use Rattle.hy_machine.specs.Outcomes.{outcome}
+use Rattle.hy_words.specs.declared.Command.{Command}
+use Rattle.hy_words.specs.declared.Command.TheVariants.{Run, Check}
 
 -- how many bytes a script may have
 abbrev pub most_bytes : ℕ
@@ -19,12 +23,14 @@ bytes_read all = take (most_bytes + 1) all
 abbrev pub bytes_left : List ℕ → List ℕ
 bytes_left all = drop (most_bytes + 1) all
 
--- the machine's setting: each table is one chunk of 4,096 positions, and has one column
-abbrev pub setting_of : Script → Setting
-setting_of script = record { chunks = 1; rows = 4096; widths = 1 ∷ []; first = script.rows; programs = script.programs }
+-- how a command reads a script: what is run has the statements that run today
+abbrev pub options_of : Command → Options
+options_of (Run prune chunks rows) = record { chunks = chunks; rows = rows; dialect = FirstForm }
+options_of (Check chunks rows) = record { chunks = chunks; rows = rows; dialect = Whole }
 
+-- the names that its outcome is printed with
 abbrev pub names_of : Script → Names
-names_of script = record { tables = script.tables; sessions = script.sessions }
+names_of script = record { tables = map (λ table. table.name) script.catalog; sessions = map (λ session. session.name) script.sessions }
 
 -- the outcome of the machine's run of the script
 abbrev pub outcome_of : Script → Outcome

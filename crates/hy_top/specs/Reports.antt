@@ -1,21 +1,29 @@
 -- What a call of the program reports, and what it leaves.
-use Rattle.std.specs.Prelude.{◌≡◌, ℕ, List, Option, None, Some, IsSome, IfSome, ◌⊎◌}
+use Rattle.std.specs.Prelude.{◌≡◌, ℕ, List, Option, None, Some, Result, Ok, Err, IsNone, IsSome, IfSome, ◌⊎◌}
 use Rattle.hy_outside.specs.Telling.{Takes, TakesSome}
 use Rattle.hy_script.specs.declared.Script.{Script}
-use Rattle.hy_script.specs.Script.{Spells}
+use Rattle.hy_script.specs.declared.Refused.{Refused}
+use Rattle.hy_script.specs.Reading.{Reads}
 use Rattle.hy_render.specs.declared.Outcome.{Outcome}
 use Rattle.hy_render.specs.Report.{text}
 use Rattle.hy_lawful.specs.Lawful.{Lawful}
-use Rattle.hy_top.specs.Words.{refusal_line}
-use Rattle.hy_top.specs.Program.{names_of, outcome_of}
+use Rattle.hy_words.specs.declared.Command.{Command}
+use Rattle.hy_words.specs.declared.Command.TheVariants.{Run, Check}
+use Rattle.hy_top.specs.Lines.{refusal_line, checked}
+use Rattle.hy_top.specs.Program.{options_of, names_of, outcome_of}
+use Rattle.hy_top.specs.Settings.{setting_of}
 
--- the bytes spell no script
-abbrev pub IsRefused : List ℕ → Type 0
-IsRefused bytes = (script : Script) → Spells bytes script → ⊥
+-- the bytes are refused by a command, and how
+abbrev pub IsRefused : Command → List ℕ → Refused → Type 0
+IsRefused command bytes refused = Reads bytes (options_of command) (Err refused)
 
--- the bytes spell a script
-abbrev pub IsAccepted : List ℕ → Type 0
-IsAccepted bytes = (script : Script) × Spells bytes script
+-- the bytes spell this script
+abbrev pub Spells : Command → List ℕ → Script → Type 0
+Spells command bytes script = Reads bytes (options_of command) (Ok script)
+
+abbrev pub IsRun : Command → Type 0
+IsRun (Run prune chunks rows) = Unit {0}
+IsRun (Check chunks rows) = ⊥
 
 -- a text was written whole, and the status is the one for that, or its first bytes were, and the status is 4
 abbrev pub Writes : ℕ → ℕ → Option (List ℕ) → Option (List ℕ) → List ℕ → Type 0
@@ -26,14 +34,24 @@ pub record Runs (script : Script) (status : ℕ) (outcome : Option Outcome) (bef
   pub outcome_is : outcome ≡ Some (outcome_of script)
   pub writes : Writes 0 status before after (text (names_of script) (outcome_of script))
 
--- the answer to bytes that were read: a status, an outcome or none, and what the sink holds before and after
-pub record Answers (bytes : List ℕ) (status : ℕ) (outcome : Option Outcome) (before after : Option (List ℕ)) : Type 0 where
-  -- where the bytes spell no script, the refusal line is written, unless memory ran out
-  pub refused : IsRefused bytes → (status ≡ 5) ⊎ Writes 2 status before after refusal_line
-  pub refuses : status ≡ 2 → IsRefused bytes
-  -- where they spell a script it is run, unless memory ran out
-  pub run : (script : Script) → Spells bytes script → (status ≡ 5) ⊎ Runs script status outcome before after
+-- the script was read: what it has was written
+pub record Checks (script : Script) (status : ℕ) (outcome : Option Outcome) (before after : Option (List ℕ)) : Type 0 where
+  pub nothing_is_run : IsNone outcome
+  pub writes : Writes 0 status before after (checked script)
+
+-- what the command asks for was done
+abbrev pub Does : Command → Script → ℕ → Option Outcome → Option (List ℕ) → Option (List ℕ) → Type 0
+Does (Run prune chunks rows) script status outcome before after = Runs script status outcome before after
+Does (Check chunks rows) script status outcome before after = Checks script status outcome before after
+
+-- the answer to bytes that a command read: a status, an outcome or none, and what the sink holds before and after
+pub record Answers (command : Command) (bytes : List ℕ) (status : ℕ) (outcome : Option Outcome) (before after : Option (List ℕ)) : Type 0 where
+  -- where the bytes are refused, the refusal line is written, unless memory ran out
+  pub refused : (why : Refused) → IsRefused command bytes why → (status ≡ 5) ⊎ Writes 2 status before after (refusal_line why)
+  pub refuses : status ≡ 2 → (why : Refused) × IsRefused command bytes why
+  -- where they spell a script, what the command asks for is done, unless memory ran out
+  pub does : (script : Script) → Spells command bytes script → (status ≡ 5) ⊎ Does command script status outcome before after
   -- the outcome is lawful
-  pub lawful : (script : Script) → Spells bytes script → IfSome outcome (λ given. Lawful script.rows script.programs given)
+  pub lawful : (script : Script) → Spells command bytes script → IfSome outcome (λ given. Lawful (setting_of script).shapes script.rows (setting_of script).programs given)
   -- an outcome is there only of a script that was run
-  pub outcome_there : IsSome outcome → IsAccepted bytes × ((status ≡ 0) ⊎ (status ≡ 4))
+  pub outcome_there : IsSome outcome → IsRun command × ((script : Script) × Spells command bytes script) × ((status ≡ 0) ⊎ (status ≡ 4))

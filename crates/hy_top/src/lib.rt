@@ -1,21 +1,32 @@
 //! The program as a call: from the words of a command and a source of bytes to a sink and a status.
 #![tactic(auto)]
 
-ghost use Rattle.std.specs.Prelude.{◌≡◌, ◌≢◌, ℕ, ◌<◌, ◌≤◌, ◌⊎◌, ◌↔◌, List, Option, None, Some, IsNone, IsSome, IfSome, OnOk, IfOk, IsTrue, map};
+ghost use Rattle.std.specs.Prelude.{◌≡◌, ◌≢◌, ℕ, ◌<◌, ◌≤◌, ◌⊎◌, List, Option, None, Some, IsNone, IsSome, IfSome, OnOk, IfOk, Ok, Err, map};
 ghost use Rattle.std.specs.String.{string_bytes};
 ghost use Rattle.hy_outside.specs.Faults.{Rose};
 ghost use Rattle.hy_script.specs.declared.Script.{Script};
+ghost use Rattle.hy_script.specs.declared.Options.{Options};
+ghost use Rattle.hy_script.specs.declared.Dialect.TheVariants.{FirstForm};
+ghost use Rattle.hy_script.specs.Reading.{Reads};
+ghost use Rattle.hy_lawful.specs.FirstForm.{IsFirstForm, IsOfWholeStatements};
+ghost use Rattle.hy_top.specs.Settings.{setting_of as setting_by};
 ghost use Rattle.hy_render.specs.Report.{text};
-ghost use Rattle.hy_top.specs.Words.{IsRun, usage_line, refusal_line};
-ghost use Rattle.hy_top.specs.Program.{bytes_read, bytes_left, names_of, outcome_of};
-ghost use Rattle.hy_top.specs.Reports.{Writes, Answers, Runs};
+ghost use Rattle.hy_words.specs.declared.Command.{Command};
+ghost use Rattle.hy_words.specs.Words.{command_of};
+ghost use Rattle.hy_top.specs.Lines.{usage_line, refusal_line as refusal_line_of, checked as checked_line};
+ghost use Rattle.hy_top.specs.Program.{bytes_read, bytes_left, options_of as options_by, names_of, outcome_of};
+ghost use Rattle.hy_top.specs.Reports.{Writes, Answers, Runs, Checks, Does};
+
+mod lines;
+mod settings;
 
 use hy_lawful::runs_are_lawful;
-use hy_machine::Setting;
 use hy_outside::{ReadAllError, Sink, Source, read_all, write_all};
-use hy_render::{Names, Outcome, render};
-use hy_script::{ReadError, Script, spelled_once};
-use hy_seq::Seq;
+use hy_render::{Outcome, render};
+use hy_script::{Code, Dialect, Options, ReadError, Refused, Script, read_once};
+use hy_words::{Command, WordsError};
+use lines::{checked, refusal_line};
+use settings::setting_of;
 use std::alloc::{AllocError, Global};
 
 /// What a call of the program came to.
@@ -34,12 +45,9 @@ const MOST_BYTES: usize = 16_777_216;
 /// What is written where the words are refused.
 const USAGE: &[u8] = b"usage: hy run|check|gen\n";
 
-/// What is written where the script is refused.
-const REFUSAL: &[u8] = b"line 1: E04\n";
-
 /// Runs the command that these words are: `run` reads a script from the source, runs it, and writes the
-/// text of its outcome to the sink. The first word is the program's name. What is said of bytes holds
-/// where the source and the sink tell them.
+/// text of its outcome to the sink; `check` reads a script and writes what it has. The first word is the
+/// program's name. What is said of bytes holds where the source and the sink tell them.
 pub fn run<R: Source, W: Sink>(
     alloc: Global,
     words: &[String],
@@ -47,43 +55,40 @@ pub fn run<R: Source, W: Sink>(
     sink: &mut W,
 ) -> Report
     // Where the words are refused the usage line is written, and the source is as it was.
-    ensures words_refused { (IsRun (map string_bytes words.now) → ⊥) → (source.new ≡ source.old)
-        × Writes 1 result.status (W.written sink.old) (W.written sink.new) usage_line }
-    ensures usage { result.status ≡ 1 → IsRun (map string_bytes words.now) → ⊥ }
+    ensures words_refused { command_of (map string_bytes words.now) ≡ None → (source.new ≡ source.old)
+        × ((result.status ≡ 5) ⊎ Writes 1 result.status (W.written sink.old) (W.written sink.new) usage_line) }
+    ensures usage { result.status ≡ 1 → command_of (map string_bytes words.now) ≡ None }
 
     // The bytes read are the source's whole rest, or its first 16,777,217.
-    ensures bytes { IsRun (map string_bytes words.now) → IfSome (R.rest source.old) (λ all.
+    ensures bytes { IsSome (command_of (map string_bytes words.now)) → IfSome (R.rest source.old) (λ all.
         (result.status ≡ 3) ⊎ (result.status ≡ 5) ⊎ (R.rest source.new ≡ Some (bytes_left all))) }
 
-    // Where these bytes spell no script the refusal line is written. Where they spell one it is run, and
-    // the text of its outcome is written, which is the machine's run of that script, and lawful.
-    ensures answers { IsRun (map string_bytes words.now) → IfSome (R.rest source.old) (λ all.
-        (result.status ≡ 3) ⊎ Answers (bytes_read all) result.status result.outcome (W.written sink.old) (W.written sink.new)) }
+    // Where these bytes are refused the refusal line is written. Where they spell a script it is run, and the
+    // text of its outcome is written, which is the machine's run of that script, and lawful; or it is checked.
+    ensures answers { IfSome (command_of (map string_bytes words.now)) (λ command. IfSome (R.rest source.old) (λ all.
+        (result.status ≡ 3) ⊎ Answers command (bytes_read all) result.status result.outcome (W.written sink.old) (W.written sink.new))) }
 
     // A fault has its cause in the source or in the sink. At 3 and 5 nothing is written, and nothing was run.
     ensures read_fault { result.status ≡ 3 → Rose (R.faults source.old) (R.faults source.new) × (sink.new ≡ sink.old) × IsNone result.outcome }
     ensures write_fault { result.status ≡ 4 → Rose (W.faults sink.old) (W.faults sink.new) }
     ensures no_memory { result.status ≡ 5 → (sink.new ≡ sink.old) × IsNone result.outcome }
 
-    // Without words that are accepted there is no run, and no other status than 1 or 4.
-    ensures script_statuses { (result.status ≡ 0) ⊎ (result.status ≡ 2) ⊎ (result.status ≡ 3) ⊎ (result.status ≡ 5) ⊎ IsSome result.outcome
-        → IsRun (map string_bytes words.now) }
+    // Without words that are accepted there is no run, and no other status than 1, 4 or 5.
+    ensures script_statuses { (result.status ≡ 0) ⊎ (result.status ≡ 2) ⊎ (result.status ≡ 3) ⊎ IsSome result.outcome
+        → IsSome (command_of (map string_bytes words.now)) }
     ensures statuses { result.status ≤ 5 }
 {
-    if !is_run(words) {
-        return Report {
+    match hy_words::command_of(alloc, words) {
+        Ok(command) => run_command(alloc, command, source, sink),
+        Err(WordsError::Refused) => Report {
             status: write(sink, USAGE, 1),
             outcome: None,
-        };
+        },
+        Err(WordsError::OutOfMemory) => Report {
+            status: 5,
+            outcome: None,
+        },
     }
-    run_script(alloc, source, sink)
-}
-
-/// Whether the words are the program's name and `run`.
-fn is_run(words: &[String]) -> bool
-    ensures { IsTrue result ↔ IsRun (map string_bytes words.now) }
-{
-    words.len() == 2 && words[1].as_str() == "run"
 }
 
 /// Writes a text whole: the status is then the one for that, and 4 where a write fails.
@@ -97,20 +102,33 @@ fn write<W: Sink>(sink: &mut W, bytes: &[u8], done: u8) -> u8
     }
 }
 
-/// Reads a script and runs it.
-fn run_script<R: Source, W: Sink>(alloc: Global, source: &mut R, sink: &mut W) -> Report
+/// Reads a script, and does what the command asks for.
+fn run_command<R: Source, W: Sink>(
+    alloc: Global,
+    command: Command,
+    source: &mut R,
+    sink: &mut W,
+) -> Report
     ensures bytes { IfSome (R.rest source.old) (λ all.
         (result.status ≡ 3) ⊎ (result.status ≡ 5) ⊎ (R.rest source.new ≡ Some (bytes_left all))) }
     ensures answers { IfSome (R.rest source.old) (λ all.
-        (result.status ≡ 3) ⊎ Answers (bytes_read all) result.status result.outcome (W.written sink.old) (W.written sink.new)) }
+        (result.status ≡ 3) ⊎ Answers command (bytes_read all) result.status result.outcome (W.written sink.old) (W.written sink.new)) }
     ensures read_fault { result.status ≡ 3 → Rose (R.faults source.old) (R.faults source.new) × (sink.new ≡ sink.old) × IsNone result.outcome }
     ensures write_fault { result.status ≡ 4 → Rose (W.faults sink.old) (W.faults sink.new) }
     ensures no_memory { result.status ≡ 5 → (sink.new ≡ sink.old) × IsNone result.outcome }
     ensures statuses { (result.status ≢ 1) × (result.status ≤ 5) }
 {
+    read_once();
     match read_all(alloc, source, MOST_BYTES) {
-        Ok(bytes) => answer(alloc, bytes.as_slice(), sink),
-        Err(ReadAllError::TooLong) => refuse(sink),
+        Ok(bytes) => answer(alloc, command, bytes.as_slice(), sink),
+        Err(ReadAllError::TooLong) => refuse(
+            alloc,
+            Refused {
+                line: 1,
+                code: Code::TooLong,
+            },
+            sink,
+        ),
         Err(ReadAllError::ReadFault) => Report {
             status: 3,
             outcome: None,
@@ -123,29 +141,60 @@ fn run_script<R: Source, W: Sink>(alloc: Global, source: &mut R, sink: &mut W) -
 }
 
 /// Writes the refusal line.
-fn refuse<W: Sink>(sink: &mut W) -> Report
-    ensures writes { Writes 2 result.status (W.written sink.old) (W.written sink.new) refusal_line }
+fn refuse<W: Sink>(alloc: Global, refused: Refused, sink: &mut W) -> Report
+    ensures writes { (result.status ≡ 5) ⊎ Writes 2 result.status (W.written sink.old) (W.written sink.new) (refusal_line_of refused) }
     ensures fault { result.status ≡ 4 → Rose (W.faults sink.old) (W.faults sink.new) }
+    ensures no_memory { result.status ≡ 5 → sink.new ≡ sink.old }
+    ensures statuses { (result.status ≢ 0) × (result.status ≢ 1) × (result.status ≢ 3) × (result.status ≤ 5) }
     ensures nothing { IsNone result.outcome }
 {
-    Report {
-        status: write(sink, REFUSAL, 2),
-        outcome: None,
+    match refusal_line(alloc, refused) {
+        Ok(line) => Report {
+            status: write(sink, line.as_slice(), 2),
+            outcome: None,
+        },
+        Err(_) => Report {
+            status: 5,
+            outcome: None,
+        },
     }
 }
 
-/// Runs the script that the bytes spell.
-fn answer<W: Sink>(alloc: Global, bytes: &[u8], sink: &mut W) -> Report
-    ensures answers { Answers bytes.now result.status result.outcome (W.written sink.old) (W.written sink.new) }
+/// How a command reads a script.
+fn options_of(command: Command) -> Options
+    ensures { result ≡ options_by command }
+{
+    match command {
+        Command::Run {
+            prune: _,
+            chunks,
+            rows,
+        } => Options {
+            chunks,
+            rows,
+            dialect: Dialect::FirstForm,
+        },
+        Command::Check { chunks, rows } => Options {
+            chunks,
+            rows,
+            dialect: Dialect::Whole,
+        },
+    }
+}
+
+/// Does what a command asks for with the script that the bytes spell.
+fn answer<W: Sink>(alloc: Global, command: Command, bytes: &[u8], sink: &mut W) -> Report
+    ensures answers { Answers command bytes.now result.status result.outcome (W.written sink.old) (W.written sink.new) }
     ensures write_fault { result.status ≡ 4 → Rose (W.faults sink.old) (W.faults sink.new) }
     ensures no_memory { result.status ≡ 5 → (sink.new ≡ sink.old) × IsNone result.outcome }
     ensures statuses { (result.status ≢ 1) × (result.status ≢ 3) × (result.status ≤ 5) }
 {
-    spelled_once();
+    read_once();
     runs_are_lawful();
-    match hy_script::read(alloc, bytes) {
-        Ok(script) => perform(alloc, script, sink),
-        Err(ReadError::Refused) => refuse(sink),
+    first_form_is_read();
+    match hy_script::read(alloc, bytes, &options_of(command)) {
+        Ok(script) => perform(alloc, command, script, sink),
+        Err(ReadError::Refused(refused)) => refuse(alloc, refused, sink),
         Err(ReadError::OutOfMemory) => Report {
             status: 5,
             outcome: None,
@@ -153,8 +202,20 @@ fn answer<W: Sink>(alloc: Global, bytes: &[u8], sink: &mut W) -> Report
     }
 }
 
+/// Runs or checks a script.
+fn perform<W: Sink>(alloc: Global, command: Command, script: Script, sink: &mut W) -> Report
+    ensures does { (result.status ≡ 5) × (sink.new ≡ sink.old) × IsNone result.outcome
+        ⊎ Does command script result.status result.outcome (W.written sink.old) (W.written sink.new) }
+    ensures write_fault { result.status ≡ 4 → Rose (W.faults sink.old) (W.faults sink.new) }
+{
+    match command {
+        Command::Run { .. } => run_script(alloc, script, sink),
+        Command::Check { .. } => check_script(alloc, script, sink),
+    }
+}
+
 /// Runs a script and writes the text of its outcome.
-fn perform<W: Sink>(alloc: Global, script: Script, sink: &mut W) -> Report
+fn run_script<W: Sink>(alloc: Global, script: Script, sink: &mut W) -> Report
     ensures run { (result.status ≡ 5) × (sink.new ≡ sink.old) × IsNone result.outcome
         ⊎ Runs script result.status result.outcome (W.written sink.old) (W.written sink.new) }
     ensures write_fault { result.status ≡ 4 → Rose (W.faults sink.old) (W.faults sink.new) }
@@ -171,29 +232,39 @@ fn perform<W: Sink>(alloc: Global, script: Script, sink: &mut W) -> Report
     }
 }
 
+/// Writes what a script has.
+fn check_script<W: Sink>(alloc: Global, script: Script, sink: &mut W) -> Report
+    ensures check { (result.status ≡ 5) × (sink.new ≡ sink.old) × IsNone result.outcome
+        ⊎ Checks script result.status result.outcome (W.written sink.old) (W.written sink.new) }
+    ensures write_fault { result.status ≡ 4 → Rose (W.faults sink.old) (W.faults sink.new) }
+{
+    match checked(alloc, &script) {
+        Ok(line) => Report {
+            status: write(sink, line.as_slice(), 0),
+            outcome: None,
+        },
+        Err(_) => Report {
+            status: 5,
+            outcome: None,
+        },
+    }
+}
+
 /// The outcome of the machine's run of a script, and its text.
 fn outcome_and_text(alloc: Global, script: Script) -> Result<(Outcome, Vec<u8>), AllocError>
     ensures { IfOk result (λ given. (given.0 ≡ outcome_of script) × (given.1.items ≡ text (names_of script) (outcome_of script))) }
 {
-    let Script {
-        tables,
-        rows,
-        sessions,
-        programs,
-        schedule,
-    } = script;
-    let mut widths = Seq::new(alloc);
-    widths.push(1)?;
-    let setting = Setting {
-        chunks: 1,
-        rows: 4096,
-        widths,
-        first: rows,
-        programs,
-    };
+    let (setting, names, schedule) = setting_of(alloc, script)?;
     let machine = hy_machine::run(alloc, &setting, schedule.as_slice())?;
     let outcome = hy_machine::outcome(alloc, &setting, &machine)?;
     let mut written = Vec::new(alloc);
-    render(&Names { tables, sessions }, &outcome, &mut written)?;
+    render(&names, &outcome, &mut written)?;
     Ok((outcome, written))
 }
+
+/// A law: what is read of the first form is of the first form for the machine, and its schedule is of whole
+/// statements.
+pub fn first_form_is_read()
+    ensures { (bytes : List ℕ) (options : Options) (script : Script) → options.dialect ≡ FirstForm → Reads bytes options (Ok script)
+        → IsFirstForm (setting_by script) × IsOfWholeStatements script.schedule }
+{}

@@ -1,7 +1,7 @@
 //! Values, rows, their order and their print.
 #![tactic(auto)]
 
-ghost use Rattle.std.specs.Prelude.{◌≡◌, ℕ, ◌+◌, ◌<◌, ◌≤◌, ◌↔◌, ◌++◌, List, length, drop, IfOk, IfErr, IsOk, OnOk, OnErr, IsErrOf, IsTrue, Any, All, MatchResult};
+ghost use Rattle.std.specs.Prelude.{◌≡◌, ℕ, ◌+◌, ◌<◌, ◌≤◌, ◌↔◌, ◌++◌, List, length, take, drop, IfOk, IfErr, IsOk, OnOk, OnErr, IsErrOf, IsTrue, Any, All, MatchResult};
 ghost use Rattle.std.specs.Cmp.{IsTotalOrder};
 ghost use Rattle.std.specs.List.{flat_map};
 ghost use Rattle.hy_value.specs.Order.{value_cmp, row_cmp, holds_at};
@@ -25,7 +25,7 @@ pub enum TextFault {
 }
 
 /// A TEXT value: up to 255 bytes, kept in place, so that copying it takes no memory.
-#[derive(Clone, Copy)]
+#[derive(Clone, Copy, PartialEq, Eq, Hash)]
 pub struct Text {
     length: u8,
     bytes: [u8; 255],
@@ -72,6 +72,16 @@ impl Text {
             return Err(TextFault::Control);
         }
         Ok(Text::keep(text))
+    }
+
+    /// The value of the first 255 of these bytes, which are a text's.
+    pub fn front(bytes: &[u8]) -> Text
+        ensures { result ≡ take 255 bytes.now }
+    {
+        if bytes.len() <= 255 {
+            return Text::keep(bytes);
+        }
+        Text::keep(&bytes[..255])
     }
 
     /// Keeps the bytes in place.
@@ -121,7 +131,7 @@ pub enum Kind {
 }
 
 /// A value of a row.
-#[derive(Clone, Copy)]
+#[derive(Clone, Copy, PartialEq, Eq, Hash)]
 pub enum Value {
     /// No value.
     Null,

@@ -1,0 +1,281 @@
+//! Statements as they are written: the parts of each rule of the grammar in the rule's order, each name,
+//! literal and operator with its place in the script. A name's or a literal's text is the script's in its
+//! place.
+#![tactic(auto)]
+
+use hy_seq::Seq;
+use hy_token::Span;
+use hy_value::{Cmp, Kind};
+
+/// A column, `column` or `table.column`.
+#[derive(Clone, Copy)]
+pub struct ColumnRef {
+    /// The table before the dot.
+    pub table: Option<Span>,
+    /// The column.
+    pub column: Span,
+}
+
+/// A literal.
+#[derive(Clone, Copy)]
+pub enum Literal {
+    /// NULL.
+    Null(Span),
+    /// An integer, with a minus before it or without.
+    Integer {
+        /// The minus.
+        minus: Option<Span>,
+        /// The digits.
+        digits: Span,
+    },
+    /// A text with its quotes.
+    Text(Span),
+}
+
+/// A side of a comparison, or an operand of an expression.
+#[derive(Clone, Copy)]
+pub enum Operand {
+    /// A column.
+    Column(ColumnRef),
+    /// A literal.
+    Literal(Literal),
+}
+
+/// A condition as it is written. Chains of OR and of AND group to the left, AND binds before OR, NOT
+/// before both.
+#[derive(Drop)]
+pub enum Condition {
+    /// A column compared with a column or a literal.
+    Compare {
+        /// The column on the left.
+        left: ColumnRef,
+        /// The comparison.
+        op: Cmp,
+        /// Where it stands.
+        at: Span,
+        /// What stands on the right.
+        right: Operand,
+    },
+    /// IS NULL, or IS NOT NULL.
+    IsNull {
+        /// The column.
+        column: ColumnRef,
+        /// Where IS stands.
+        at: Span,
+        /// Whether it is IS NOT NULL.
+        negated: bool,
+    },
+    /// NOT.
+    Not {
+        /// Where NOT stands.
+        at: Span,
+        /// What is negated.
+        condition: Box<Condition>,
+    },
+    /// AND.
+    And {
+        /// What stands on the left.
+        left: Box<Condition>,
+        /// Where AND stands.
+        at: Span,
+        /// What stands on the right.
+        right: Box<Condition>,
+    },
+    /// OR.
+    Or {
+        /// What stands on the left.
+        left: Box<Condition>,
+        /// Where OR stands.
+        at: Span,
+        /// What stands on the right.
+        right: Box<Condition>,
+    },
+    /// A condition in parentheses.
+    Nested(Box<Condition>),
+}
+
+/// An operator of an expression.
+#[derive(Clone, Copy, Debug, PartialEq, Eq)]
+pub enum Operator {
+    /// `+`
+    Plus,
+    /// `-`
+    Minus,
+    /// `*`
+    Times,
+}
+
+/// The right side of an assignment as it is written. Chains of `+` and `-` and chains of `*` group to the
+/// left, and `*` binds before `+` and `-`.
+#[derive(Drop)]
+pub enum Expression {
+    /// A column or a literal.
+    Operand(Operand),
+    /// An operator between two expressions.
+    Binary {
+        /// What stands on the left.
+        left: Box<Expression>,
+        /// The operator.
+        op: Operator,
+        /// Where it stands.
+        at: Span,
+        /// What stands on the right.
+        right: Box<Expression>,
+    },
+    /// An expression in parentheses.
+    Nested(Box<Expression>),
+}
+
+/// A column of a new table.
+#[derive(Clone, Copy)]
+pub struct ColumnDef {
+    /// Its name.
+    pub name: Span,
+    /// INT or TEXT.
+    pub kind: Kind,
+    /// Whether it is the PRIMARY KEY.
+    pub key: bool,
+}
+
+/// A table that is joined, and the two columns that ON makes equal.
+#[derive(Clone, Copy)]
+pub struct Join {
+    /// The table.
+    pub table: Span,
+    /// The column on the left of `=`.
+    pub left: ColumnRef,
+    /// The column on the right.
+    pub right: ColumnRef,
+}
+
+/// An assignment of UPDATE.
+#[derive(Drop)]
+pub struct Assignment {
+    /// The column that is set.
+    pub column: Span,
+    /// What it is set to.
+    pub value: Expression,
+}
+
+/// What a SELECT of rows lists.
+#[derive(Drop)]
+pub enum Listed {
+    /// `*`
+    All,
+    /// `SUM ( column )`
+    Sum(ColumnRef),
+    /// Columns.
+    Columns(Seq<ColumnRef>),
+}
+
+/// What a SELECT with GROUP BY tells of each group.
+#[derive(Clone, Copy)]
+pub enum Total {
+    /// `COUNT ( * )`
+    Count,
+    /// `SUM ( column )`
+    Sum(ColumnRef),
+}
+
+/// A SELECT.
+#[derive(Drop)]
+pub enum Query {
+    /// Rows of one table or of several joined ones, or a sum over them.
+    Rows {
+        /// What is listed.
+        listed: Listed,
+        /// The first table.
+        table: Span,
+        /// The tables joined to it.
+        joins: Seq<Join>,
+        /// WHERE.
+        condition: Option<Condition>,
+    },
+    /// `COUNT ( * )` of one table.
+    Count {
+        /// The table.
+        table: Span,
+        /// WHERE.
+        condition: Option<Condition>,
+    },
+    /// Groups of one table.
+    Groups {
+        /// The column that is listed.
+        column: ColumnRef,
+        /// What is told of each group.
+        total: Total,
+        /// The table.
+        table: Span,
+        /// WHERE.
+        condition: Option<Condition>,
+        /// The column of GROUP BY.
+        key: ColumnRef,
+    },
+}
+
+/// A turn of a schedule.
+#[derive(Clone, Copy)]
+pub struct Turn {
+    /// The session's name.
+    pub session: Span,
+    /// Whether `!` stands behind it.
+    pub whole: bool,
+}
+
+/// A statement of a script.
+#[derive(Drop)]
+pub enum Ast {
+    /// CREATE TABLE.
+    Create {
+        /// The table's name.
+        table: Span,
+        /// Its columns.
+        columns: Seq<ColumnDef>,
+    },
+    /// INSERT INTO.
+    Insert {
+        /// The table.
+        table: Span,
+        /// The values.
+        values: Seq<Literal>,
+    },
+    /// SESSION.
+    Session {
+        /// Its name.
+        name: Span,
+    },
+    /// BEGIN.
+    Begin {
+        /// Whether it is BEGIN READ ONLY.
+        read_only: bool,
+    },
+    /// COMMIT.
+    Commit,
+    /// ROLLBACK.
+    Rollback,
+    /// SELECT.
+    Select(Query),
+    /// UPDATE.
+    Update {
+        /// The table.
+        table: Span,
+        /// The assignments.
+        sets: Seq<Assignment>,
+        /// WHERE.
+        condition: Option<Condition>,
+    },
+    /// DELETE FROM.
+    Delete {
+        /// The table.
+        table: Span,
+        /// WHERE.
+        condition: Option<Condition>,
+    },
+    /// SCHEDULE.
+    Schedule {
+        /// Its turns.
+        turns: Seq<Turn>,
+    },
+    /// END.
+    End,
+}

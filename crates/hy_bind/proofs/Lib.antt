@@ -1,0 +1,5 @@
+pub mod Places
+pub mod Firsts
+pub mod Fitting
+pub mod Visible
+pub mod Numbers

@@ -1,0 +1,6 @@
+pub mod Refusals
+pub mod Literals
+pub mod Scope
+pub mod Conditions
+pub mod Expressions
+pub mod Statements

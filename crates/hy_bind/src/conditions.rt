@@ -1,0 +1,117 @@
+//! Conditions with their names resolved.
+
+ghost use Rattle.std.specs.Prelude.{◌≡◌, IfOk};
+ghost use Rattle.std.specs.Option.{option_map, option_copied};
+ghost use Rattle.hy_ast.specs.Trees.{test_of};
+ghost use Rattle.hy_bound.specs.Condition.{Compare, IsNull, Not};
+ghost use Rattle.hy_bind.specs.Scope.{scope_of, column_of, operand_side};
+ghost use Rattle.hy_bind.specs.Conditions.{compare_fault, test_fault, test_bound, where_fault, where_bound, null_bound};
+
+use crate::refusals::{BindFault, agree, fault_if, first_of};
+use crate::scope::{Scope, column, column_fault, column_kind, operand_fault, operand_kind, side};
+use hy_ast::{ColumnRef, Condition, Operand};
+use hy_bound::Pred;
+use std::alloc::{AllocError, Global};
+
+/// Why WHERE is refused.
+pub fn where_fault(scope: &Scope, condition: Option<&Condition>) -> Option<BindFault>
+    ensures { result ≡ where_fault (scope_of scope.now) (option_map test_of (option_copied condition.entry)) }
+{
+    match condition {
+        Some(condition) => condition_fault(scope, condition),
+        None => None,
+    }
+}
+
+/// Why a condition is refused.
+fn condition_fault(scope: &Scope, condition: &Condition) -> Option<BindFault>
+    ensures { result ≡ test_fault (scope_of scope.now) (test_of condition.now) }
+{
+    match condition {
+        Condition::Compare { left, right, .. } => compare_fault(scope, left, right),
+        Condition::IsNull { column, .. } => column_fault(scope, column),
+        Condition::Not { condition, .. } => condition_fault(scope, condition),
+        Condition::And { left, right, .. } | Condition::Or { left, right, .. } => {
+            first_of(condition_fault(scope, left), condition_fault(scope, right))
+        }
+        Condition::Nested(condition) => condition_fault(scope, condition),
+    }
+}
+
+/// Why a comparison is refused.
+fn compare_fault(scope: &Scope, left: &ColumnRef, right: &Operand) -> Option<BindFault>
+    ensures { result ≡ compare_fault (scope_of scope.now) left.now right.now }
+{
+    let named = first_of(column_fault(scope, left), operand_fault(scope, right));
+    let same = agree(column_kind(scope, left), operand_kind(scope, right));
+    first_of(named, fault_if(!same, BindFault::WrongType))
+}
+
+/// WHERE as a predicate.
+pub fn predicate(
+    alloc: Global,
+    scope: &Scope,
+    condition: Option<&Condition>,
+) -> Result<Pred, AllocError>
+    ensures { IfOk result (λ p. p ≡ where_bound (scope_of scope.now) (option_map test_of (option_copied condition.entry))) }
+{
+    match condition {
+        Some(condition) => condition_predicate(alloc, scope, condition),
+        None => Ok(Pred::always()),
+    }
+}
+
+/// A condition as a predicate.
+fn condition_predicate(
+    alloc: Global,
+    scope: &Scope,
+    condition: &Condition,
+) -> Result<Pred, AllocError>
+    ensures { IfOk result (λ p. p ≡ test_bound (scope_of scope.now) (test_of condition.now)) }
+{
+    match condition {
+        Condition::Compare {
+            left,
+            op,
+            right,
+            ..
+        } => {
+            let left = column(scope, left)?;
+            Ok(Pred::compare(left, *op, side(alloc, scope, right)?))
+        }
+        Condition::IsNull {
+            column,
+            negated,
+            ..
+        } => null_test(alloc, scope, column, *negated),
+        Condition::Not { condition, .. } => {
+            Pred::not(alloc, condition_predicate(alloc, scope, condition)?)
+        }
+        Condition::And { left, right, .. } => {
+            let left = condition_predicate(alloc, scope, left)?;
+            Pred::and(alloc, left, condition_predicate(alloc, scope, right)?)
+        }
+        Condition::Or { left, right, .. } => {
+            let left = condition_predicate(alloc, scope, left)?;
+            Pred::or(alloc, left, condition_predicate(alloc, scope, right)?)
+        }
+        Condition::Nested(condition) => condition_predicate(alloc, scope, condition),
+    }
+}
+
+/// IS NULL, or IS NOT NULL.
+fn null_test(
+    alloc: Global,
+    scope: &Scope,
+    reference: &ColumnRef,
+    negated: bool,
+) -> Result<Pred, AllocError>
+    ensures { IfOk result (λ p. p ≡ null_bound (column_of (scope_of scope.now) reference.now) negated) }
+{
+    let is_null = Pred::is_null(column(scope, reference)?);
+    if negated {
+        Pred::not(alloc, is_null)
+    } else {
+        Ok(is_null)
+    }
+}

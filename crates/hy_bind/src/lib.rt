@@ -1,0 +1,94 @@
+//! Statements with their names and types resolved, or the first reason why one is refused.
+#![tactic(auto)]
+
+ghost use Rattle.std.specs.Prelude.{◌≡◌, None, IfOk, OnOk, IfErr};
+ghost use Rattle.hy_ast.specs.Trees.{statement_of};
+ghost use Rattle.hy_bind.specs.Scope.{scope_of};
+ghost use Rattle.hy_bind.specs.Statements.{NamesTables, bind_fault, bound_of, fault_in, bound_in, Fails};
+
+mod conditions;
+mod expressions;
+mod joins;
+mod listed;
+mod literals;
+mod queries;
+mod refusals;
+mod scope;
+mod statements;
+mod tables;
+
+use hy_ast::Ast;
+use hy_bound::Bound;
+use hy_schema::Catalog;
+pub use literals::text_in;
+pub use refusals::{BindError, BindFault};
+use std::alloc::{AllocError, Global};
+pub use tables::repeats;
+
+/// The statement with its names resolved, or the first reason why it is refused. `script` is the bytes
+/// in which the tree's places lie.
+pub fn bind(alloc: Global, script: &[u8], catalog: &Catalog, ast: &Ast) -> Result<Bound, BindError>
+    requires { NamesTables (statement_of ast.now) }
+    ensures bound { IfOk result (λ bound. bound ≡ bound_of script.now catalog.now (statement_of ast.now)) }
+    ensures accepts { OnOk result (bind_fault script.now catalog.now (statement_of ast.now) ≡ None) }
+    ensures refuses { IfErr result (λ error. Fails error (bind_fault script.now catalog.now (statement_of ast.now))) }
+{
+    let tables = tables::tables(alloc, ast)?;
+    let Some(numbers) = tables::numbers(alloc, script, catalog, tables.as_slice())? else {
+        return Err(BindError::Refused(BindFault::UnknownTable));
+    };
+    let scope = scope::Scope {
+        script,
+        catalog,
+        tables: numbers.as_slice(),
+    };
+    match fault(alloc, &scope, ast)? {
+        Some(fault) => Err(BindError::Refused(fault)),
+        None => Ok(bound(alloc, &scope, ast)?),
+    }
+}
+
+/// Why a statement whose tables are there is refused.
+fn fault(alloc: Global, scope: &scope::Scope, ast: &Ast) -> Result<Option<BindFault>, AllocError>
+    ensures { IfOk result (λ fault. fault ≡ fault_in (scope_of scope.now) (statement_of ast.now)) }
+{
+    match ast {
+        Ast::Insert { values, .. } => Ok(statements::insert_fault(scope, values.as_slice())),
+        Ast::Update {
+            sets,
+            condition,
+            ..
+        } => statements::update_fault(alloc, scope, sets.as_slice(), condition.as_ref()),
+        Ast::Delete { condition, .. } => Ok(conditions::where_fault(scope, condition.as_ref())),
+        Ast::Select(query) => queries::query_fault(alloc, scope, query),
+        _ => Ok(None),
+    }
+}
+
+/// A statement as the engine runs it.
+fn bound(alloc: Global, scope: &scope::Scope, ast: &Ast) -> Result<Bound, AllocError>
+    requires { NamesTables (statement_of ast.now) }
+    ensures { IfOk result (λ bound. bound ≡ bound_in (scope_of scope.now) (statement_of ast.now)) }
+{
+    match ast {
+        Ast::Insert { values, .. } => Ok(Bound::Insert {
+            table: statements::table(scope),
+            row: statements::row(alloc, scope.script, values.as_slice())?,
+        }),
+        Ast::Update {
+            sets,
+            condition,
+            ..
+        } => Ok(Bound::Update {
+            table: statements::table(scope),
+            sets: statements::assignments(alloc, scope, sets.as_slice())?,
+            pred: conditions::predicate(alloc, scope, condition.as_ref())?,
+        }),
+        Ast::Delete { condition, .. } => Ok(Bound::Delete {
+            table: statements::table(scope),
+            pred: conditions::predicate(alloc, scope, condition.as_ref())?,
+        }),
+        Ast::Select(query) => queries::query(alloc, scope, query),
+        _ => unreachable!(),
+    }
+}

@@ -1,0 +1,149 @@
+//! What the words of a script say.
+
+ghost use Rattle.std.specs.Prelude.{◌≡◌, ◌<◌, ◌≤◌, ◌∷◌, [], is_some, length, drop, IfOk, IfSome, IfNone};
+ghost use Rattle.hy_bind.specs.Literals.{text_in, number_of, in_reach, integer_of, unquoted, unquoted_rest, literal_kind, literal_fault, literal_value, integer_value};
+
+use crate::refusals::{BindFault, fault_if};
+use hy_ast::Literal;
+use hy_token::Span;
+use hy_value::{Kind, Text, Value};
+use std::alloc::{AllocError, Global};
+
+/// What a script has in a place: nothing beyond its end.
+pub fn text_in(script: &[u8], span: Span) -> &[u8]
+    ensures { result.now ≡ text_in script.now span }
+{
+    let end = span.end.min(script.len());
+    &script[span.start.min(end)..end]
+}
+
+/// The number that digits write, if it is at most 2^63: none of 64 bits is farther from 0.
+fn number(digits: &[u8]) -> Option<u64>
+    ensures { result ≡ in_reach (number_of digits.now) }
+{
+    let mut number: u128 = 0;
+    for digit in digits {
+        number = 10 * number + u128::from(digit.saturating_sub(b'0'));
+        if number > 9223372036854775808 {
+            return None;
+        }
+    }
+    Some(number as u64)
+}
+
+/// A number with its sign, if it lies within 64 bits.
+fn signed(minus: bool, number: u64) -> Option<i64>
+    ensures { result ≡ integer_of minus number }
+{
+    if minus {
+        0i64.checked_sub_unsigned(number)
+    } else {
+        0i64.checked_add_unsigned(number)
+    }
+}
+
+/// The integer that digits write with a sign, if it lies within 64 bits.
+fn integer(minus: bool, digits: &[u8]) -> Option<i64>
+    ensures { result ≡ integer_of minus (number_of digits.now) }
+{
+    signed(minus, number(digits)?)
+}
+
+/// What a text says first, from a place on, and the place of what it says next; nothing where it is
+/// closed.
+fn unquoted_at(text: &[u8], place: usize) -> Option<(u8, usize)>
+    ensures closed { IfNone result (unquoted_rest (drop place text.now) ≡ []) }
+    ensures first { IfSome result (λ next. unquoted_rest (drop place text.now) ≡ next.0 ∷ unquoted_rest (drop next.1 text.now)) }
+    ensures moves { IfSome result (λ next. place < next.1) }
+    ensures within { IfSome result (λ next. next.1 ≤ length text.now) }
+{
+    let byte = *text.get(place)?;
+    if byte != b'\'' {
+        return Some((byte, place + 1));
+    }
+    match text.get(place + 1) {
+        Some(b'\'') => Some((byte, place + 2)),
+        _ => None,
+    }
+}
+
+/// How many bytes a text has without its quotes, two of them standing for one.
+fn unquoted_len(text: &[u8]) -> usize
+    ensures { result ≡ length (unquoted text.now) }
+{
+    let mut length = 0;
+    let mut place = 1;
+    while let Some((_, next)) = unquoted_at(text, place) {
+        length += 1;
+        place = next;
+    }
+    length
+}
+
+/// What a text says, without its quotes.
+fn unquote(alloc: Global, text: &[u8]) -> Result<Vec<u8>, AllocError>
+    ensures { IfOk result (λ bytes. bytes.items ≡ unquoted text.now) }
+{
+    let mut bytes = Vec::new(alloc);
+    let mut place = 1;
+    while let Some((byte, next)) = unquoted_at(text, place) {
+        bytes.push(byte)?;
+        place = next;
+    }
+    Ok(bytes)
+}
+
+/// The type of a literal, NULL having none.
+pub fn kind_of(literal: &Literal) -> Option<Kind>
+    ensures { result ≡ literal_kind literal.now }
+{
+    match literal {
+        Literal::Null(_) => None,
+        Literal::Integer { .. } => Some(Kind::Int),
+        Literal::Text(_) => Some(Kind::Str),
+    }
+}
+
+/// Why a literal is refused.
+pub fn literal_fault(script: &[u8], literal: &Literal) -> Option<BindFault>
+    ensures { result ≡ literal_fault script.now literal.now }
+{
+    match literal {
+        Literal::Null(_) => None,
+        Literal::Integer { minus, digits } => {
+            let integer = integer(minus.is_some(), text_in(script, *digits));
+            fault_if(integer.is_none(), BindFault::TooBig)
+        }
+        Literal::Text(span) => {
+            let length = unquoted_len(text_in(script, *span));
+            fault_if(length > 255, BindFault::Limit)
+        }
+    }
+}
+
+/// The value of an integer; of one that is outside 64 bits, any.
+fn integer_value(integer: Option<i64>) -> Value
+    ensures { result ≡ integer_value integer }
+{
+    match integer {
+        Some(integer) => Value::Int(integer),
+        None => Value::Null,
+    }
+}
+
+/// The value of a literal; of one that is refused, any.
+pub fn value(alloc: Global, script: &[u8], literal: &Literal) -> Result<Value, AllocError>
+    ensures { IfOk result (λ value. value ≡ literal_value script.now literal.now) }
+{
+    match literal {
+        Literal::Null(_) => Ok(Value::Null),
+        Literal::Integer { minus, digits } => {
+            let digits = text_in(script, *digits);
+            Ok(integer_value(integer(minus.is_some(), digits)))
+        }
+        Literal::Text(span) => {
+            let bytes = unquote(alloc, text_in(script, *span))?;
+            Ok(Value::Text(Text::front(bytes.as_slice())))
+        }
+    }
+}

@@ -1,0 +1,201 @@
+//! The columns that a statement can name.
+
+ghost use Rattle.std.specs.Prelude.{◌≡◌, ◌<◌, ◌^◌, IfOk, map};
+ghost use Rattle.std.specs.Option.{option_and_then};
+ghost use Rattle.hy_schema.specs.Names.{column_number, table_at};
+ghost use Rattle.hy_bind.specs.Scope.{scope_of, width_at, may_mean, found_in, and_found, only, resolved, column_of, column_fault, column_kind, operand_fault, operand_kind, operand_side};
+
+use crate::literals::{kind_of, literal_fault, text_in, value};
+use crate::refusals::{BindFault, fault_if};
+use hy_ast::{ColumnRef, Operand};
+use hy_bound::Side;
+use hy_schema::{Catalog, Column, TableDef};
+use hy_token::Span;
+use hy_value::Kind;
+use std::alloc::{AllocError, Global};
+
+/// A script and its tables, and the tables of a statement in FROM order, by number.
+#[derive(Clone, Copy)]
+pub struct Scope<'a> {
+    /// The bytes of the script.
+    pub script: &'a [u8],
+    /// Its tables.
+    pub catalog: &'a Catalog,
+    /// The numbers of the statement's tables.
+    pub tables: &'a [u32],
+}
+
+/// A column that a reference means.
+#[derive(Clone, Copy)]
+pub struct Found {
+    /// Its table.
+    pub table: u32,
+    /// Its number in the joined row: wide enough for any sum of widths.
+    pub column: u128,
+    /// Its type.
+    pub kind: Kind,
+}
+
+/// What a reference means among some tables.
+#[derive(Clone, Copy)]
+pub enum Search {
+    /// No column.
+    Nowhere,
+    /// A column of one table.
+    In(Found),
+    /// Columns of several tables.
+    Several,
+}
+
+/// The column that a reference means, if it means a column of exactly one of the tables.
+pub fn resolve(scope: &Scope, reference: &ColumnRef) -> Option<Found>
+    ensures { result ≡ resolved (scope_of scope.now) reference.now }
+{
+    let mut so_far = Search::Nowhere;
+    let mut from = 0u128;
+    for table in scope.tables {
+        so_far = and_found(so_far, found_in_table(scope, reference, *table, from));
+        from += width(scope.catalog, *table) as u128;
+    }
+    only(so_far)
+}
+
+/// The only column that was found.
+fn only(so_far: Search) -> Option<Found>
+    ensures { result ≡ only so_far }
+{
+    match so_far {
+        Search::In(found) => Some(found),
+        Search::Nowhere | Search::Several => None,
+    }
+}
+
+/// What was found so far, and a column more: those of one table are one, the first.
+fn and_found(before: Search, found: Option<Found>) -> Search
+    ensures { result ≡ and_found before found }
+{
+    match (before, found) {
+        (before, None) => before,
+        (Search::Nowhere, Some(found)) => Search::In(found),
+        (Search::In(before), Some(found)) if before.table == found.table => Search::In(before),
+        _ => Search::Several,
+    }
+}
+
+/// How many columns a table has.
+pub fn width(catalog: &Catalog, table: u32) -> usize
+    ensures { result ≡ width_at catalog.now table }
+{
+    match catalog.table(table) {
+        Some(def) => def.columns.len(),
+        None => 0,
+    }
+}
+
+/// The column of a table that a reference means, the table's columns having numbers from `from` on.
+fn found_in_table(scope: &Scope, reference: &ColumnRef, table: u32, from: u128) -> Option<Found>
+    requires { from < 2 ^ 127 }
+    ensures { result ≡ option_and_then (found_in scope.now.script.now reference.now table from) (table_at scope.now.catalog.now table) }
+{
+    let def = scope.catalog.table(table)?;
+    found_in(scope.script, reference, table, from, def)
+}
+
+/// The column of a table that a reference means.
+fn found_in(
+    script: &[u8],
+    reference: &ColumnRef,
+    table: u32,
+    from: u128,
+    def: &TableDef,
+) -> Option<Found>
+    requires { from < 2 ^ 127 }
+    ensures { result ≡ found_in script.now reference.now table from def.now }
+{
+    if !may_mean(script, reference.table, def.name.as_bytes()) {
+        return None;
+    }
+    let columns = def.columns.as_slice();
+    let place = column_place(columns, text_in(script, reference.column))?;
+    let column = columns.get(place)?;
+    Some(Found {
+        table,
+        column: from + place as u128,
+        kind: column.kind,
+    })
+}
+
+/// Whether a reference, with this table before its dot, may mean a column of a table of this name.
+fn may_mean(script: &[u8], table: Option<Span>, name: &[u8]) -> bool
+    ensures { result ≡ may_mean script.now table name.now }
+{
+    match table {
+        None => true,
+        Some(table) => text_in(script, table) == name,
+    }
+}
+
+/// The number of a column in its table.
+pub fn column_place(columns: &[Column], name: &[u8]) -> Option<usize>
+    ensures { result ≡ column_number columns.now name.now }
+{
+    columns
+        .iter()
+        .position(|column| name == column.name.as_bytes())
+}
+
+/// Why a reference is refused.
+pub fn column_fault(scope: &Scope, reference: &ColumnRef) -> Option<BindFault>
+    ensures { result ≡ column_fault (scope_of scope.now) reference.now }
+{
+    let unknown = resolve(scope, reference).is_none();
+    fault_if(unknown, BindFault::UnknownColumn)
+}
+
+/// The type of the column that a reference means.
+pub fn column_kind(scope: &Scope, reference: &ColumnRef) -> Option<Kind>
+    ensures { result ≡ column_kind (scope_of scope.now) reference.now }
+{
+    Some(resolve(scope, reference)?.kind)
+}
+
+/// The number in the joined row of the column that a reference means. A number beyond 32 bits would
+/// need more memory than there is.
+pub fn column(scope: &Scope, reference: &ColumnRef) -> Result<u32, AllocError>
+    ensures { IfOk result (λ number. number ≡ column_of (scope_of scope.now) reference.now) }
+{
+    match resolve(scope, reference) {
+        Some(found) => u32::try_from(found.column).map_err(|_| AllocError),
+        None => Ok(0),
+    }
+}
+
+/// Why an operand is refused.
+pub fn operand_fault(scope: &Scope, operand: &Operand) -> Option<BindFault>
+    ensures { result ≡ operand_fault (scope_of scope.now) operand.now }
+{
+    match operand {
+        Operand::Column(reference) => column_fault(scope, reference),
+        Operand::Literal(literal) => literal_fault(scope.script, literal),
+    }
+}
+
+/// The type of an operand.
+pub fn operand_kind(scope: &Scope, operand: &Operand) -> Option<Kind>
+    ensures { result ≡ operand_kind (scope_of scope.now) operand.now }
+{
+    match operand {
+        Operand::Column(reference) => column_kind(scope, reference),
+        Operand::Literal(literal) => kind_of(literal),
+    }
+}
+
+/// An operand as the right side of a comparison.
+pub fn side(alloc: Global, scope: &Scope, operand: &Operand) -> Result<Side, AllocError>
+    ensures { IfOk result (λ side. side ≡ operand_side (scope_of scope.now) operand.now) }
+{
+    match operand {
+        Operand::Column(reference) => Ok(Side::Column(column(scope, reference)?)),
+        Operand::Literal(literal) => Ok(Side::Literal(value(alloc, scope.script, literal)?)),
+    }
+}

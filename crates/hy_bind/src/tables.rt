@@ -1,0 +1,85 @@
+//! The tables that a statement names.
+
+ghost use Rattle.std.specs.Prelude.{◌≡◌, [], ◌∷◌, Some, None, map, IfOk};
+ghost use Rattle.std.specs.Option.{option_map};
+ghost use Rattle.hy_ast.specs.Trees.{statement_of, selection_of};
+ghost use Rattle.hy_bind.specs.Literals.{text_in};
+ghost use Rattle.hy_bind.specs.Statements.{repeats, numbers_of, tables_of};
+ghost use Rattle.hy_ast.specs.Trees as tree;
+
+use crate::literals::text_in;
+use hy_ast::{Ast, Join, Query};
+use hy_schema::{Catalog, Names};
+use hy_token::Span;
+use std::alloc::{AllocError, Global};
+
+/// The places of the tables that a statement names, in order.
+pub fn tables(alloc: Global, ast: &Ast) -> Result<Vec<Span>, AllocError>
+    ensures { IfOk result (λ tables. tables.items ≡ tables_of (statement_of ast.now)) }
+{
+    match ast {
+        Ast::Insert { table, .. } | Ast::Update { table, .. } | Ast::Delete { table, .. } => {
+            Vec::from_slice(alloc, &[*table])
+        }
+        Ast::Select(query) => query_tables(alloc, query),
+        _ => Ok(Vec::new(alloc)),
+    }
+}
+
+/// The places of the tables of a SELECT, in FROM order.
+fn query_tables(alloc: Global, query: &Query) -> Result<Vec<Span>, AllocError>
+    ensures { IfOk result (λ tables. tables.items ≡ tables_of (tree.Select (selection_of query.now))) }
+{
+    match query {
+        Query::Rows { table, joins, .. } => joined_tables(alloc, *table, joins.as_slice()),
+        Query::Count { table, .. } | Query::Groups { table, .. } => {
+            Vec::from_slice(alloc, &[*table])
+        }
+    }
+}
+
+/// The places of a table and of those joined to it.
+pub fn joined_tables(alloc: Global, table: Span, joins: &[Join]) -> Result<Vec<Span>, AllocError>
+    ensures { IfOk result (λ tables. tables.items ≡ table ∷ map (λ join. join.table) joins.now) }
+{
+    let mut tables = Vec::new(alloc);
+    tables.push(table)?;
+    for join in joins {
+        tables.push(join.table)?;
+    }
+    Ok(tables)
+}
+
+/// The numbers of tables, if they are all there.
+pub fn numbers(
+    alloc: Global,
+    script: &[u8],
+    catalog: &Catalog,
+    tables: &[Span],
+) -> Result<Option<Vec<u32>>, AllocError>
+    ensures { IfOk result (λ found. option_map (λ numbers. numbers.items) found ≡ numbers_of script.now catalog.now tables.now) }
+{
+    let mut numbers = Vec::new(alloc);
+    for table in tables {
+        let Some(number) = catalog.find(text_in(script, *table)) else {
+            return Ok(None);
+        };
+        numbers.push(number)?;
+    }
+    Ok(Some(numbers))
+}
+
+/// Whether a name comes twice among those in these places.
+pub fn repeats(alloc: Global, script: &[u8], spans: &[Span]) -> Result<bool, AllocError>
+    ensures { IfOk result (λ again. again ≡ repeats (map (text_in script.now) spans.now)) }
+{
+    let mut names = Names::new(alloc);
+    for span in spans {
+        let name = text_in(script, *span);
+        if names.find(name).is_some() {
+            return Ok(true);
+        }
+        names.add(alloc, name)?;
+    }
+    Ok(false)
+}

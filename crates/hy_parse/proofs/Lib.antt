@@ -1,0 +1,15 @@
+pub mod Loops
+pub mod Gathering
+pub mod Laws
+pub mod Choices
+pub mod Links
+pub mod Chains
+pub mod OperandRules
+pub mod ConditionRules
+pub mod ExpressionRules
+pub mod QueryRules
+pub mod StatementRules
+pub mod Sentences
+pub mod Closings
+pub mod Places
+pub mod Scripts

@@ -1,0 +1,61 @@
+// The pieces of a statement.
+
+ghost use Rattle.std.specs.Prelude.{◌≡◌, ◌≤◌, length, IfOk};
+ghost use Rattle.hy_token.specs.Token.{token_at};
+ghost use Rattle.hy_parse.specs.Pieces.{most_pieces, ended, pieces_of};
+
+use crate::cursor::is_same;
+use crate::{Ending, Piece};
+use hy_token::{Keyword, Sign, Token, next};
+use std::alloc::{AllocError, Global};
+
+/// A statement other than SCHEDULE has at most this many tokens.
+const MOST_TOKENS: usize = 4096;
+
+/// The most pieces that the statement may have that begins at the first token from `at` on. No script
+/// has more tokens than bytes.
+#[tactic(auto, unfolding(crate::specs::Pieces::most_pieces))]
+fn most_pieces(bytes: &[u8], at: usize) -> usize
+    requires { at ≤ length bytes.now }
+    ensures { result ≡ most_pieces (length bytes.now) (token_at bytes.now at) }
+{
+    match next(bytes, at) {
+        Ok((Token::Reserved(Keyword::Schedule), _)) => bytes.len(),
+        _ => MOST_TOKENS,
+    }
+}
+
+/// What follows where no piece may.
+fn no_more(bytes: &[u8], at: usize) -> Ending
+    requires { at ≤ length bytes.now }
+    ensures { result ≡ (ended (token_at bytes.now at)).ending }
+{
+    match next(bytes, at) {
+        Ok((_, span)) => Ending::Cut { at: span.start },
+        Err(bad) => Ending::Bad { at: bad.at },
+    }
+}
+
+/// The pieces of the statement that begins at the first token from `at` on, and what follows them.
+pub fn pieces(alloc: Global, bytes: &[u8], at: usize) -> Result<(Vec<Piece>, Ending), AllocError>
+    requires { at ≤ length bytes.now }
+    ensures { IfOk result (λ found. (found.0.items ≡ (pieces_of bytes.now at).pieces) × (found.1 ≡ (pieces_of bytes.now at).ending)) }
+{
+    let mut pieces = Vec::new(alloc);
+    let mut at = at;
+    for _ in 0..most_pieces(bytes, at) {
+        let (token, span) = match next(bytes, at) {
+            Ok(found) => found,
+            Err(bad) => return Ok((pieces, Ending::Bad { at: bad.at })),
+        };
+        if is_same(Token::End, token) {
+            return Ok((pieces, Ending::Cut { at: span.start }));
+        }
+        pieces.push(Piece { token, span })?;
+        if is_same(Token::Sign(Sign::Semicolon), token) {
+            return Ok((pieces, Ending::Closed { at: span.end }));
+        }
+        at = span.end;
+    }
+    Ok((pieces, no_more(bytes, at)))
+}

@@ -1,0 +1,187 @@
+// SELECT. Each function gives what it read and the pieces behind it.
+
+ghost use Rattle.std.specs.Prelude.{◌≡◌, [], ◌∷◌};
+ghost use Rattle.hy_ast.specs.Trees.{selection_of};
+ghost use Rattle.hy_parse.specs.Reading.{Gives, sum_at, from_at, joined_at, joins_at, rows_at, count_at, groups_at, second_at, columns_at, selection_at};
+
+use crate::Piece;
+use crate::conditions::where_clause;
+use crate::cursor::{Halt, begins, expect, name, next_place};
+use crate::lists::items;
+use crate::operands::column;
+use hy_ast::{ColumnRef, Join, Listed, Query, Total};
+use hy_seq::Seq;
+use hy_token::{Keyword, Sign, Span, Token};
+use std::alloc::Global;
+
+const COUNT: Token = Token::Reserved(Keyword::Count);
+
+const SUM: Token = Token::Reserved(Keyword::Sum);
+
+/// `COUNT ( * )`.
+const COUNT_OF_ALL: [Token; 4] = [
+    COUNT,
+    Token::Sign(Sign::LeftParen),
+    Token::Sign(Sign::Star),
+    Token::Sign(Sign::RightParen),
+];
+
+/// SUM of a column.
+#[tactic(auto, unfolding(crate::specs::Reading::sum_at))]
+fn sum(pieces: &[Piece]) -> Result<(ColumnRef, &[Piece]), Halt>
+    ensures { Gives (λ x. (x.0, x.1.now)) result (sum_at pieces.now) }
+{
+    let rest = expect(pieces, &[SUM, Token::Sign(Sign::LeftParen)])?;
+    let (column, rest) = column(rest)?;
+    let rest = expect(rest, &[Token::Sign(Sign::RightParen)])?;
+    Ok((column, rest))
+}
+
+/// FROM and the table.
+#[tactic(auto, unfolding(crate::specs::Reading::from_at))]
+pub fn from_table(pieces: &[Piece]) -> Result<(Span, &[Piece]), Halt>
+    ensures { Gives (λ x. (x.0, x.1.now)) result (from_at pieces.now) }
+{
+    let rest = expect(pieces, &[Token::Reserved(Keyword::From)])?;
+    name(rest)
+}
+
+/// What follows JOIN.
+#[tactic(auto, unfolding(crate::specs::Reading::joined_at))]
+fn joined(pieces: &[Piece]) -> Result<(Join, &[Piece]), Halt>
+    ensures { Gives (λ x. (x.0, x.1.now)) result (joined_at pieces.now) }
+{
+    let (table, rest) = name(pieces)?;
+    let rest = expect(rest, &[Token::Reserved(Keyword::On)])?;
+    let (left, rest) = column(rest)?;
+    let rest = expect(rest, &[Token::Sign(Sign::Equal)])?;
+    let (right, rest) = column(rest)?;
+    Ok((Join { table, left, right }, rest))
+}
+
+/// The tables that are joined.
+fn joins(alloc: Global, pieces: &[Piece]) -> Result<(Seq<Join>, &[Piece]), Halt>
+    ensures { Gives (λ x. (x.0, x.1.now)) result (joins_at pieces.now) }
+{
+    let mut joins = Seq::new(alloc);
+    let mut rest = pieces;
+    // Each turn takes a piece.
+    for _ in 0..pieces.len() {
+        let Some((_, behind)) = next_place(rest, Token::Reserved(Keyword::Join)) else {
+            return Ok((joins, rest));
+        };
+        let (join, behind) = joined(behind)?;
+        joins.push(join)?;
+        rest = behind;
+    }
+    Ok((joins, rest))
+}
+
+/// What follows the items of a SELECT of rows.
+#[tactic(auto, unfolding(crate::specs::Reading::rows_at))]
+fn rows(alloc: Global, listed: Listed, pieces: &[Piece]) -> Result<(Query, &[Piece]), Halt>
+    ensures { Gives (λ x. (selection_of x.0, x.1.now)) result (rows_at listed pieces.now) }
+{
+    let (table, rest) = from_table(pieces)?;
+    let (joins, rest) = joins(alloc, rest)?;
+    let (condition, rest) = where_clause(alloc, rest)?;
+    let query = Query::Rows {
+        listed,
+        table,
+        joins,
+        condition,
+    };
+    Ok((query, rest))
+}
+
+/// A count of the rows of a table.
+#[tactic(auto, unfolding(crate::specs::Reading::count_at))]
+fn count(alloc: Global, pieces: &[Piece]) -> Result<(Query, &[Piece]), Halt>
+    ensures { Gives (λ x. (selection_of x.0, x.1.now)) result (count_at pieces.now) }
+{
+    let rest = expect(pieces, &COUNT_OF_ALL)?;
+    let (table, rest) = from_table(rest)?;
+    let (condition, rest) = where_clause(alloc, rest)?;
+    Ok((Query::Count { table, condition }, rest))
+}
+
+/// What follows the items of a SELECT of groups.
+#[tactic(auto, unfolding(crate::specs::Reading::groups_at))]
+fn groups(
+    alloc: Global,
+    listed: ColumnRef,
+    total: Total,
+    pieces: &[Piece],
+) -> Result<(Query, &[Piece]), Halt>
+    ensures { Gives (λ x. (selection_of x.0, x.1.now)) result (groups_at listed total pieces.now) }
+{
+    let (table, rest) = from_table(pieces)?;
+    let (condition, rest) = where_clause(alloc, rest)?;
+    let rest = expect(
+        rest,
+        &[
+            Token::Reserved(Keyword::Group),
+            Token::Reserved(Keyword::By),
+        ],
+    )?;
+    let (key, rest) = column(rest)?;
+    let query = Query::Groups {
+        column: listed,
+        total,
+        table,
+        condition,
+        key,
+    };
+    Ok((query, rest))
+}
+
+/// What follows a first column and a comma.
+#[tactic(auto, unfolding(crate::specs::Reading::second_at))]
+fn second(alloc: Global, column: ColumnRef, pieces: &[Piece]) -> Result<(Query, &[Piece]), Halt>
+    ensures { Gives (λ x. (selection_of x.0, x.1.now)) result (second_at column pieces.now) }
+{
+    if begins(pieces, COUNT) {
+        let rest = expect(pieces, &COUNT_OF_ALL)?;
+        return groups(alloc, column, Total::Count, rest);
+    }
+    if begins(pieces, SUM) {
+        let (summed, rest) = sum(pieces)?;
+        return groups(alloc, column, Total::Sum(summed), rest);
+    }
+    let first = Seq::from_slice(alloc, &[column])?;
+    let (columns, rest) = items(first, pieces)?;
+    rows(alloc, Listed::Columns(columns), rest)
+}
+
+/// A SELECT that lists a column first.
+#[tactic(auto, unfolding(crate::specs::Reading::columns_at))]
+fn columns(alloc: Global, pieces: &[Piece]) -> Result<(Query, &[Piece]), Halt>
+    ensures { Gives (λ x. (selection_of x.0, x.1.now)) result (columns_at pieces.now) }
+{
+    let (column, rest) = column(pieces)?;
+    if begins(rest, Token::Sign(Sign::Comma)) {
+        let rest = expect(rest, &[Token::Sign(Sign::Comma)])?;
+        return second(alloc, column, rest);
+    }
+    let only = Seq::from_slice(alloc, &[column])?;
+    rows(alloc, Listed::Columns(only), rest)
+}
+
+/// What follows SELECT.
+#[tactic(auto, unfolding(crate::specs::Reading::selection_at))]
+pub fn query(alloc: Global, pieces: &[Piece]) -> Result<(Query, &[Piece]), Halt>
+    ensures { Gives (λ x. (selection_of x.0, x.1.now)) result (selection_at pieces.now) }
+{
+    if begins(pieces, Token::Sign(Sign::Star)) {
+        let rest = expect(pieces, &[Token::Sign(Sign::Star)])?;
+        return rows(alloc, Listed::All, rest);
+    }
+    if begins(pieces, SUM) {
+        let (column, rest) = sum(pieces)?;
+        return rows(alloc, Listed::Sum(column), rest);
+    }
+    if begins(pieces, COUNT) {
+        return count(alloc, pieces);
+    }
+    columns(alloc, pieces)
+}

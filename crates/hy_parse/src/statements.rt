@@ -1,0 +1,255 @@
+// Statements. Each function gives what it read and the pieces behind it.
+
+ghost use Rattle.std.specs.Prelude.{◌≡◌, [], ◌∷◌};
+ghost use Rattle.hy_ast.specs.Trees.{statement_of};
+ghost use Rattle.hy_parse.specs.Reading.{Gives, piece_at, kind_of, column_def_at, create_at, insert_at, session_at, begin_at, alone_at, select_at, update_at, delete_at, turns_at, schedule_at, body_at, read_statement};
+
+use crate::Piece;
+use crate::conditions::where_clause;
+use crate::cursor::{Halt, begins, expect, flag, name, next_place};
+use crate::expressions::assignments;
+use crate::lists::{Item, items};
+use crate::queries::{from_table, query};
+use hy_ast::{Ast, ColumnDef, Turn};
+use hy_seq::Seq;
+use hy_token::{Keyword, Sign, Token};
+use hy_value::Kind;
+use std::alloc::Global;
+
+const CREATE: Token = Token::Reserved(Keyword::Create);
+
+const INSERT: Token = Token::Reserved(Keyword::Insert);
+
+const SESSION: Token = Token::Reserved(Keyword::Session);
+
+const BEGIN: Token = Token::Reserved(Keyword::Begin);
+
+const SELECT: Token = Token::Reserved(Keyword::Select);
+
+const UPDATE: Token = Token::Reserved(Keyword::Update);
+
+const DELETE: Token = Token::Reserved(Keyword::Delete);
+
+const SCHEDULE: Token = Token::Reserved(Keyword::Schedule);
+
+const LEFT_PAREN: Token = Token::Sign(Sign::LeftParen);
+
+const RIGHT_PAREN: Token = Token::Sign(Sign::RightParen);
+
+/// INT or TEXT.
+fn kind_of(piece: Piece) -> Option<Kind>
+    ensures { result ≡ kind_of piece }
+{
+    match piece.token {
+        Token::Reserved(Keyword::Int) => Some(Kind::Int),
+        Token::Reserved(Keyword::Text) => Some(Kind::Str),
+        _ => None,
+    }
+}
+
+/// The type of a column.
+#[tactic(auto, unfolding(crate::specs::Reading::piece_at))]
+fn kind(pieces: &[Piece]) -> Result<(Kind, &[Piece]), Halt>
+    ensures { Gives (λ x. (x.0, x.1.now)) result (piece_at kind_of pieces.now) }
+{
+    let [piece, rest @ ..] = pieces else {
+        return Err(Halt::Stuck(pieces));
+    };
+    match kind_of(*piece) {
+        Some(kind) => Ok((kind, rest)),
+        None => Err(Halt::Stuck(pieces)),
+    }
+}
+
+/// A column of a new table.
+#[tactic(auto, unfolding(crate::specs::Reading::column_def_at))]
+fn column_def(pieces: &[Piece]) -> Result<(ColumnDef, &[Piece]), Halt>
+    ensures { Gives (λ x. (x.0, x.1.now)) result (column_def_at pieces.now) }
+{
+    let (name, rest) = name(pieces)?;
+    let (kind, rest) = kind(rest)?;
+    let (key, rest) = flag(
+        rest,
+        Token::Reserved(Keyword::Primary),
+        &[Token::Reserved(Keyword::Key)],
+    )?;
+    Ok((ColumnDef { name, kind, key }, rest))
+}
+
+impl Item for ColumnDef {
+    ghost read_at = { column_def_at };
+
+    fn read(pieces: &[Piece]) -> Result<(ColumnDef, &[Piece]), Halt> {
+        column_def(pieces)
+    }
+}
+
+/// CREATE TABLE.
+#[tactic(auto, unfolding(crate::specs::Reading::create_at))]
+fn create(alloc: Global, pieces: &[Piece]) -> Result<(Ast, &[Piece]), Halt>
+    ensures { Gives (λ x. (statement_of x.0, x.1.now)) result (create_at pieces.now) }
+{
+    let rest = expect(pieces, &[CREATE, Token::Reserved(Keyword::Table)])?;
+    let (table, rest) = name(rest)?;
+    let rest = expect(rest, &[LEFT_PAREN])?;
+    let (columns, rest) = items(Seq::new(alloc), rest)?;
+    let rest = expect(rest, &[RIGHT_PAREN])?;
+    Ok((Ast::Create { table, columns }, rest))
+}
+
+/// INSERT INTO.
+#[tactic(auto, unfolding(crate::specs::Reading::insert_at))]
+fn insert(alloc: Global, pieces: &[Piece]) -> Result<(Ast, &[Piece]), Halt>
+    ensures { Gives (λ x. (statement_of x.0, x.1.now)) result (insert_at pieces.now) }
+{
+    let rest = expect(pieces, &[INSERT, Token::Reserved(Keyword::Into)])?;
+    let (table, rest) = name(rest)?;
+    let rest = expect(rest, &[Token::Reserved(Keyword::Values), LEFT_PAREN])?;
+    let (values, rest) = items(Seq::new(alloc), rest)?;
+    let rest = expect(rest, &[RIGHT_PAREN])?;
+    Ok((Ast::Insert { table, values }, rest))
+}
+
+/// SESSION.
+#[tactic(auto, unfolding(crate::specs::Reading::session_at))]
+fn session(pieces: &[Piece]) -> Result<(Ast, &[Piece]), Halt>
+    ensures { Gives (λ x. (statement_of x.0, x.1.now)) result (session_at pieces.now) }
+{
+    let rest = expect(pieces, &[SESSION])?;
+    let (name, rest) = name(rest)?;
+    Ok((Ast::Session { name }, rest))
+}
+
+/// BEGIN.
+#[tactic(auto, unfolding(crate::specs::Reading::begin_at))]
+fn begin(pieces: &[Piece]) -> Result<(Ast, &[Piece]), Halt>
+    ensures { Gives (λ x. (statement_of x.0, x.1.now)) result (begin_at pieces.now) }
+{
+    let rest = expect(pieces, &[BEGIN])?;
+    let (read_only, rest) = flag(
+        rest,
+        Token::Reserved(Keyword::Read),
+        &[Token::Reserved(Keyword::Only)],
+    )?;
+    Ok((Ast::Begin { read_only }, rest))
+}
+
+/// A statement of one word.
+#[tactic(auto, unfolding(crate::specs::Reading::alone_at))]
+fn alone<'a>(
+    word: Keyword,
+    statement: Ast,
+    pieces: &'a [Piece],
+) -> Result<(Ast, &'a [Piece]), Halt<'a>>
+    ensures { Gives (λ x. (statement_of x.0, x.1.now)) result (alone_at word (statement_of statement) pieces.now) }
+{
+    let rest = expect(pieces, &[Token::Reserved(word)])?;
+    Ok((statement, rest))
+}
+
+/// SELECT.
+#[tactic(auto, unfolding(crate::specs::Reading::select_at))]
+fn select(alloc: Global, pieces: &[Piece]) -> Result<(Ast, &[Piece]), Halt>
+    ensures { Gives (λ x. (statement_of x.0, x.1.now)) result (select_at pieces.now) }
+{
+    let rest = expect(pieces, &[SELECT])?;
+    let (query, rest) = query(alloc, rest)?;
+    Ok((Ast::Select(query), rest))
+}
+
+/// UPDATE.
+#[tactic(auto, unfolding(crate::specs::Reading::update_at))]
+fn update(alloc: Global, pieces: &[Piece]) -> Result<(Ast, &[Piece]), Halt>
+    ensures { Gives (λ x. (statement_of x.0, x.1.now)) result (update_at pieces.now) }
+{
+    let rest = expect(pieces, &[UPDATE])?;
+    let (table, rest) = name(rest)?;
+    let rest = expect(rest, &[Token::Reserved(Keyword::Set)])?;
+    let (sets, rest) = assignments(alloc, rest)?;
+    let (condition, rest) = where_clause(alloc, rest)?;
+    let statement = Ast::Update {
+        table,
+        sets,
+        condition,
+    };
+    Ok((statement, rest))
+}
+
+/// DELETE FROM.
+#[tactic(auto, unfolding(crate::specs::Reading::delete_at))]
+fn delete(alloc: Global, pieces: &[Piece]) -> Result<(Ast, &[Piece]), Halt>
+    ensures { Gives (λ x. (statement_of x.0, x.1.now)) result (delete_at pieces.now) }
+{
+    let rest = expect(pieces, &[DELETE])?;
+    let (table, rest) = from_table(rest)?;
+    let (condition, rest) = where_clause(alloc, rest)?;
+    Ok((Ast::Delete { table, condition }, rest))
+}
+
+/// The turns of a schedule.
+fn turns(alloc: Global, pieces: &[Piece]) -> Result<(Seq<Turn>, &[Piece]), Halt>
+    ensures { Gives (λ x. (x.0, x.1.now)) result (turns_at pieces.now) }
+{
+    let mut turns = Seq::new(alloc);
+    let mut rest = pieces;
+    // Each turn takes a piece.
+    for _ in 0..pieces.len() {
+        let Some((session, behind)) = next_place(rest, Token::Name) else {
+            return Ok((turns, rest));
+        };
+        let (whole, behind) = flag(behind, Token::Sign(Sign::Bang), &[])?;
+        turns.push(Turn { session, whole })?;
+        rest = behind;
+    }
+    Ok((turns, rest))
+}
+
+/// SCHEDULE.
+#[tactic(auto, unfolding(crate::specs::Reading::schedule_at))]
+fn schedule(alloc: Global, pieces: &[Piece]) -> Result<(Ast, &[Piece]), Halt>
+    ensures { Gives (λ x. (statement_of x.0, x.1.now)) result (schedule_at pieces.now) }
+{
+    let rest = expect(pieces, &[SCHEDULE])?;
+    let (turns, rest) = turns(alloc, rest)?;
+    Ok((Ast::Schedule { turns }, rest))
+}
+
+/// A statement up to its `;`.
+#[tactic(auto, unfolding(crate::specs::Reading::body_at))]
+fn body(alloc: Global, pieces: &[Piece]) -> Result<(Ast, &[Piece]), Halt>
+    ensures { Gives (λ x. (statement_of x.0, x.1.now)) result (body_at pieces.now) }
+{
+    if begins(pieces, CREATE) {
+        create(alloc, pieces)
+    } else if begins(pieces, INSERT) {
+        insert(alloc, pieces)
+    } else if begins(pieces, SESSION) {
+        session(pieces)
+    } else if begins(pieces, BEGIN) {
+        begin(pieces)
+    } else if begins(pieces, Token::Reserved(Keyword::Commit)) {
+        alone(Keyword::Commit, Ast::Commit, pieces)
+    } else if begins(pieces, Token::Reserved(Keyword::Rollback)) {
+        alone(Keyword::Rollback, Ast::Rollback, pieces)
+    } else if begins(pieces, SELECT) {
+        select(alloc, pieces)
+    } else if begins(pieces, UPDATE) {
+        update(alloc, pieces)
+    } else if begins(pieces, DELETE) {
+        delete(alloc, pieces)
+    } else if begins(pieces, SCHEDULE) {
+        schedule(alloc, pieces)
+    } else {
+        alone(Keyword::End, Ast::End, pieces)
+    }
+}
+
+/// A statement with its `;`.
+#[tactic(auto, unfolding(crate::specs::Reading::read_statement))]
+pub fn statement(alloc: Global, pieces: &[Piece]) -> Result<(Ast, &[Piece]), Halt>
+    ensures { Gives (λ x. (statement_of x.0, x.1.now)) result (read_statement pieces.now) }
+{
+    let (statement, rest) = body(alloc, pieces)?;
+    let rest = expect(rest, &[Token::Sign(Sign::Semicolon)])?;
+    Ok((statement, rest))
+}

@@ -1,0 +1,5 @@
+use Rattle.hy_script.proofs.Lines.{moves}
+use Rattle.hy_script.proofs.reading.parse.Goals as goal
+
+pub returns-clause-moves : goal.returns-clause-moves
+returns-clause-moves c = moves c.args.script.now c.args.at c.parse_statement.result c.requires c.parsing_moves_on.ensures.statement c.parse_statement.ensures

@@ -1,0 +1,131 @@
+-- Why a statement is refused, where all its tokens fit: the first of its causes in their order.
+use Rattle.std.specs.Prelude.{ℕ, ◌*◌, Bool, true, false, not, ◌&&◌, ◌||◌, is_some, nat_le, nat_lt, List, [], ◌∷◌, Option, Some, None, length, map, take, count_by, slice_index_or, if◌then◌else◌}
+use Rattle.std.specs.Option.{option_map}
+use Rattle.hy_value.specs.declared.Value.{Value}
+use Rattle.hy_schema.specs.declared.TableDef.{TableDef}
+use Rattle.hy_schema.specs.Names.{number_of, table_number}
+use Rattle.hy_bound.specs.declared.Txn.{Txn}
+use Rattle.hy_ast.specs.declared.ColumnDef.{ColumnDef}
+use Rattle.hy_ast.specs.declared.Turn.{Turn}
+use Rattle.hy_ast.specs.Trees.{Selection, Statement}
+use Rattle.hy_ast.specs.Trees as tree
+use Rattle.hy_token.specs.declared.Span.{Span}
+use Rattle.hy_ast.specs.declared.Literal.{Literal}
+use Rattle.hy_bind.specs.Literals.{text_in, literal_value}
+use Rattle.hy_bind.specs.Statements.{bind_fault, repeats}
+use Rattle.hy_script.specs.declared.Options.{Options}
+use Rattle.hy_script.specs.declared.NamedTxns.{NamedTxns}
+use Rattle.hy_script.specs.declared.growing.OpenTxn.{OpenTxn}
+use Rattle.hy_script.specs.declared.growing.Place.{Place}
+use Rattle.hy_script.specs.declared.growing.Place.TheVariants.{Defining, Between, Within, Scheduled}
+use Rattle.hy_script.specs.declared.growing.SoFar.{SoFar}
+use Rattle.hy_script.specs.declared.codes.Code.{Code}
+use Rattle.hy_script.specs.declared.codes.Code.TheVariants as code
+use Rattle.hy_script.specs.Later.{is_outside}
+use Rattle.hy_script.specs.Codes.{first_of, code_if, code_of}
+use Rattle.hy_script.specs.declared.stocks.Stock.{Stock}
+use Rattle.hy_script.specs.Stocks.{no_rows, has_key}
+
+-- the cause that binding gives
+abbrev pub bind_code : List ℕ → SoFar → Statement → Option Code
+bind_code script sofar statement = option_map code_of (bind_fault script sofar.catalog statement)
+
+-- a name as a text; a name has at most 32 bytes
+abbrev pub name_in : List ℕ → Span → List ℕ
+name_in script span = take 255 (text_in script span)
+
+-- CREATE TABLE: no table has the name, no two columns have one, and there is one key at most; it is one of at
+-- most 16 tables, with at most 32 columns
+abbrev pub is_key : ColumnDef → Bool
+is_key column = column.key
+
+abbrev pub create_code : List ℕ → SoFar → Span → List ColumnDef → Option Code
+create_code script sofar table columns =
+    first_of (code_if (is_some (table_number sofar.catalog (name_in script table)) || repeats (map (text_in script) (map (λ column. column.name) columns)) || nat_lt 1 (count_by is_key columns)) code.Twice)
+    (code_if (nat_le 16 (length sofar.catalog) || nat_lt 32 (length columns)) code.Limit)
+
+-- the first rows of the table of this name
+abbrev pub stock_at : Option ℕ → List Stock → Stock
+stock_at None stocks = no_rows None
+stock_at (Some number) stocks = slice_index_or stocks number (no_rows None)
+
+abbrev pub stock_of : List ℕ → SoFar → Span → Stock
+stock_of script sofar table = stock_at (table_number sofar.catalog (text_in script table)) sofar.stocks
+
+-- a first row: there is room, and no earlier one has its key
+abbrev pub first_row_code : List ℕ → Options → SoFar → Statement → Span → List Literal → Option Code
+first_row_code script options sofar statement table values =
+    first_of (bind_code script sofar statement)
+    (first_of (code_if (nat_le (options.chunks * options.rows) (length (stock_of script sofar table).rows)) code.Limit)
+    (code_if (has_key (stock_of script sofar table) (map (literal_value script) values)) code.KeyTwice))
+
+-- SESSION: no session has the name, and it is one of at most 64
+abbrev pub session_code : List ℕ → SoFar → Span → Option Code
+session_code script sofar name =
+    first_of (code_if (is_some (number_of sofar.names (text_in script name))) code.Twice) (code_if (nat_le 64 (length sofar.names)) code.Limit)
+
+-- BEGIN: the session has less than 65,535 transactions
+abbrev pub begin_code : NamedTxns → Option Code
+begin_code session = code_if (nat_le 65535 (length session.txns)) code.Limit
+
+abbrev pub writes : Statement → Bool
+writes (tree.Insert table values) = true
+writes (tree.Update table sets test) = true
+writes (tree.Delete table test) = true
+writes _ = false
+
+abbrev pub groups : Statement → Bool
+groups (tree.Select (tree.Groups column total table test key)) = true
+groups _ = false
+
+-- a statement of a transaction: a READ ONLY one doesn't write, GROUP BY stands in a READ ONLY one, and it is one
+-- of at most 256
+abbrev pub statement_code : List ℕ → SoFar → OpenTxn → Statement → Option Code
+statement_code script sofar txn statement =
+    first_of (bind_code script sofar statement)
+    (first_of (code_if (txn.read_only && writes statement) code.ReadOnly)
+    (first_of (code_if (not txn.read_only && groups statement) code.GroupInWriter)
+    (code_if (nat_le 256 (length txn.statements)) code.Limit)))
+
+-- SCHEDULE: it names sessions, in at most 1,000,000 turns
+unfoldable pub is_unknown : List ℕ → List (List ℕ) → Turn → Bool
+is_unknown script names turn = not (is_some (number_of names (text_in script turn.session)))
+
+abbrev pub any_unknown : List ℕ → List (List ℕ) → List Turn → Bool
+any_unknown script names [] = false
+any_unknown script names (turn ∷ turns) = is_unknown script names turn || any_unknown script names turns
+
+abbrev pub schedule_code : List ℕ → SoFar → List Turn → Option Code
+schedule_code script sofar turns =
+    first_of (code_if (any_unknown script sofar.names turns) code.UnknownSession) (code_if (nat_lt 1000000 (length turns)) code.Limit)
+
+-- by where the script stands; a statement that may not stand there is refused before
+abbrev pub statement_code_at : List ℕ → SoFar → Place → Statement → Option Code
+statement_code_at script sofar (Within session txn) statement = statement_code script sofar txn statement
+statement_code_at script sofar _ statement = None
+
+abbrev pub insert_code_at : List ℕ → Options → SoFar → Place → Statement → Span → List Literal → Option Code
+insert_code_at script options sofar (Within session txn) statement table values = statement_code script sofar txn statement
+insert_code_at script options sofar _ statement table values = first_row_code script options sofar statement table values
+
+abbrev pub begin_code_at : Place → Option Code
+begin_code_at (Between session) = begin_code session
+begin_code_at _ = None
+
+abbrev pub refusal_of : List ℕ → Options → SoFar → Statement → Option Code
+refusal_of script options sofar (tree.Create table columns) = create_code script sofar table columns
+refusal_of script options sofar (tree.Insert table values) = insert_code_at script options sofar sofar.place (tree.Insert table values) table values
+refusal_of script options sofar (tree.Session name) = session_code script sofar name
+refusal_of script options sofar (tree.Begin read_only) = begin_code_at sofar.place
+refusal_of script options sofar tree.Commit = None
+refusal_of script options sofar tree.Rollback = None
+refusal_of script options sofar (tree.Select selection) = statement_code_at script sofar sofar.place (tree.Select selection)
+refusal_of script options sofar (tree.Update table sets test) = statement_code_at script sofar sofar.place (tree.Update table sets test)
+refusal_of script options sofar (tree.Delete table test) = statement_code_at script sofar sofar.place (tree.Delete table test)
+refusal_of script options sofar (tree.Schedule turns) = schedule_code script sofar turns
+refusal_of script options sofar tree.End = None
+
+-- a statement outside the dialect is a syntax error; else the first of its causes
+abbrev pub refusal_in : List ℕ → Options → SoFar → Statement → Option Code
+refusal_in script options sofar statement =
+    if is_outside options.dialect sofar statement then Some code.Syntax else refusal_of script options sofar statement

@@ -1,0 +1,289 @@
+//! The language beyond the first form: conditions, expressions, and what each kind of statement means
+//! and reads.
+
+use hy_bound::{
+    Aggregate, Assign, Bound, Items, On, Pred, Reply, Rows, SetExpr, Shape, Side, records, truth,
+    value,
+};
+use hy_meaning::meaning;
+use hy_render::{Ending, Names, Outcome, TxnOutcome, render};
+use hy_seq::Seq;
+use hy_stamp::Label;
+use hy_value::{Cmp, Row, Value, print_row};
+use std::alloc::{AllocError, Global};
+use std::test::Fail;
+
+/// A table of two columns, the first of which is its key.
+const KEYED: Shape = Shape {
+    width: 2,
+    key: Some(0),
+};
+
+/// A row.
+fn row(alloc: Global, values: &[Value]) -> Result<Row, AllocError> {
+    Seq::from_slice(alloc, values)
+}
+
+/// The rows 1|5, 2|NULL, 3|7 and 4|5.
+fn four_rows(alloc: Global) -> Result<Rows, AllocError> {
+    let mut rows = Seq::new(alloc);
+    rows.push(row(alloc, &[Value::Int(1), Value::Int(5)])?)?;
+    rows.push(row(alloc, &[Value::Int(2), Value::Null])?)?;
+    rows.push(row(alloc, &[Value::Int(3), Value::Int(7)])?)?;
+    rows.push(row(alloc, &[Value::Int(4), Value::Int(5)])?)?;
+    Ok(rows)
+}
+
+/// A column equal to a number.
+fn equal(column: u32, number: i64) -> Pred {
+    Pred::compare(column, Cmp::Eq, Side::Literal(Value::Int(number)))
+}
+
+/// The reply to a statement over the one table of four rows, and the table after it, as they are printed.
+fn told(alloc: Global, statement: &Bound) -> Result<(Vec<u8>, Vec<u8>), Fail> {
+    let mut tables = Seq::new(alloc);
+    tables.push(four_rows(alloc)?)?;
+    let Some(reply) = meaning(alloc, &[KEYED], statement, &mut tables)? else {
+        return Err(Fail::from("the statement has a meaning"));
+    };
+    let mut after = Vec::new(alloc);
+    for table in tables.as_slice() {
+        for row in table.as_slice() {
+            print_row(row, &mut after)?;
+            after.push(b' ')?;
+        }
+    }
+    Ok((printed(alloc, reply)?, after))
+}
+
+/// A reply as it is printed between the first line of its transaction and the last.
+fn printed(alloc: Global, reply: Reply) -> Result<Vec<u8>, Fail> {
+    let mut replies = Seq::new(alloc);
+    replies.push(reply)?;
+    let mut txns = Seq::new(alloc);
+    txns.push(TxnOutcome {
+        label: Label { session: 0, txn: 1 },
+        start: 0,
+        replies,
+        ending: Ending::Read,
+        wrote: Seq::new(alloc),
+        placed: Seq::new(alloc),
+    })?;
+    let names = Names {
+        tables: Seq::new(alloc),
+        sessions: Seq::new(alloc),
+    };
+    let outcome = Outcome {
+        txns,
+        order: Seq::new(alloc),
+        tables: Seq::new(alloc),
+    };
+    let mut text = Vec::new(alloc);
+    render(&names, &outcome, &mut text)?;
+    Ok(text)
+}
+
+#[test]
+fn conditions_have_three_values(rt: HostRuntime) -> Result<(), Fail> {
+    let alloc = rt.alloc();
+    let row = row(alloc, &[Value::Int(1), Value::Null])?;
+    assert!(rt; truth(&Pred::is_null(1), &row) && !truth(&Pred::is_null(0), &row));
+    assert!(rt; !truth(&Pred::not(alloc, equal(1, 1))?, &row));
+    assert!(rt; truth(&Pred::not(alloc, equal(0, 2))?, &row));
+    assert!(rt; !truth(&Pred::and(alloc, equal(0, 1), equal(1, 1))?, &row));
+    // False AND unknown is false, so that its negation is true.
+    let neither = Pred::and(alloc, equal(0, 2), equal(1, 1))?;
+    assert!(rt; truth(&Pred::not(alloc, neither.copy(alloc)?)?, &row));
+    assert!(rt; truth(&Pred::or(alloc, equal(1, 1), equal(0, 1))?, &row));
+    assert!(rt; !truth(&Pred::or(alloc, equal(1, 1), neither)?, &row));
+    assert!(rt; truth(&Pred::compare(0, Cmp::Le, Side::Column(0)), &row));
+    assert!(rt; !truth(&Pred::compare(1, Cmp::Eq, Side::Column(1)), &row));
+    Ok(())
+}
+
+#[test]
+fn expressions_leave_64_bits_or_not(rt: HostRuntime) -> Result<(), Fail> {
+    let alloc = rt.alloc();
+    let row = row(alloc, &[Value::Int(i64::MAX), Value::Null])?;
+    let one = SetExpr::literal(Value::Int(1));
+    let less = SetExpr::sub(alloc, SetExpr::column(0), one)?;
+    let again = SetExpr::add(alloc, less, SetExpr::literal(Value::Int(1)))?;
+    assert!(rt; matches!(value(&again, &row), Ok(Value::Int(i64::MAX))));
+    let over = SetExpr::add(alloc, again, SetExpr::literal(Value::Int(1)))?;
+    assert!(rt; value(&over, &row).is_err());
+    let nothing = SetExpr::mul(alloc, SetExpr::column(1), SetExpr::column(0))?;
+    assert!(rt; matches!(value(&nothing, &row), Ok(Value::Null)));
+    let worse = SetExpr::mul(alloc, nothing, over)?;
+    assert!(rt; value(&worse, &row).is_err());
+    Ok(())
+}
+
+/// Whether the reply to a statement over the four rows, and the rows after it, are printed so.
+fn gives(alloc: Global, statement: &Bound, reply: &str, rows: &str) -> Result<bool, Fail> {
+    let (told, after) = told(alloc, statement)?;
+    let text = told.as_slice();
+    let front = b"txn .1 start 0\n".len();
+    let back = b"read\norder 0\nend\n".len();
+    let same = text.len() >= front + back && &text[front..text.len() - back] == reply.as_bytes();
+    Ok(same && after.as_slice() == rows.as_bytes())
+}
+
+/// The four rows as they are printed.
+const FOUR: &str = "1|5 2|NULL 3|7 4|5 ";
+
+/// Whether a SELECT over the four rows is told so.
+fn shows(alloc: Global, pred: Pred, items: Items, reply: &str) -> Result<bool, Fail> {
+    let select = Bound::Select {
+        tables: Seq::from_slice(alloc, &[0])?,
+        ons: Seq::new(alloc),
+        pred,
+        items,
+    };
+    gives(alloc, &select, reply, FOUR)
+}
+
+#[test]
+fn sums_pass_over_null(rt: HostRuntime) -> Result<(), Fail> {
+    assert!(rt; shows(rt.alloc(), Pred::always(), Items::Sum(1), "value 17\n")?);
+    Ok(())
+}
+
+#[test]
+fn rows_are_counted(rt: HostRuntime) -> Result<(), Fail> {
+    assert!(rt; shows(rt.alloc(), equal(1, 5), Items::Count, "value 2\n")?);
+    Ok(())
+}
+
+#[test]
+fn groups_ascend_and_null_is_one(rt: HostRuntime) -> Result<(), Fail> {
+    let alloc = rt.alloc();
+    let counted = Bound::Group {
+        table: 0,
+        pred: Pred::always(),
+        key: 1,
+        aggregate: Aggregate::Count,
+    };
+    let lines = "groups 3\ngroup NULL|1\ngroup 5|2\ngroup 7|1\n";
+    assert!(rt; gives(alloc, &counted, lines, FOUR)?);
+    let summed = Bound::Group {
+        table: 0,
+        pred: equal(1, 5),
+        key: 1,
+        aggregate: Aggregate::Sum(0),
+    };
+    assert!(rt; gives(alloc, &summed, "groups 1\ngroup 5|5\n", FOUR)?);
+    Ok(())
+}
+
+#[test]
+fn a_row_comes_once_by_its_key(rt: HostRuntime) -> Result<(), Fail> {
+    let alloc = rt.alloc();
+    let again = Bound::Insert {
+        table: 0,
+        row: row(alloc, &[Value::Int(3), Value::Int(0)])?,
+    };
+    assert!(rt; gives(alloc, &again, "duplicate\n", FOUR)?);
+    let new = Bound::Insert {
+        table: 0,
+        row: row(alloc, &[Value::Int(0), Value::Null])?,
+    };
+    assert!(rt; gives(alloc, &new, "inserted\n", "0|NULL 1|5 2|NULL 3|7 4|5 ")?);
+    Ok(())
+}
+
+#[test]
+fn selected_rows_go(rt: HostRuntime) -> Result<(), Fail> {
+    let alloc = rt.alloc();
+    let fives = Bound::Delete {
+        table: 0,
+        pred: equal(1, 5),
+    };
+    assert!(rt; gives(alloc, &fives, "deleted 2\n", "2|NULL 3|7 ")?);
+    Ok(())
+}
+
+/// SELECT of the table joined with itself where their second columns are equal, and the first column of
+/// the first is 1 and the second of the second is 5.
+fn join(alloc: Global) -> Result<Bound, AllocError> {
+    let on = On { left: 1, right: 3 };
+    Ok(Bound::Select {
+        tables: Seq::from_slice(alloc, &[0, 0])?,
+        ons: Seq::from_slice(alloc, &[on])?,
+        pred: Pred::and(alloc, equal(0, 1), equal(3, 5))?,
+        items: Items::Columns(Seq::from_slice(alloc, &[2])?),
+    })
+}
+
+#[test]
+fn null_joins_nothing(rt: HostRuntime) -> Result<(), Fail> {
+    let alloc = rt.alloc();
+    assert!(rt; gives(alloc, &join(alloc)?, "rows 2\nrow 1\nrow 4\n", FOUR)?);
+    let on = On { left: 1, right: 3 };
+    let all = Bound::Select {
+        tables: Seq::from_slice(alloc, &[0, 0])?,
+        ons: Seq::from_slice(alloc, &[on])?,
+        pred: Pred::is_null(1),
+        items: Items::Count,
+    };
+    assert!(rt; gives(alloc, &all, "value 0\n", FOUR)?);
+    Ok(())
+}
+
+#[test]
+fn a_join_reads_each_table_by_itself(rt: HostRuntime) -> Result<(), Fail> {
+    let alloc = rt.alloc();
+    let all = records(alloc, &[KEYED], &join(alloc)?, 1)?;
+    let one = row(alloc, &[Value::Int(1), Value::Int(0)])?;
+    let five = row(alloc, &[Value::Int(0), Value::Int(5)])?;
+    let [left, right] = all.as_slice() else {
+        return Err(Fail::from("two tables have two records"));
+    };
+    assert!(rt; truth(&left.pred, &one) && !truth(&left.pred, &five));
+    assert!(rt; truth(&right.pred, &five) && !truth(&right.pred, &one));
+    assert!(rt; left.columns.has(0) && left.columns.has(1));
+    assert!(rt; right.columns.has(0) && right.columns.has(1));
+    Ok(())
+}
+
+#[test]
+fn statements_read_what_they_name(rt: HostRuntime) -> Result<(), Fail> {
+    let alloc = rt.alloc();
+    let new = row(alloc, &[Value::Int(3), Value::Int(0)])?;
+    let same = row(alloc, &[Value::Int(3), Value::Int(9)])?;
+    let insert = Bound::Insert { table: 0, row: new };
+    let looked = records(alloc, &[KEYED], &insert, 1)?;
+    let [key] = looked.as_slice() else {
+        return Err(Fail::from("a key has a record"));
+    };
+    assert!(rt; truth(&key.pred, &same) && key.columns.has(0) && !key.columns.has(1));
+    let mut sets = Seq::new(alloc);
+    sets.push(Assign {
+        column: 0,
+        value: SetExpr::column(1),
+    })?;
+    let update = Bound::Update {
+        table: 0,
+        sets,
+        pred: Pred::is_null(0),
+    };
+    for of in records(alloc, &[KEYED], &update, 1)?.as_slice() {
+        assert!(rt; of.columns.has(0) && of.columns.has(1));
+    }
+    let group = Bound::Group {
+        table: 0,
+        pred: Pred::always(),
+        key: 0,
+        aggregate: Aggregate::Sum(1),
+    };
+    for of in records(alloc, &[KEYED], &group, 1)?.as_slice() {
+        assert!(rt; of.columns.has(0) && of.columns.has(1));
+    }
+    let delete = Bound::Delete {
+        table: 0,
+        pred: equal(1, 5),
+    };
+    for of in records(alloc, &[KEYED], &delete, 1)?.as_slice() {
+        assert!(rt; of.columns.has(1) && !of.columns.has(0));
+    }
+    Ok(())
+}

@@ -1,0 +1,66 @@
+-- Which command the words are.
+use Rattle.std.specs.Prelude.{ℕ, Bool, true, false, not, List, Option, Some, None, codes}
+use Rattle.std.specs.Prelude.{if◌then◌else◌, option_and_then}
+use Rattle.std.specs.Str.{bytes_eq}
+use Rattle.std.specs.Str.Parse.{digits_value, without_leading_plus}
+use Rattle.clap.specs.Faults.{fault_of}
+use Rattle.clap.specs.Simple.{subcommand_of}
+use Rattle.clap.specs.ValueTests.{is_unsigned_in}
+use Rattle.clap.specs.Walk.{Row, Text, is_empty, one_of}
+use Rattle.clap.specs.declared.error.kind.ErrorKind.{ErrorKind}
+use Rattle.clap.specs.declared.error.kind.ErrorKind.TheVariants as kind
+use Rattle.hy_words.specs.Grammar.{hy}
+use Rattle.hy_words.specs.declared.Command.{Command}
+use Rattle.hy_words.specs.declared.Command.TheVariants.{Run, Check}
+use Rattle.hy_words.specs.declared.WordsError.{WordsError}
+use Rattle.hy_words.specs.declared.WordsError.TheVariants.{Refused, OutOfMemory}
+
+-- the number that a text writes in decimal digits, where a `u32` holds it
+abbrev pub number_of : Text → Option ℕ
+number_of text = if is_unsigned_in 0 4294967295 text
+    then Some (digits_value 10 (without_leading_plus text)) else None
+
+-- the truth value that a text names
+abbrev pub truth_of : Text → Option Bool
+truth_of text = if bytes_eq text (codes "true") then Some true
+    else if bytes_eq text (codes "false") then Some false else None
+
+-- the number or the truth value that the matches have for an argument
+abbrev pub number_in : Text → List Row → Option ℕ
+number_in name matches = option_and_then number_of (one_of name matches)
+
+abbrev pub truth_in : Text → List Row → Option Bool
+truth_in name matches = option_and_then truth_of (one_of name matches)
+
+-- `run` with these, where the matches have each
+abbrev pub run_with : Option Bool → Option ℕ → Option ℕ → Option Command
+run_with (Some keeps) (Some chunks) (Some rows) = Some (Run (not keeps) chunks rows)
+run_with _ _ _ = None
+
+abbrev pub check_with : Option ℕ → Option ℕ → Option Command
+check_with (Some chunks) (Some rows) = Some (Check chunks rows)
+check_with _ _ = None
+
+-- what the matches of `run` and of `check` ask for
+abbrev pub run_by : List Row → Option Command
+run_by matches = run_with (truth_in (codes "no-prune") matches) (number_in (codes "chunks") matches)
+    (number_in (codes "rows") matches)
+
+abbrev pub check_by : List Row → Option Command
+check_by matches =
+    check_with (number_in (codes "chunks") matches) (number_in (codes "rows") matches)
+
+-- what a subcommand with its matches asks for
+abbrev pub asked_by : Option (Text × List Row) → Option Command
+asked_by = option_and_then (λ s. if bytes_eq s.0 (codes "run") then run_by s.1
+    else if bytes_eq s.0 (codes "check") then check_by s.1 else None)
+
+-- The command that the words are: where clap finds no fault with them, what it makes of them asks for
+-- that command.
+abbrev pub command_of : List Text → Option Command
+command_of words = if is_empty (fault_of hy words) then asked_by (subcommand_of hy words) else None
+
+-- what a failed parse comes to
+abbrev pub refusal_of : ErrorKind → WordsError
+refusal_of kind.OutOfMemory = OutOfMemory
+refusal_of _ = Refused

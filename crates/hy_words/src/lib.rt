@@ -1,0 +1,126 @@
+//! The words of the command line: which command they ask for.
+#![tactic(auto)]
+
+ghost use Rattle.std.specs.Prelude.{◌≡◌, Some, None, Err, IfOk, map};
+ghost use Rattle.std.specs.String.{string_bytes};
+ghost use Rattle.clap.specs.Words.{found_of, rows_of, subcommand_rows_of};
+ghost use Rattle.hy_words.specs.Words.{asked_by, check_by, command_of, number_in, refusal_of, run_by, truth_in};
+
+mod grammar;
+
+use clap::ArgMatches;
+use clap::error::ErrorKind;
+use grammar::hy;
+use std::alloc::{AllocError, Global};
+
+/// What the words ask for.
+#[derive(Clone, Copy, Debug, PartialEq, Eq)]
+pub enum Command {
+    /// Run a script.
+    Run {
+        /// Whether chains of versions are pruned.
+        prune: bool,
+        /// How many chunks a table has.
+        chunks: u32,
+        /// How many positions a chunk has.
+        rows: u32,
+    },
+    /// Read a script and count what it has.
+    Check {
+        /// How many chunks a table has.
+        chunks: u32,
+        /// How many positions a chunk has.
+        rows: u32,
+    },
+}
+
+/// Why the words ask for nothing.
+#[derive(Clone, Copy, Debug, PartialEq, Eq)]
+pub enum WordsError {
+    /// They are no command.
+    Refused,
+    /// There is no memory.
+    OutOfMemory,
+}
+
+impl From<AllocError> for WordsError {
+    ghost use Rattle.hy_words.specs.declared.WordsError.{WordsError};
+
+    ghost from_gives = { λ _ e. e ≡ WordsError.OutOfMemory };
+
+    fn from(_error: AllocError) -> WordsError {
+        WordsError::OutOfMemory
+    }
+}
+
+/// The command that these words are. The first word is the program's name.
+pub fn command_of(alloc: Global, words: &[String]) -> Result<Command, WordsError>
+    ensures accepted { IfOk result (λ command. command_of (map string_bytes words.now) ≡ Some command) }
+    ensures refused { result ≡ Err WordsError.Refused → command_of (map string_bytes words.now) ≡ None }
+{
+    match hy(alloc)?.try_get_matches_from(words) {
+        Ok(matches) => asked(&matches).ok_or(WordsError::Refused),
+        Err(error) => Err(refusal(error.kind())),
+    }
+}
+
+/// What a failed parse comes to.
+fn refusal(kind: ErrorKind) -> WordsError
+    ensures { result ≡ refusal_of kind }
+{
+    match kind {
+        ErrorKind::OutOfMemory => WordsError::OutOfMemory,
+        _ => WordsError::Refused,
+    }
+}
+
+/// The command that the matches name.
+fn asked(matches: &ArgMatches<'_>) -> Option<Command>
+    ensures { result ≡ asked_by (subcommand_rows_of matches.now) }
+{
+    let Some((name, given)) = matches.subcommand() else {
+        return None;
+    };
+    match name {
+        "run" => run_asked(given),
+        "check" => check_asked(given),
+        _ => None,
+    }
+}
+
+/// What the matches of `run` ask for.
+fn run_asked(given: &ArgMatches<'_>) -> Option<Command>
+    ensures { result ≡ run_by (rows_of (found_of given.now)) }
+{
+    let keeps = truth(given, "no-prune")?;
+    let chunks = number(given, "chunks")?;
+    let rows = number(given, "rows")?;
+    Some(Command::Run {
+        prune: !keeps,
+        chunks,
+        rows,
+    })
+}
+
+/// What the matches of `check` ask for.
+fn check_asked(given: &ArgMatches<'_>) -> Option<Command>
+    ensures { result ≡ check_by (rows_of (found_of given.now)) }
+{
+    let chunks = number(given, "chunks")?;
+    let rows = number(given, "rows")?;
+    Some(Command::Check { chunks, rows })
+}
+
+/// The number that the matches have for an option.
+fn number(given: &ArgMatches<'_>, name: &str) -> Option<u32>
+    ensures { result ≡ number_in name.now (rows_of (found_of given.now)) }
+{
+    given.get_one(name)
+}
+
+/// The truth value that the matches have for a flag.
+fn truth(given: &ArgMatches<'_>, name: &str) -> Option<bool>
+    ensures { result ≡ truth_in name.now (rows_of (found_of given.now)) }
+{
+    given.get_one(name)
+}

@@ -1,5 +1,5 @@
 -- Names and their numbers.
-use Rattle.std.specs.Prelude.{ℕ, ◌||◌, Bool, is_some, List, Option, Some, None, map, position, slice_get, length, nat_le, nat_lt, if◌then◌else◌}
+use Rattle.std.specs.Prelude.{ℕ, ◌||◌, is_some, List, Option, Some, None, map, position, slice_get, length, nat_le, nat_lt, if◌then◌else◌}
 use Rattle.std.specs.Str.{bytes_eq}
 use Rattle.hy_schema.specs.declared.Column.{Column}
 use Rattle.hy_schema.specs.declared.TableDef.{TableDef}

@@ -10,21 +10,21 @@ fn is_space(byte: u8) -> bool
     byte == b' ' || byte == b'\t' || byte == b'\r' || byte == b'\n'
 }
 
-// What a word begins with.
+/// What a word begins with.
 pub fn begins_word(byte: u8) -> bool
     ensures { result ≡ begins_word byte }
 {
     byte.is_ascii_alphabetic() || byte == b'_'
 }
 
-// What a word goes on with.
+/// What a word goes on with.
 fn continues_word(byte: u8) -> bool
     ensures { result ≡ continues_word byte }
 {
     byte.is_ascii_alphanumeric() || byte == b'_'
 }
 
-// A word's bytes.
+/// A word's bytes.
 #[tactic(auto, using(crate::proofs::RunSteps::run_steps))]
 pub fn word_len(bytes: &[u8]) -> usize
     ensures { result ≡ word_len bytes.now }
@@ -36,7 +36,7 @@ pub fn word_len(bytes: &[u8]) -> usize
     len
 }
 
-// The bytes of an integer.
+/// The bytes of an integer.
 #[tactic(auto, using(crate::proofs::RunSteps::run_steps))]
 pub fn digits_len(bytes: &[u8]) -> usize
     ensures { result ≡ digits_len bytes.now }
@@ -48,7 +48,7 @@ pub fn digits_len(bytes: &[u8]) -> usize
     len
 }
 
-// The bytes before the next line feed or the end.
+/// The bytes before the next line feed or the end.
 #[tactic(auto, using(crate::proofs::RunSteps::run_steps))]
 fn line_len(bytes: &[u8]) -> usize
     ensures { result ≡ prefix_len is_within_line bytes.now }
@@ -60,7 +60,7 @@ fn line_len(bytes: &[u8]) -> usize
     len
 }
 
-// The space or the comment that stands first, a comment up to its line feed.
+/// The space or the comment that stands first, a comment up to its line feed.
 fn piece_len(bytes: &[u8]) -> usize
     ensures { result ≡ piece_len bytes.now }
 {
@@ -76,7 +76,7 @@ fn piece_len(bytes: &[u8]) -> usize
     }
 }
 
-// Spaces and comments.
+/// Spaces and comments.
 #[tactic(auto, using(crate::proofs::Blanks::blank_steps), unfolding(crate::specs::Lengths::blank_len))]
 pub fn blank_len(bytes: &[u8]) -> usize
     ensures value { result ≡ blank_len bytes.now }
@@ -92,7 +92,7 @@ pub fn blank_len(bytes: &[u8]) -> usize
     }
 }
 
-// What follows the quote that opens a text, with the quote that closes it.
+/// What follows the quote that opens a text, with the quote that closes it.
 pub fn text_rest_len(bytes: &[u8]) -> Option<usize>
     ensures value { result ≡ text_rest_len bytes.now }
     ensures in_range { IfSome result (λ len. len ≤ length bytes.now) }

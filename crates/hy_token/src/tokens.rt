@@ -9,7 +9,7 @@ use crate::{Bad, Keyword, Sign, Span, Token};
 // A word of more bytes is no token.
 const LONGEST_WORD: usize = 32;
 
-// The word that stands first, and how many bytes it takes.
+/// The word that stands first, and how many bytes it takes.
 fn first_word(bytes: &[u8]) -> Option<(Token, usize)>
     ensures { result ≡ first_word bytes.now }
 {
@@ -23,7 +23,7 @@ fn first_word(bytes: &[u8]) -> Option<(Token, usize)>
     ))
 }
 
-// The text whose opening quote stands first.
+/// The text whose opening quote stands first.
 fn first_text(bytes: &[u8]) -> Option<(Token, usize)>
     requires { 0 < length bytes.now }
     ensures { result ≡ first_text bytes.now }
@@ -32,7 +32,7 @@ fn first_text(bytes: &[u8]) -> Option<(Token, usize)>
     Some((Token::Text, 1 + len))
 }
 
-// The sign that stands first.
+/// The sign that stands first.
 fn first_sign(bytes: &[u8]) -> Option<(Token, usize)>
     ensures { result ≡ first_sign bytes.now }
 {
@@ -40,7 +40,7 @@ fn first_sign(bytes: &[u8]) -> Option<(Token, usize)>
     Some((Token::Sign(sign), sign.spelling().len()))
 }
 
-// The token that stands first, where no space and no comment does, and how many bytes it takes.
+/// The token that stands first, where no space and no comment does, and how many bytes it takes.
 #[tactic(auto, unfolding(crate::specs::Token::first_token))]
 pub fn first_token(bytes: &[u8]) -> Option<(Token, usize)>
     ensures { result ≡ first_token bytes.now }
@@ -59,7 +59,7 @@ pub fn first_token(bytes: &[u8]) -> Option<(Token, usize)>
     }
 }
 
-// The next token from a place on.
+/// The next token from a place on.
 #[tactic(auto, unfolding(crate::specs::Token::lexed))]
 pub fn token_at(bytes: &[u8], at: usize) -> Result<(Token, Span), Bad>
     requires { at ≤ length bytes.now }

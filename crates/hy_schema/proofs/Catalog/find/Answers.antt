@@ -1,4 +1,4 @@
-use Rattle.std.proofs.Common.{◌≡◌, ap, ◌∙◌}
+use Rattle.std.proofs.Common.{ap, ◌∙◌}
 use Rattle.hy_schema.specs.Names.{table_number}
 use Rattle.hy_schema.proofs.Entries.{place_is_number}
 use Rattle.hy_schema.proofs.Catalog.find.Goals as goal

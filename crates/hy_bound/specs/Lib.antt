@@ -7,3 +7,7 @@ pub mod ExprFalls
 pub mod Predicate
 pub mod Assignment
 pub mod Records
+pub mod Projection
+pub mod Reads
+pub mod Agreement
+pub mod Changes

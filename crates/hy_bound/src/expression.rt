@@ -6,7 +6,7 @@ ghost use Rattle.hy_bound.specs.Assignment.{value_of, combined, applied, exact, 
 ghost use Rattle.hy_bound.specs.Records.{columns_read, add_columns};
 
 use crate::predicate::column_value;
-use crate::reads::add_all;
+use crate::restrictions::add_all;
 use crate::{Range, Sets};
 use hy_seq::Seq;
 use hy_value::{ColMask, Row, Value};

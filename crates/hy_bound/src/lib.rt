@@ -2,17 +2,26 @@
 //! reads, replies.
 #![tactic(auto)]
 
+ghost use Rattle.std.specs.Prelude.{◌≡◌, IfOk};
+
 mod changes;
 mod expression;
+mod laws;
 mod predicate;
-mod reads;
+mod projection;
+mod reading;
+mod restrictions;
 
 pub use changes::hits;
 pub use expression::{SetExpr, set_row, value};
 use hy_seq::Seq;
 use hy_value::{ColMask, Row, Value};
+pub use laws::{only_named_columns_matter, projections_are_spread};
 pub use predicate::{Pred, Side, column_value, truth};
-pub use reads::records;
+pub use projection::{add_spread, project_row, spread_row};
+pub use reading::{behind, front_rows, looked_up, reads, records, table_shape};
+pub use restrictions::{conditions, named, restrict};
+use std::alloc::{AllocError, Global};
 
 /// Column or table numbers.
 pub type Numbers = Seq<u32>;
@@ -54,6 +63,22 @@ pub enum Items {
     Sum(u32),
     /// How many they are.
     Count,
+}
+
+impl Items {
+    /// A copy.
+    pub fn copy(&self, alloc: Global) -> Result<Items, AllocError>
+        ensures { IfOk result (λ items. items ≡ self.now) }
+    {
+        match self {
+            Items::Columns(columns) => {
+                let columns = Seq::from_slice(alloc, columns.as_slice())?;
+                Ok(Items::Columns(columns))
+            }
+            Items::Sum(column) => Ok(Items::Sum(*column)),
+            Items::Count => Ok(Items::Count),
+        }
+    }
 }
 
 /// What a SELECT with GROUP BY tells of each group.
@@ -143,6 +168,24 @@ pub struct Shape {
 
 /// The shapes of a script's tables, by number.
 pub type Shapes = Seq<Shape>;
+
+/// What a statement reads of a table: the rows of which one of the conditions is true, and of these the
+/// columns.
+#[derive(Drop)]
+pub struct Read {
+    /// The table.
+    pub table: u32,
+    /// The conditions: one, or one for each value of the key by which rows are looked up.
+    pub conditions: Conditions,
+    /// The columns that the statement looks at, those of the conditions among them.
+    pub columns: ColMask,
+}
+
+/// Conditions on rows.
+pub type Conditions = Seq<Pred>;
+
+/// What a statement reads, a table each.
+pub type Reads = Seq<Read>;
 
 /// What a statement read of a table, for precision locking (Jordan, Banerjee, Batman, SIGMOD 1981).
 #[derive(Drop)]

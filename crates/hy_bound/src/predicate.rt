@@ -1,12 +1,13 @@
 //! Conditions on rows.
 
-ghost use Rattle.std.specs.Prelude.{◌≡◌, ◌-◌, [], ◌∷◌, IfOk};
+ghost use Rattle.std.specs.Prelude.{◌≡◌, ◌-◌, ◌++◌, [], ◌∷◌, IfOk, OnOk};
 ghost use Rattle.std.specs.List.{list_all};
 ghost use Rattle.hy_bound.specs.Condition.{True, Compare, IsNull, Not, And, Or};
 ghost use Rattle.hy_bound.specs.Predicate.{truth_of, sense as sense_of, opposite as opposite_of, both as both_of, either as either_of, compared, side_of, column_of, is_null as is_null_value};
 ghost use Rattle.hy_bound.specs.Records.{own_condition, own_side, joined, own_conditions, conjuncts, and_also as and_also_of, is_of_table, is_within as is_within_of, columns_of, add_columns, side_columns};
 
-use crate::reads::{add_all, is_within, own_number};
+use crate::Conditions;
+use crate::restrictions::{add_all, is_within, own_number};
 use hy_value::{Cmp, ColMask, Row, Value};
 use std::alloc::{AllocError, Global};
 use std::marker::Model;
@@ -149,7 +150,7 @@ impl Pred {
     }
 
     /// This condition and one more; a condition beside none stands for itself.
-    fn and_also(self, alloc: Global, other: Pred) -> Result<Pred, AllocError>
+    pub fn and_also(self, alloc: Global, other: Pred) -> Result<Pred, AllocError>
         ensures { IfOk result (λ p. p ≡ and_also_of self other) }
     {
         match self.node {
@@ -195,8 +196,29 @@ impl Pred {
         }
     }
 
-    /// Whether it names columns of that table alone.
-    fn is_of_table(&self, from: u128, width: u32) -> bool
+    /// Adds copies of the conditions that AND joins in it.
+    pub(crate) fn add_conjuncts(
+        &self,
+        alloc: Global,
+        all: &mut Conditions,
+    ) -> Result<(), AllocError>
+        ensures { OnOk result (all.new ≡ all.old ++ conjuncts self.now) }
+    {
+        match &self.node {
+            PredNode::True => Ok(()),
+            PredNode::And(left, right) => {
+                left.add_conjuncts(alloc, all)?;
+                right.add_conjuncts(alloc, all)
+            }
+            _ => {
+                all.push(self.copy(alloc)?)?;
+                Ok(())
+            }
+        }
+    }
+
+    /// Whether it names columns of that table alone, whose own columns begin at `from`.
+    pub fn is_of_table(&self, from: u128, width: u32) -> bool
         ensures { result ≡ is_of_table from width self.now }
     {
         match &self.node {
@@ -321,7 +343,7 @@ fn compare(op: Cmp, left: &Value, right: &Value) -> Option<bool>
 }
 
 /// Whether a value is NULL.
-fn is_null(value: &Value) -> bool
+pub fn is_null(value: &Value) -> bool
     ensures { result ≡ is_null_value value.now }
 {
     matches!(value, Value::Null)

@@ -145,12 +145,12 @@ goes_begin setting form machine b most number txn there is e =
     (subst (λ (s : Session). suc (length txn.statements - 0) ≤ left_in (txn ∷ []) s - 1) (sym e) (omega arith))
 
 -- a story goes on with an answered statement
-story_answered : (setting : Setting) (order : List Entry) (writer number : ℕ) (txn : Txn) (begun : Begun) (own : Own) (statement : Bound) (reply : Reply)
+story_answered : (setting : Setting) (order : List Entry) (writer number : ℕ) (txn : Txn) (begun : Begun) (own : Own) (statement : Bound) (gathered : List (List (List Value))) (reply : Reply)
     → Story setting order writer number txn begun → slice_get txn.statements (length begun.replies) ≡ Some statement
     → mean setting.shapes statement (bag (over (tables_at setting order begun.prefix) begun.own)) ≡ Some (reply, bag (over (tables_at setting order begun.prefix) own))
     → length own ≡ length setting.first → (number ≢ writer → wrote_nothing own ≡ true)
-    → Story setting order writer number txn (answered setting (record begun { own = own }) statement reply)
-story_answered setting order writer number txn begun own statement reply s next means places quiet =
+    → Story setting order writer number txn (answered setting (record begun { own = own }) statement gathered reply)
+story_answered setting order writer number txn begun own statement gathered reply s next means places quiet =
     let so_many : length (begun.replies ++ reply ∷ []) ≡ suc (length begun.replies) = omega (arith, length-append begun.replies (reply ∷ [])) in
     let below : length begun.replies < length txn.statements = got_below txn.statements (length begun.replies) statement next in
     record {
@@ -170,21 +170,21 @@ fewer : (txn : Txn) (begun after : Begun) (reply : Reply) → after.replies ≡ 
     → suc (length txn.statements - length after.replies) ≤ suc (length txn.statements - length begun.replies) - 1
 fewer txn begun after reply e below = let so_many : length after.replies ≡ length begun.replies + 1 = ap length e ∙ length-append begun.replies (reply ∷ []) in omega arith
 
-goes_answered : (setting : Setting) (form : IsFirstForm setting) (machine : Machine) (b : Between setting form.writer machine) (most number : ℕ) (txn : Txn) (begun : Begun) (own : Own) (statement : Bound) (reply : Reply)
+goes_answered : (setting : Setting) (form : IsFirstForm setting) (machine : Machine) (b : Between setting form.writer machine) (most number : ℕ) (txn : Txn) (begun : Begun) (own : Own) (statement : Bound) (gathered : List (List (List Value))) (reply : Reply)
     → number < length setting.programs → program setting number ≡ txn ∷ [] → session_at machine number ≡ working txn begun
     → Story setting machine.order form.writer number txn begun → slice_get txn.statements (length begun.replies) ≡ Some statement
-    → whole (suc most) setting machine number ≡ moved_to machine number (working txn (answered setting (record begun { own = own }) statement reply)) (machine.order ++ [])
+    → whole (suc most) setting machine number ≡ moved_to machine number (working txn (answered setting (record begun { own = own }) statement gathered reply)) (machine.order ++ [])
     → mean setting.shapes statement (bag (over (tables_at setting machine.order begun.prefix) begun.own)) ≡ Some (reply, bag (over (tables_at setting machine.order begun.prefix) own))
     → length own ≡ length setting.first → (number ≢ form.writer → wrote_nothing own ≡ true)
     → Goes setting form.writer machine number (whole (suc most) setting machine number)
-goes_answered setting form machine b most number txn begun own statement reply there is e s next moves means places quiet =
-    goes_by setting form.writer machine b number txn (working txn (answered setting (record begun { own = own }) statement reply)) [] (whole (suc most) setting machine number) moves there is
-    (works (answered setting (record begun { own = own }) statement reply) refl
-    (story_grows machine.order [] (story_answered setting machine.order form.writer number txn begun own statement reply s next means places quiet)))
+goes_answered setting form machine b most number txn begun own statement gathered reply there is e s next moves means places quiet =
+    goes_by setting form.writer machine b number txn (working txn (answered setting (record begun { own = own }) statement gathered reply)) [] (whole (suc most) setting machine number) moves there is
+    (works (answered setting (record begun { own = own }) statement gathered reply) refl
+    (story_grows machine.order [] (story_answered setting machine.order form.writer number txn begun own statement gathered reply s next means places quiet)))
     (λ h. append-nil machine.order ∙ no_entry setting form.writer machine b number (working txn begun) e refl h)
     (λ h. refl)
     (subst (λ (x : Session). suc (length txn.statements - length (begun.replies ++ reply ∷ [])) ≤ left_in (txn ∷ []) x - 1) (sym e)
-    (fewer txn begun (answered setting (record begun { own = own }) statement reply) reply refl (got_below txn.statements (length begun.replies) statement next)))
+    (fewer txn begun (answered setting (record begun { own = own }) statement gathered reply) reply refl (got_below txn.statements (length begun.replies) statement next)))
 
 length_laid_out : (n : ℕ) (rows : Table) → length rows ≤ n → length (laid_out n rows) ≡ n
 length_laid_out n rows h =
@@ -240,7 +240,7 @@ goes_select : (setting : Setting) (form : IsFirstForm setting) (machine : Machin
     → Goes setting form.writer machine number (whole (suc most) setting machine number)
 goes_select setting form machine b most number txn begun from ons pred items there is short e s next =
     let one_table : length from ≡ 1 = all_at HasOneTable txn.statements (length begun.replies) (Select from ons pred items) short.one_table next in
-    goes_answered setting form machine b most number txn begun begun.own (Select from ons pred items) (answer ons pred items (map (rows_seen (view setting machine begun)) from)) there is e s next
+    goes_answered setting form machine b most number txn begun begun.own (Select from ons pred items) (map (rows_seen (view setting machine begun)) from) (answer ons pred items (map (rows_seen (view setting machine begun)) from)) there is e s next
     (selects most setting machine number txn begun from ons pred items b.mark is e next form.one_chunk one_table)
     (select_is setting.shapes (view setting machine begun) from ons pred items one_table)
     s.places s.quiet
@@ -263,7 +263,7 @@ goes_update setting form machine b most number txn begun table sets pred there i
     (room_opening setting form table) in
     let same : length begun.own ≡ length tables =
     s.places ∙ sym (ap length (no_history setting machine.order begun.prefix empty) ∙ length-map setting.first (laid_out (capacity setting))) in
-    goes_answered setting form machine b most number txn begun (own_with begun.own table 0 news) (Update table sets pred) (Updated (count_by is_some news)) there is e s next
+    goes_answered setting form machine b most number txn begun (own_with begun.own table 0 news) (Update table sets pred) [] (Updated (count_by is_some news)) there is e s next
     (updates most setting machine number txn begun table sets pred news b.mark is e next form.one_chunk room
     (sweep_is sets pred values table (opponent setting machine number begun.prefix table) (nobody setting form machine b number begun.prefix table writes empty) 0 cells))
     (update_is setting.shapes tables begun.own table sets pred values same)

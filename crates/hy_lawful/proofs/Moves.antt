@@ -121,13 +121,13 @@ length-push : {A : Type 0} (xs : List A) (x : A) → length (xs ++ x ∷ []) ≡
 length-push xs x = omega (arith, length-append xs (x ∷ []))
 
 -- a statement is answered, and the session stands before the next one
-answers : (setting : Setting) (machine : Machine) (number : ℕ) (txn : Txn) (begun : Begun) (statement : Bound) (reply : Reply) → machine.mark ≡ None
-    → record machine { sessions = set machine.sessions number (record { done = []; now = Some (record { begun = answered setting begun statement reply; phase = start_phase txn (suc (length begun.replies)) }) }) }
-    ≡ moved_to machine number (working txn (answered setting begun statement reply)) (machine.order ++ [])
-answers setting machine number txn begun statement reply free =
-    ap (λ (k : ℕ). record machine { sessions = set machine.sessions number (record { done = []; now = Some (record { begun = answered setting begun statement reply; phase = start_phase txn k }) }) })
+answers : (setting : Setting) (machine : Machine) (number : ℕ) (txn : Txn) (begun : Begun) (statement : Bound) (gathered : List (List (List Value))) (reply : Reply) → machine.mark ≡ None
+    → record machine { sessions = set machine.sessions number (record { done = []; now = Some (record { begun = answered setting begun statement gathered reply; phase = start_phase txn (suc (length begun.replies)) }) }) }
+    ≡ moved_to machine number (working txn (answered setting begun statement gathered reply)) (machine.order ++ [])
+answers setting machine number txn begun statement gathered reply free =
+    ap (λ (k : ℕ). record machine { sessions = set machine.sessions number (record { done = []; now = Some (record { begun = answered setting begun statement gathered reply; phase = start_phase txn k }) }) })
     (sym (length-push begun.replies reply))
-    ∙ same_moved machine number (working txn (answered setting begun statement reply)) free
+    ∙ same_moved machine number (working txn (answered setting begun statement gathered reply)) free
 
 at_phase : (machine : Machine) (number : ℕ) (txn : Txn) (begun : Begun) (next : Option Bound) → session_at machine number ≡ working txn begun
     → slice_get txn.statements (length begun.replies) ≡ next
@@ -139,7 +139,7 @@ pub selects : (most : ℕ) (setting : Setting) (machine : Machine) (number : ℕ
     → machine.mark ≡ None → program setting number ≡ txn ∷ [] → session_at machine number ≡ working txn begun
     → slice_get txn.statements (length begun.replies) ≡ Some (Select from ons pred items) → setting.chunks ≡ 1 → length from ≡ 1
     → whole (suc most) setting machine number
-    ≡ moved_to machine number (working txn (answered setting begun (Select from ons pred items) (answer ons pred items (map (rows_seen (view setting machine begun)) from)))) (machine.order ++ [])
+    ≡ moved_to machine number (working txn (answered setting begun (Select from ons pred items) (map (rows_seen (view setting machine begun)) from) (answer ons pred items (map (rows_seen (view setting machine begun)) from)))) (machine.order ++ [])
 selects most setting machine number txn begun from ons pred items free is e q chunk one =
     let session : Session = record { done = []; now = Some (record { begun = begun; phase = Reading 0 }) } in
     let visits : setting.chunks * length from ≡ 1 = ap (λ (c : ℕ). c * length from) chunk ∙ ap (λ (l : ℕ). 1 * l) one in
@@ -147,8 +147,8 @@ selects most setting machine number txn begun from ons pred items free is e q ch
     whole_stops most setting machine number _ Answered
     (works_on setting machine number txn begun (Reading 0) is (at_phase machine number txn begun (Some (Select from ons pred items)) e q)
     ∙ (ap (reading_step setting machine number session txn begun 0) q
-    ∙ ap (λ (n : ℕ). if nat_lt 1 n then (with_current machine number session begun (Reading 1), Moved) else answer_step setting machine number session txn begun (Select from ons pred items) reply) visits)) refl
-    ∙ answers setting machine number txn begun (Select from ons pred items) reply free
+    ∙ ap (λ (n : ℕ). if nat_lt 1 n then (with_current machine number session begun (Reading 1), Moved) else answer_step setting machine number session txn begun (Select from ons pred items) (map (rows_seen (view setting machine begun)) from) reply) visits)) refl
+    ∙ answers setting machine number txn begun (Select from ons pred items) (map (rows_seen (view setting machine begun)) from) reply free
 
 -- an UPDATE of a table of one chunk is answered in one visit, where nothing refuses it
 pub updates : (most : ℕ) (setting : Setting) (machine : Machine) (number : ℕ) (txn : Txn) (begun : Begun) (table : ℕ) (sets : List Assign) (pred : Condition) (news : List (Option (List Value)))
@@ -157,7 +157,7 @@ pub updates : (most : ℕ) (setting : Setting) (machine : Machine) (number : ℕ
     → length (get_or (view setting machine begun) table []) ≤ setting.rows
     → sweep sets pred table (opponent setting machine number begun.prefix table) 0 (get_or (view setting machine begun) table []) ≡ Ok news
     → whole (suc most) setting machine number
-    ≡ moved_to machine number (working txn (answered setting (record begun { own = own_with begun.own table 0 news }) (Update table sets pred) (Updated (count_by is_some news)))) (machine.order ++ [])
+    ≡ moved_to machine number (working txn (answered setting (record begun { own = own_with begun.own table 0 news }) (Update table sets pred) [] (Updated (count_by is_some news)))) (machine.order ++ [])
 updates most setting machine number txn begun table sets pred news free is e q chunk room swept =
     let session : Session = record { done = []; now = Some (record { begun = begun; phase = Writing 0 0 }) } in
     let cells : List Cell = get_or (view setting machine begun) table [] in
@@ -173,10 +173,10 @@ updates most setting machine number txn begun table sets pred news free is e q c
     ∙ (ap (swept_step setting machine number session txn begun 0 0 statement table) visit
     ∙ (ap (λ (c : ℕ). if nat_lt 1 c
     then (with_current machine number session (record begun { own = own_with begun.own table (0 * setting.rows) news }) (Writing 1 (0 + count_by is_some news)), Moved)
-    else answer_step setting machine number session txn (record begun { own = own_with begun.own table (0 * setting.rows) news }) statement (Updated (0 + count_by is_some news))) chunk
-    ∙ (ap (λ (n : ℕ). answer_step setting machine number session txn (record begun { own = own_with begun.own table n news }) statement (Updated (0 + count_by is_some news))) start
-    ∙ ap (λ (n : ℕ). answer_step setting machine number session txn (record begun { own = own_with begun.own table 0 news }) statement (Updated n)) (zero-add (count_by is_some news))))))) refl
-    ∙ answers setting machine number txn (record begun { own = own_with begun.own table 0 news }) statement (Updated (count_by is_some news)) free
+    else answer_step setting machine number session txn (record begun { own = own_with begun.own table (0 * setting.rows) news }) statement [] (Updated (0 + count_by is_some news))) chunk
+    ∙ (ap (λ (n : ℕ). answer_step setting machine number session txn (record begun { own = own_with begun.own table n news }) statement [] (Updated (0 + count_by is_some news))) start
+    ∙ ap (λ (n : ℕ). answer_step setting machine number session txn (record begun { own = own_with begun.own table 0 news }) statement [] (Updated n)) (zero-add (count_by is_some news))))))) refl
+    ∙ answers setting machine number txn (record begun { own = own_with begun.own table 0 news }) statement [] (Updated (count_by is_some news)) free
 
 closes : (setting : Setting) (machine : Machine) (number : ℕ) (txn : Txn) (begun : Begun) (quiet : Bool)
     → machine.mark ≡ None → program setting number ≡ txn ∷ [] → session_at machine number ≡ working txn begun

@@ -6,7 +6,7 @@ use Rattle.hy_bound.specs.Condition.{Condition}
 use Rattle.hy_bound.specs.declared.Assign.{Assign}
 use Rattle.hy_bound.specs.declared.Reply.{Reply}
 use Rattle.hy_bound.specs.declared.Reply.TheVariants.{Updated}
-use Rattle.hy_bound.specs.Records.{records_of}
+use Rattle.hy_bound.specs.Reads.{records_of}
 use Rattle.hy_value.specs.declared.Value.{Value}
 use Rattle.hy_meaning.specs.Statement.{answer, grouped}
 use Rattle.hy_stamp.specs.declared.Label.{Label}
@@ -71,35 +71,35 @@ begin_step setting machine number session (Some txn) =
     unless_blocked machine (blocker machine number)
     (with_current machine number session (beginning setting machine) (start_phase txn 0), Answered)
 
--- a statement is answered: its reply is kept, its records are logged
-abbrev pub answered : Setting → Begun → Bound → Reply → Begun
-answered setting begun statement reply = record begun {
+-- a statement is answered: its reply is kept, the records of what it gathered are logged
+abbrev pub answered : Setting → Begun → Bound → List (List (List Value)) → Reply → Begun
+answered setting begun statement gathered reply = record begun {
   took = begun.took ++ None ∷ [];
   replies = begun.replies ++ reply ∷ [];
-  records = begun.records ++ records_of setting.shapes (suc (length begun.replies)) statement;
+  records = begun.records ++ records_of setting.shapes (suc (length begun.replies)) statement gathered;
 }
 
-abbrev pub answer_step : Setting → Machine → ℕ → Session → Txn → Begun → Bound → Reply → Step
-answer_step setting machine number session txn begun statement reply =
-    (with_current machine number session (answered setting begun statement reply) (start_phase txn (suc (length begun.replies))), Answered)
+abbrev pub answer_step : Setting → Machine → ℕ → Session → Txn → Begun → Bound → List (List (List Value)) → Reply → Step
+answer_step setting machine number session txn begun statement gathered reply =
+    (with_current machine number session (answered setting begun statement gathered reply) (start_phase txn (suc (length begun.replies))), Answered)
 
 -- the rows that a transaction sees in a table
 abbrev pub rows_seen : Tables → ℕ → List (List Value)
 rows_seen tables table = rows_of (slice_index_or tables table [])
 
 -- a visit of a SELECT of so many tables: the last one answers
-abbrev pub read_step : Setting → Machine → ℕ → Session → Txn → Begun → ℕ → Bound → ℕ → Reply → Step
-read_step setting machine number session txn begun visited statement tables reply =
+abbrev pub read_step : Setting → Machine → ℕ → Session → Txn → Begun → ℕ → Bound → ℕ → List (List (List Value)) → Reply → Step
+read_step setting machine number session txn begun visited statement tables gathered reply =
     if nat_lt (suc visited) (setting.chunks * tables)
     then (with_current machine number session begun (Reading (suc visited)), Moved)
-    else answer_step setting machine number session txn begun statement reply
+    else answer_step setting machine number session txn begun statement gathered reply
 
 -- an UPDATE after a visit that was not refused, with its new writes: the last visit answers
 abbrev pub written_step : Setting → Machine → ℕ → Session → Txn → Begun → ℕ → Bound → ℕ → Step
 written_step setting machine number session txn begun visited statement count =
     if nat_lt (suc visited) setting.chunks
     then (with_current machine number session begun (Writing (suc visited) count), Moved)
-    else answer_step setting machine number session txn begun statement (Updated count)
+    else answer_step setting machine number session txn begun statement [] (Updated count)
 
 abbrev pub swept_step : Setting → Machine → ℕ → Session → Txn → Begun → ℕ → ℕ → Bound → ℕ → Result (List (Option (List Value))) Ending → Step
 swept_step setting machine number session txn begun visited count statement table (Err ending) =
@@ -155,9 +155,9 @@ abbrev pub reading_step : Setting → Machine → ℕ → Session → Txn → Be
 reading_step setting machine number session txn begun visited None = (machine, Ended)
 reading_step setting machine number session txn begun visited (Some (Select tables ons pred items)) =
     read_step setting machine number session txn begun visited (Select tables ons pred items) (length tables)
-    (answer ons pred items (map (rows_seen (view setting machine begun)) tables))
+    (map (rows_seen (view setting machine begun)) tables) (answer ons pred items (map (rows_seen (view setting machine begun)) tables))
 reading_step setting machine number session txn begun visited (Some (Group table pred key aggregate)) =
-    read_step setting machine number session txn begun visited (Group table pred key aggregate) 1
+    read_step setting machine number session txn begun visited (Group table pred key aggregate) 1 []
     (grouped pred key aggregate (rows_seen (view setting machine begun) table))
 reading_step setting machine number session txn begun visited (Some (Insert table row)) = (machine, Ended)
 reading_step setting machine number session txn begun visited (Some (Update table sets pred)) = (machine, Ended)

@@ -9,7 +9,7 @@ use crate::lists::{append, next, number};
 use crate::states::least_prefix;
 use crate::visits::{News, own_with};
 use crate::{Begun, Current, Finished, Machine, Own, OwnCells, Phase, Session, Setting};
-use hy_bound::{Bound, Pred, Record, Reply, Side, records};
+use hy_bound::{Bound, Pred, Read, Record, Reply, Rows, Side, records};
 use hy_render::Ending;
 use hy_seq::Seq;
 use hy_value::Value;
@@ -144,9 +144,10 @@ pub fn answered(
     setting: &Setting,
     begun: Begun,
     statement: &Bound,
+    gathered: &[Rows],
     reply: Reply,
 ) -> Result<Begun, AllocError>
-    ensures { IfOk result (λ after. after ≡ answered_of setting.now begun statement.now reply) }
+    ensures { IfOk result (λ after. after ≡ answered_of setting.now begun statement.now gathered.now reply) }
 {
     let _: Met = None;
     let Begun {
@@ -158,7 +159,13 @@ pub fn answered(
         records: before,
     } = begun;
     let logged = next(number(replies.len())?)?;
-    let more = records(alloc, setting.shapes.as_slice(), statement, logged)?;
+    let more = records(
+        alloc,
+        setting.shapes.as_slice(),
+        statement,
+        logged,
+        gathered,
+    )?;
     took.push(None)?;
     replies.push(reply)?;
     Ok(Begun {

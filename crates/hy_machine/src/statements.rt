@@ -30,12 +30,13 @@ fn answer_taken(
     txn: &Txn,
     begun: Begun,
     statement: &Bound,
+    gathered: &[Rows],
     reply: Reply,
 ) -> Result<Stepped, AllocError>
-    ensures { IfOk result (λ stepped. (machine.new, stepped) ≡ answer_step setting.now machine.old session (session_at machine.old session) txn.now begun statement.now reply) }
+    ensures { IfOk result (λ stepped. (machine.new, stepped) ≡ answer_step setting.now machine.old session (session_at machine.old session) txn.now begun statement.now gathered.now reply) }
 {
     let _: Met = None;
-    let after = answered(alloc, setting, begun, statement, reply)?;
+    let after = answered(alloc, setting, begun, statement, gathered, reply)?;
     let phase = start_phase(txn, after.replies.len());
     put_open(alloc, machine, session, after, phase);
     Ok(Stepped::Answered)
@@ -50,14 +51,15 @@ fn answer_open(
     session: u32,
     txn: &Txn,
     statement: &Bound,
+    gathered: &[Rows],
     reply: Reply,
 ) -> Result<Stepped, AllocError>
-    ensures { IfOk result (λ stepped. IfSome (session_at machine.old session).now (λ current. (machine.new, stepped) ≡ answer_step setting.now machine.old session (session_at machine.old session) txn.now current.begun statement.now reply)) }
+    ensures { IfOk result (λ stepped. IfSome (session_at machine.old session).now (λ current. (machine.new, stepped) ≡ answer_step setting.now machine.old session (session_at machine.old session) txn.now current.begun statement.now gathered.now reply)) }
 {
     let _: Met = None;
     match replace_open(alloc, machine, session, None) {
         Some(Current { begun, phase: _ }) => answer_taken(
-            alloc, setting, machine, session, txn, begun, statement, reply,
+            alloc, setting, machine, session, txn, begun, statement, gathered, reply,
         ),
         None => Ok(Stepped::Ended),
     }
@@ -110,7 +112,7 @@ fn read_answer(
     pred: &Pred,
     items: &Items,
 ) -> Result<Stepped, AllocError>
-    ensures { IfOk result (λ stepped. IfSome (session_at machine.old session).now (λ current. (machine.new, stepped) ≡ answer_step setting.now machine.old session (session_at machine.old session) txn.now current.begun statement.now (answer_of ons.now pred.now items.now (map (rows_seen_of (view_of setting.now machine.old current.begun)) tables.now)))) }
+    ensures { IfOk result (λ stepped. IfSome (session_at machine.old session).now (λ current. (machine.new, stepped) ≡ answer_step setting.now machine.old session (session_at machine.old session) txn.now current.begun statement.now (map (rows_seen_of (view_of setting.now machine.old current.begun)) tables.now) (answer_of ons.now pred.now items.now (map (rows_seen_of (view_of setting.now machine.old current.begun)) tables.now)))) }
 {
     let _: Met = None;
     let Some(current) = open_at(machine, session) else {
@@ -119,7 +121,16 @@ fn read_answer(
     let seen = view(alloc, setting, machine, &current.begun)?;
     let rows = rows_seen(alloc, seen.as_slice(), tables)?;
     let reply = answer(alloc, ons, pred, items, rows.as_slice())?;
-    answer_open(alloc, setting, machine, session, txn, statement, reply)
+    answer_open(
+        alloc,
+        setting,
+        machine,
+        session,
+        txn,
+        statement,
+        rows.as_slice(),
+        reply,
+    )
 }
 
 /// A visit of a SELECT: the last one answers.
@@ -136,7 +147,7 @@ pub fn read(
     pred: &Pred,
     items: &Items,
 ) -> Result<Stepped, AllocError>
-    ensures { IfOk result (λ stepped. IfSome (session_at machine.old session).now (λ current. (machine.new, stepped) ≡ read_step setting.now machine.old session (session_at machine.old session) txn.now current.begun visited statement.now (length tables.now) (answer_of ons.now pred.now items.now (map (rows_seen_of (view_of setting.now machine.old current.begun)) tables.now)))) }
+    ensures { IfOk result (λ stepped. IfSome (session_at machine.old session).now (λ current. (machine.new, stepped) ≡ read_step setting.now machine.old session (session_at machine.old session) txn.now current.begun visited statement.now (length tables.now) (map (rows_seen_of (view_of setting.now machine.old current.begun)) tables.now) (answer_of ons.now pred.now items.now (map (rows_seen_of (view_of setting.now machine.old current.begun)) tables.now)))) }
 {
     if goes_on(setting, visited, tables.len()) {
         return visit(alloc, machine, session, visited);
@@ -159,7 +170,7 @@ fn group_answer(
     key: u32,
     aggregate: Aggregate,
 ) -> Result<Stepped, AllocError>
-    ensures { IfOk result (λ stepped. IfSome (session_at machine.old session).now (λ current. (machine.new, stepped) ≡ answer_step setting.now machine.old session (session_at machine.old session) txn.now current.begun statement.now (grouped pred.now key aggregate (rows_seen_of (view_of setting.now machine.old current.begun) table)))) }
+    ensures { IfOk result (λ stepped. IfSome (session_at machine.old session).now (λ current. (machine.new, stepped) ≡ answer_step setting.now machine.old session (session_at machine.old session) txn.now current.begun statement.now [] (grouped pred.now key aggregate (rows_seen_of (view_of setting.now machine.old current.begun) table)))) }
 {
     let _: Met = None;
     let Some(current) = open_at(machine, session) else {
@@ -168,7 +179,7 @@ fn group_answer(
     let seen = view(alloc, setting, machine, &current.begun)?;
     let rows = rows_of(alloc, cells_of(seen.as_slice(), table))?;
     let reply = group(alloc, pred, key, aggregate, rows.as_slice())?;
-    answer_open(alloc, setting, machine, session, txn, statement, reply)
+    answer_open(alloc, setting, machine, session, txn, statement, &[], reply)
 }
 
 /// A visit of a SELECT with GROUP BY: the last one answers.
@@ -185,7 +196,7 @@ pub fn read_groups(
     key: u32,
     aggregate: Aggregate,
 ) -> Result<Stepped, AllocError>
-    ensures { IfOk result (λ stepped. IfSome (session_at machine.old session).now (λ current. (machine.new, stepped) ≡ read_step setting.now machine.old session (session_at machine.old session) txn.now current.begun visited statement.now 1 (grouped pred.now key aggregate (rows_seen_of (view_of setting.now machine.old current.begun) table)))) }
+    ensures { IfOk result (λ stepped. IfSome (session_at machine.old session).now (λ current. (machine.new, stepped) ≡ read_step setting.now machine.old session (session_at machine.old session) txn.now current.begun visited statement.now 1 [] (grouped pred.now key aggregate (rows_seen_of (view_of setting.now machine.old current.begun) table)))) }
 {
     if goes_on(setting, visited, 1) {
         return visit(alloc, machine, session, visited);
@@ -242,7 +253,15 @@ fn written(
     }
     let reply = Reply::Updated(count);
     answer_taken(
-        alloc, setting, machine, session, txn, begun, statement, reply,
+        alloc,
+        setting,
+        machine,
+        session,
+        txn,
+        begun,
+        statement,
+        &[],
+        reply,
     )
 }
 

@@ -6,7 +6,7 @@ ghost use Rattle.std.specs.Cmp.{IsTotalOrder};
 ghost use Rattle.std.specs.List.{flat_map};
 ghost use Rattle.hy_value.specs.Order.{value_cmp, row_cmp, holds_at};
 ghost use Rattle.hy_value.specs.Print.{printed, printed_next, printed_row};
-ghost use Rattle.hy_value.specs.Sorted.{sorted};
+ghost use Rattle.hy_value.specs.Sorted.{sorted, put_value as put_value_of, place_of, stands_at};
 ghost use Rattle.hy_value.specs.Columns.{has, with, no_columns};
 ghost use Rattle.hy_value.specs.declared.Value.{Value};
 
@@ -265,6 +265,42 @@ pub fn sort_rows(rows: &mut Vec<Row>) -> Result<(), AllocError>
     ensures err { OnErr result (rows.new.items ≡ rows.old.items) }
 {
     rows.sort_by(compare_rows)
+}
+
+/// Puts a value among others that ascend, unless it is there.
+pub fn put_value(values: &mut Vec<Value>, value: Value) -> Result<(), AllocError>
+    ensures ok { OnOk result (values.new.items ≡ put_value_of value values.old.items) }
+    ensures err { OnErr result (values.new.items ≡ values.old.items) }
+{
+    let place = place(values.as_slice(), &value);
+    if is_there(values.as_slice(), place, &value) {
+        return Ok(());
+    }
+    values.insert(place, value)?;
+    Ok(())
+}
+
+/// Whether a value stands at a place.
+fn is_there(values: &[Value], place: usize, value: &Value) -> bool
+    ensures { result ≡ stands_at value.now (drop place values.now) }
+{
+    match values.get(place) {
+        Some(other) => value.cmp(other).is_eq(),
+        None => false,
+    }
+}
+
+/// How many values stand in front of those that aren't below one.
+fn place(values: &[Value], value: &Value) -> usize
+    ensures bound { result ≤ length values.now }
+    ensures place { result ≡ place_of value.now values.now }
+{
+    for (i, other) in values.iter().enumerate() {
+        if !value.cmp(other).is_gt() {
+            return i;
+        }
+    }
+    values.len()
 }
 
 /// Appends a value as the program prints it. Without memory some of it may be there.

@@ -1,0 +1,5 @@
+use Rattle.hy_bound.proofs.Masks.{spread_projected}
+use Rattle.hy_bound.proofs.laws.projections_are_spread.Goals as goal
+
+pub returns : goal.returns
+returns c = spread_projected

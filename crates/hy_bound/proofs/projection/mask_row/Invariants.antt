@@ -1,0 +1,7 @@
+use Rattle.std.proofs.Common.{◌≡◌, ◌++◌, drop}
+use Rattle.hy_bound.specs.Projection.{masked, masked_from}
+use Rattle.hy_bound.proofs.projection.mask_row.Given as goal
+
+-- what is kept so far and of the rest is the whole
+abbrev pub invariant-loop-column : goal.invariant-loop-column
+invariant-loop-column l = l.kept.items ++ masked_from l.columns l.column (drop l.column l.row) ≡ masked l.columns l.row

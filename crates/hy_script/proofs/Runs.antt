@@ -1,6 +1,6 @@
 -- Reading comes to one answer.
 use Rattle.std.specs.Prelude.{is_err, MatchResult}
-use Rattle.std.proofs.Common.{◌≡◌, Bool, true, false, ℕ, zero, suc, ◌<◌, ◌≤◌, List, Option, None, Some, Result, Ok, Err, length, refl, sym, subst, ap, ◌∙◌, arith}
+use Rattle.std.proofs.Common.{◌≡◌, Bool, true, false, ℕ, zero, suc, ◌<◌, ◌≤◌, List, Some, Result, Ok, Err, length, refl, sym, subst, ap, ◌∙◌, arith}
 use Rattle.std.proofs.lemmas.Option.{same_Some}
 use Rattle.hy_script.specs.declared.Options.{Options}
 use Rattle.hy_script.specs.declared.Script.{Script}

@@ -1,15 +1,12 @@
 -- A table that is not refused.
-use Rattle.std.specs.Prelude.{slice_set, slice_index_or}
-use Rattle.std.proofs.Common.{◌≡◌, ℕ, zero, suc, ◌<◌, [], ◌∷◌, arith, Bool, true, false, ◌||◌, is_some, nat_le, nat_lt, List, length, map, count_by, Option, None, Some, cond, refl, ap, ◌∙◌, sym}
+use Rattle.std.specs.Prelude.{slice_set}
+use Rattle.std.proofs.Common.{◌≡◌, ℕ, zero, suc, [], ◌∷◌, Bool, true, false, ◌||◌, is_some, nat_le, nat_lt, List, length, map, count_by, None, Some, cond, refl, ap, ◌∙◌}
 use Rattle.std.proofs.lemmas.List.{length-map}
 use Rattle.hy_token.specs.declared.Span.{Span}
-use Rattle.hy_schema.specs.declared.TableDef.{TableDef}
-use Rattle.hy_schema.specs.declared.AddError.{AddError}
 use Rattle.hy_schema.specs.declared.AddError.TheVariants.{Duplicate, Limit as TooMany}
 use Rattle.hy_schema.specs.Names.{table_number, refusal_of}
 use Rattle.hy_ast.specs.declared.ColumnDef.{ColumnDef}
 use Rattle.hy_script.specs.declared.growing.SoFar.{SoFar}
-use Rattle.hy_script.specs.declared.codes.Code.{Code}
 use Rattle.hy_script.specs.declared.codes.Code.TheVariants.{Twice, Limit}
 use Rattle.hy_script.specs.Codes.{first_of, code_if}
 use Rattle.hy_script.specs.Refusals.{create_code, name_in, is_key}

@@ -1,12 +1,10 @@
 -- What a script says, statement by statement.
 use Rattle.hy_script.specs.declared.codes.Code.{Code}
-use Rattle.std.specs.Prelude.{◌≡◌, ℕ, suc, Bool, true, false, List, [], ◌∷◌, ◌++◌, Option, Some, None, length, map, slice_set, if◌then◌else◌}
+use Rattle.std.specs.Prelude.{◌≡◌, ℕ, suc, Bool, true, false, List, [], ◌∷◌, ◌++◌, Option, Some, None, map, slice_set, if◌then◌else◌}
 use Rattle.std.specs.Option.{option_map_or}
-use Rattle.hy_value.specs.declared.Value.{Value}
 use Rattle.hy_schema.specs.declared.Column.{Column}
 use Rattle.hy_schema.specs.declared.TableDef.{TableDef}
 use Rattle.hy_schema.specs.Names.{number_of, table_number}
-use Rattle.hy_bound.specs.declared.Txn.{Txn}
 use Rattle.hy_bound.specs.declared.Item.{Item}
 use Rattle.hy_ast.specs.declared.ColumnDef.{ColumnDef}
 use Rattle.hy_ast.specs.declared.Turn.{Turn}
@@ -19,7 +17,6 @@ use Rattle.hy_bind.specs.Statements.{bound_of}
 use Rattle.hy_script.specs.declared.Options.{Options}
 use Rattle.hy_script.specs.declared.NamedTxns.{NamedTxns}
 use Rattle.hy_script.specs.declared.Script.{Script}
-use Rattle.hy_script.specs.declared.growing.OpenTxn.{OpenTxn}
 use Rattle.hy_script.specs.declared.growing.Place.{Place}
 use Rattle.hy_script.specs.declared.growing.Place.TheVariants.{Defining, Between, Within, Scheduled}
 use Rattle.hy_script.specs.declared.growing.SoFar.{SoFar}

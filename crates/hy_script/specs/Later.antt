@@ -14,7 +14,7 @@ use Rattle.hy_script.specs.declared.Dialect.{Dialect}
 use Rattle.hy_script.specs.declared.Dialect.TheVariants as dialects
 use Rattle.hy_script.specs.declared.NamedTxns.{NamedTxns}
 use Rattle.hy_script.specs.declared.growing.Place.{Place}
-use Rattle.hy_script.specs.declared.growing.Place.TheVariants.{Defining, Between, Within, Scheduled}
+use Rattle.hy_script.specs.declared.growing.Place.TheVariants.{Between, Within}
 use Rattle.hy_script.specs.declared.growing.SoFar.{SoFar}
 
 abbrev pub is_update : Bound → Bool

@@ -1,5 +1,5 @@
 -- Reading a script, statement by statement, up to END or to the first refusal.
-use Rattle.std.specs.Prelude.{◌≡◌, ◌≢◌, ℕ, zero, suc, ◌+◌, ◌<◌, ◌≤◌, Bool, true, false, ◌==◌, List, [], ◌∷◌, Option, Some, None, Result, Ok, Err, length, take, count_by, if◌then◌else◌}
+use Rattle.std.specs.Prelude.{◌≡◌, ℕ, zero, suc, ◌+◌, ◌<◌, ◌≤◌, Bool, true, false, ◌==◌, List, Option, Some, None, Result, Ok, Err, length, take, count_by, if◌then◌else◌}
 use Rattle.std.specs.Str.{IsUtf8}
 use Rattle.hy_token.specs.declared.Bad.{Bad}
 use Rattle.hy_token.specs.declared.Keyword.{Keyword}

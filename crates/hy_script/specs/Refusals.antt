@@ -1,10 +1,7 @@
 -- Why a statement is refused, where all its tokens fit: the first of its causes in their order.
 use Rattle.std.specs.Prelude.{ℕ, ◌*◌, Bool, true, false, not, ◌&&◌, ◌||◌, is_some, nat_le, nat_lt, List, [], ◌∷◌, Option, Some, None, length, map, take, count_by, slice_index_or, if◌then◌else◌}
 use Rattle.std.specs.Option.{option_map}
-use Rattle.hy_value.specs.declared.Value.{Value}
-use Rattle.hy_schema.specs.declared.TableDef.{TableDef}
 use Rattle.hy_schema.specs.Names.{number_of, table_number}
-use Rattle.hy_bound.specs.declared.Txn.{Txn}
 use Rattle.hy_ast.specs.declared.ColumnDef.{ColumnDef}
 use Rattle.hy_ast.specs.declared.Turn.{Turn}
 use Rattle.hy_ast.specs.Trees.{Selection, Statement}
@@ -17,7 +14,7 @@ use Rattle.hy_script.specs.declared.Options.{Options}
 use Rattle.hy_script.specs.declared.NamedTxns.{NamedTxns}
 use Rattle.hy_script.specs.declared.growing.OpenTxn.{OpenTxn}
 use Rattle.hy_script.specs.declared.growing.Place.{Place}
-use Rattle.hy_script.specs.declared.growing.Place.TheVariants.{Defining, Between, Within, Scheduled}
+use Rattle.hy_script.specs.declared.growing.Place.TheVariants.{Between, Within}
 use Rattle.hy_script.specs.declared.growing.SoFar.{SoFar}
 use Rattle.hy_script.specs.declared.codes.Code.{Code}
 use Rattle.hy_script.specs.declared.codes.Code.TheVariants as code

@@ -94,7 +94,7 @@ fn fault(alloc: Global, text: &str) -> Result<Option<BindFault>, Fail> {
         .ok_or("it is a statement")?;
     match ast {
         Ast::Insert { .. } | Ast::Select(_) | Ast::Update { .. } | Ast::Delete { .. } => {}
-        _ => return Ok(None),
+        _ => return Err(Fail::from("a statement of a transaction")),
     }
     match bind(alloc, text.as_bytes(), &catalog, &ast) {
         Ok(_) => Ok(None),

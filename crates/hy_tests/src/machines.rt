@@ -144,7 +144,7 @@ fn a_schedule_of_single_steps_is_run(rt: HostRuntime) -> Result<(), Fail> {
 #[test]
 fn an_update_logs_what_its_condition_reads(rt: HostRuntime) -> Result<(), Fail> {
     let alloc = rt.alloc();
-    let all = hy_bound::records(alloc, &[ONE_COLUMN], &update(alloc)?, 3)?;
+    let all = hy_bound::records(alloc, &[ONE_COLUMN], &update(alloc)?, 3, &[])?;
     assert_eq!(rt; all.len(), 1);
     for of in all.as_slice() {
         assert_eq!(rt; of.statement, 3);

@@ -1,4 +1,4 @@
-//! Words and scripts that must be refused, each cause at its limit and one beyond.
+//! Words and scripts that must be refused, by each cause.
 
 use crate::runs::{OLD_SNAPSHOT, words_of};
 use hy_outside::{MemSink, MemSource, read_all};
@@ -6,8 +6,12 @@ use std::alloc::{AllocError, Global};
 use std::process::Abort;
 use std::test::Fail;
 
-/// What a command writes for a script of these bytes.
-fn written(alloc: Global, words: &[&str], script: Vec<u8>) -> Result<(u8, Vec<u8>), AllocError> {
+/// The status and the text of a command on a script of these bytes.
+pub fn written(
+    alloc: Global,
+    words: &[&str],
+    script: Vec<u8>,
+) -> Result<(u8, Vec<u8>), AllocError> {
     let words = words_of(alloc, words)?;
     let mut source = MemSource::new(script, 4096, Vec::new(alloc));
     let mut sink = MemSink::new(alloc, 10_000, Vec::new(alloc))?;
@@ -15,27 +19,18 @@ fn written(alloc: Global, words: &[&str], script: Vec<u8>) -> Result<(u8, Vec<u8
     Ok((report.status, sink.bytes().to_vec(alloc)?))
 }
 
-/// Whether `hy check` writes this line for a script, refused or not.
-fn checks(alloc: Global, script: &str, line: &str) -> Result<bool, AllocError> {
-    let words = ["hy", "check", "--chunks", "1", "--rows", "4"];
-    let (_, text) = written(alloc, &words, script.as_bytes().to_vec(alloc)?)?;
-    Ok(text.as_slice() == line.as_bytes())
+/// Whether a command writes this for a script, where a table has room for four rows. Status 2 goes with the line
+/// of a refusal, and 0 with any other text.
+pub fn says(alloc: Global, command: &str, script: &str, text: &str) -> Result<bool, AllocError> {
+    let words = ["hy", command, "--chunks", "1", "--rows", "4"];
+    let (status, wrote) = written(alloc, &words, script.as_bytes().to_vec(alloc)?)?;
+    let wanted = if text.starts_with("line ") { 2 } else { 0 };
+    Ok(status == wanted && wrote.as_slice() == text.as_bytes())
 }
 
-/// A text with a piece so many times in the middle.
-fn repeated(
-    alloc: Global,
-    head: &str,
-    piece: &str,
-    times: usize,
-    tail: &str,
-) -> Result<String, AllocError> {
-    let mut text = String::from_str(alloc, head)?;
-    for _ in 0..times {
-        text.push_str(piece)?;
-    }
-    text.push_str(tail)?;
-    Ok(text)
+/// Whether `hy check` writes this line for a script, refused or not.
+pub fn checks(alloc: Global, script: &str, line: &str) -> Result<bool, AllocError> {
+    says(alloc, "check", script, line)
 }
 
 /// A table, and a transaction of one statement.
@@ -51,96 +46,57 @@ fn alone(alloc: Global, begin: &str, statement: &str) -> Result<String, AllocErr
     Ok(text)
 }
 
-/// A statement of a transaction is refused at its line by this cause.
+/// `check` writes this for a transaction of one statement.
 fn refuses(rt: &impl Abort, alloc: Global, statement: &str, line: &str) {
-    let Ok(script) = alone(alloc, "BEGIN", statement) else {
-        return;
+    let answers = match alone(alloc, "BEGIN", statement) {
+        Ok(script) => checks(alloc, script.as_str(), line).unwrap_or(false),
+        Err(_) => false,
     };
-    assert!(rt;
-        checks(alloc, script.as_str(), line).unwrap_or(false),
-        "{statement}"
-    );
+    assert!(rt; answers, "{statement}");
 }
 
 #[test]
 fn names(rt: HostRuntime) {
-    let alloc = rt.alloc();
-    refuses(&rt, alloc, "DELETE FROM x", "line 5: E05\n");
-    refuses(
-        &rt,
-        alloc,
-        "SELECT * FROM acc JOIN x ON id = id",
-        "line 5: E05\n",
-    );
-    refuses(&rt, alloc, "DELETE FROM acc WHERE y = 1", "line 5: E06\n");
-    refuses(
-        &rt,
-        alloc,
-        "SELECT id FROM acc JOIN own ON id = own.id",
-        "line 5: E06\n",
-    );
-    refuses(
-        &rt,
-        alloc,
-        "SELECT id FROM acc JOIN acc ON id = id",
-        "line 5: E08\n",
-    );
-    refuses(
-        &rt,
-        alloc,
-        "UPDATE acc SET bal = 1, bal = 2",
-        "line 5: E08\n",
-    );
+    for (statement, line) in [
+        ("DELETE FROM x", "line 5: E05\n"),
+        ("SELECT * FROM acc JOIN x ON id = id", "line 5: E05\n"),
+        ("DELETE FROM acc WHERE y = 1", "line 5: E06\n"),
+        (
+            "SELECT id FROM acc JOIN own ON id = own.id",
+            "line 5: E06\n",
+        ),
+        ("SELECT id FROM acc JOIN acc ON id = id", "line 5: E08\n"),
+        ("UPDATE acc SET bal = 1, bal = 2", "line 5: E08\n"),
+    ] {
+        refuses(&rt, rt.alloc(), statement, line);
+    }
 }
 
 #[test]
 fn types_and_keys(rt: HostRuntime) {
-    let alloc = rt.alloc();
-    refuses(
-        &rt,
-        alloc,
-        "DELETE FROM acc WHERE id = 'a'",
-        "line 5: E07\n",
-    );
-    refuses(&rt, alloc, "INSERT INTO acc VALUES (1)", "line 5: E07\n");
-    refuses(&rt, alloc, "SELECT SUM(who) FROM own", "line 5: E07\n");
-    refuses(
-        &rt,
-        alloc,
-        "SELECT aid FROM acc JOIN own ON id = who",
-        "line 5: E07\n",
-    );
-    refuses(
-        &rt,
-        alloc,
-        "UPDATE own SET who = 'a' + 'b'",
-        "line 5: E07\n",
-    );
-    refuses(&rt, alloc, "UPDATE acc SET id = 1", "line 5: E12\n");
-    refuses(
-        &rt,
-        alloc,
-        "INSERT INTO acc VALUES (NULL, 1)",
-        "line 5: E16\n",
-    );
-    refuses(
-        &rt,
-        alloc,
-        "SELECT who, COUNT(*) FROM own GROUP BY who",
-        "line 5: E17\n",
-    );
-    refuses(
-        &rt,
-        alloc,
-        "DELETE FROM acc WHERE id = 9223372036854775808",
-        "line 5: E14\n",
-    );
-    refuses(
-        &rt,
-        alloc,
-        "DELETE FROM acc WHERE id = -9223372036854775808",
-        "ok tables 2 rows 0 sessions 1 transactions 1 items 0\n",
-    );
+    for (statement, line) in [
+        ("DELETE FROM acc WHERE id = 'a'", "line 5: E07\n"),
+        ("INSERT INTO acc VALUES (1)", "line 5: E07\n"),
+        ("SELECT SUM(who) FROM own", "line 5: E07\n"),
+        ("SELECT aid FROM acc JOIN own ON id = who", "line 5: E07\n"),
+        ("UPDATE own SET who = 'a' + 'b'", "line 5: E07\n"),
+        ("UPDATE acc SET id = 1", "line 5: E12\n"),
+        ("INSERT INTO acc VALUES (NULL, 1)", "line 5: E16\n"),
+        (
+            "SELECT who, COUNT(*) FROM own GROUP BY who",
+            "line 5: E17\n",
+        ),
+        (
+            "DELETE FROM acc WHERE id = 9223372036854775808",
+            "line 5: E14\n",
+        ),
+        (
+            "DELETE FROM acc WHERE id = -9223372036854775808",
+            "ok tables 2 rows 0 sessions 1 transactions 1 items 0\n",
+        ),
+    ] {
+        refuses(&rt, rt.alloc(), statement, line);
+    }
 }
 
 #[test]
@@ -171,145 +127,78 @@ fn read_only_transactions(rt: HostRuntime) -> Result<(), Fail> {
 
 #[test]
 fn tokens_and_grammar(rt: HostRuntime) {
-    let alloc = rt.alloc();
-    refuses(&rt, alloc, "DELETE FROM\n#", "line 6: E03\n");
-    refuses(&rt, alloc, "DELETE\nacc #", "line 6: E04\n");
-    refuses(
-        &rt,
-        alloc,
-        "SELECT COUNT(*) FROM acc\nJOIN own ON id = aid",
-        "line 6: E04\n",
-    );
-    refuses(&rt, alloc, "SAVEPOINT x", "line 5: E04\n");
-    refuses(
-        &rt,
-        alloc,
-        "DELETE FROM acc WHERE bal IS NOT NULL AND NOT bal = 3 OR id < 2",
-        "ok tables 2 rows 0 sessions 1 transactions 1 items 0\n",
-    );
+    for (statement, line) in [
+        ("DELETE FROM\n#", "line 6: E03\n"),
+        ("DELETE\nacc #", "line 6: E04\n"),
+        (
+            "SELECT COUNT(*) FROM acc\nJOIN own ON id = aid",
+            "line 6: E04\n",
+        ),
+        ("SAVEPOINT x", "line 5: E04\n"),
+        (
+            "DELETE FROM acc WHERE bal IS NOT NULL AND NOT bal = 3 OR id < 2",
+            "ok tables 2 rows 0 sessions 1 transactions 1 items 0\n",
+        ),
+    ] {
+        refuses(&rt, rt.alloc(), statement, line);
+    }
 }
 
+/// Scripts that are refused, and what `check` writes for each.
+const SCRIPTS: [(&str, &str); 18] = [
+    ("CREATE TABLE t (n INT);\n", "line 2: E10\n"),
+    ("END;\nx", "line 2: E10\n"),
+    ("END", "line 1: E04\n"),
+    ("BEGIN; COMMIT; END;", "line 1: E04\n"),
+    ("SESSION a;\nCREATE TABLE t (n INT); END;", "line 2: E04\n"),
+    ("SESSION a; BEGIN;\nBEGIN; COMMIT; END;", "line 2: E04\n"),
+    ("SESSION a; BEGIN;\nEND;", "line 2: E04\n"),
+    ("SESSION a; SCHEDULE;\nSESSION b; END;", "line 2: E04\n"),
+    ("SCHEDULE a; END;", "line 1: E13\n"),
+    ("CREATE TABLE t (n INT, n INT); END;", "line 1: E08\n"),
+    (
+        "CREATE TABLE t (n INT PRIMARY KEY, m INT PRIMARY KEY); END;",
+        "line 1: E08\n",
+    ),
+    (
+        "CREATE TABLE t (n INT);\nCREATE TABLE t (m INT); END;",
+        "line 2: E08\n",
+    ),
+    (
+        "CREATE TABLE t (n INT);\nINSERT INTO u VALUES (1); END;",
+        "line 2: E05\n",
+    ),
+    (
+        "CREATE TABLE t (n INT);\nINSERT INTO t VALUES ('x'); END;",
+        "line 2: E07\n",
+    ),
+    (
+        "CREATE TABLE t (n INT);\nINSERT INTO t VALUES (9223372036854775808); END;",
+        "line 2: E14\n",
+    ),
+    (
+        "CREATE TABLE t (k INT PRIMARY KEY);\nINSERT INTO t VALUES (NULL); END;",
+        "line 2: E16\n",
+    ),
+    (
+        "CREATE TABLE t (k INT PRIMARY KEY);\nINSERT INTO t VALUES (1);\nINSERT INTO t VALUES (1); END;",
+        "line 3: E15\n",
+    ),
+    (
+        "CREATE TABLE t (n INT); CREATE TABLE u (n INT); SESSION a; BEGIN;\nSELECT t.n FROM t JOIN u ON n = u.n; COMMIT; END;",
+        "line 2: E06\n",
+    ),
+];
+
 #[test]
-fn the_ends_of_scripts(rt: HostRuntime) -> Result<(), Fail> {
+fn whole_scripts(rt: HostRuntime) -> Result<(), Fail> {
     let alloc = rt.alloc();
-    assert!(rt; checks(alloc, "CREATE TABLE t (n INT);\n", "line 2: E10\n")?);
-    assert!(rt; checks(alloc, "END;\nx", "line 2: E10\n")?);
-    assert!(rt; checks(alloc, "END", "line 1: E04\n")?);
-    assert!(rt; checks(alloc, "SCHEDULE a; END;", "line 1: E13\n")?);
-    assert!(rt;
-        checks(
-            alloc,
-            "CREATE TABLE t (k INT PRIMARY KEY);\nINSERT INTO t VALUES (1);\nINSERT INTO t VALUES (1); END;",
-            "line 3: E15\n"
-        )?
-    );
-    assert!(rt;
-        checks(
-            alloc,
-            "CREATE TABLE t (n INT, n INT); END;",
-            "line 1: E08\n"
-        )?
-    );
-    assert!(rt;
-        checks(
-            alloc,
-            "CREATE TABLE t (n INT PRIMARY KEY, m INT PRIMARY KEY); END;",
-            "line 1: E08\n"
-        )?
-    );
+    for (script, line) in SCRIPTS {
+        assert!(rt; checks(alloc, script, line)?, "{script}");
+    }
     let (status, text) = written(alloc, &["hy", "check"], [255u8].to_vec(alloc)?)?;
     assert_eq!(rt; status, 2);
     assert_eq!(rt; text.as_slice(), b"line 1: E02\n".as_slice());
-    Ok(())
-}
-
-#[test]
-fn limits(rt: HostRuntime) -> Result<(), Fail> {
-    let alloc = rt.alloc();
-    let room = "INSERT INTO t VALUES (1);";
-    let head = "CREATE TABLE t (n INT);\n";
-    let full = repeated(alloc, head, room, 4, "END;")?;
-    assert!(rt;
-        checks(
-            alloc,
-            full.as_str(),
-            "ok tables 1 rows 4 sessions 0 transactions 0 items 0\n"
-        )?
-    );
-    let over = repeated(alloc, head, room, 5, "END;")?;
-    assert!(rt; checks(alloc, over.as_str(), "line 2: E09\n")?);
-    let text = repeated(
-        alloc,
-        "CREATE TABLE t (s TEXT); INSERT INTO t VALUES ('",
-        "a",
-        255,
-        "'); END;",
-    )?;
-    assert!(rt;
-        checks(
-            alloc,
-            text.as_str(),
-            "ok tables 1 rows 1 sessions 0 transactions 0 items 0\n"
-        )?
-    );
-    let text = repeated(
-        alloc,
-        "CREATE TABLE t (s TEXT); INSERT INTO t VALUES ('",
-        "a",
-        256,
-        "'); END;",
-    )?;
-    assert!(rt; checks(alloc, text.as_str(), "line 1: E09\n")?);
-    let statements = "SELECT n FROM t;";
-    let head = "CREATE TABLE t (n INT); SESSION a; BEGIN;\n";
-    let most = repeated(alloc, head, statements, 256, "COMMIT; END;")?;
-    assert!(rt;
-        checks(
-            alloc,
-            most.as_str(),
-            "ok tables 1 rows 0 sessions 1 transactions 1 items 0\n"
-        )?
-    );
-    let over = repeated(alloc, head, statements, 257, "COMMIT; END;")?;
-    assert!(rt; checks(alloc, over.as_str(), "line 2: E09\n")?);
-    let words = repeated(alloc, "CREATE TABLE ", "n", 33, " (n INT); END;")?;
-    assert!(rt; checks(alloc, words.as_str(), "line 1: E03\n")?);
-    Ok(())
-}
-
-#[test]
-fn levels_and_tokens(rt: HostRuntime) -> Result<(), Fail> {
-    let alloc = rt.alloc();
-    let head = "CREATE TABLE t (n INT); SESSION a; BEGIN;\nDELETE FROM t WHERE ";
-    let levels = repeated(alloc, head, "NOT ", 64, "n = 1; COMMIT; END;")?;
-    assert!(rt;
-        checks(
-            alloc,
-            levels.as_str(),
-            "ok tables 1 rows 0 sessions 1 transactions 1 items 0\n"
-        )?
-    );
-    let levels = repeated(alloc, head, "NOT ", 65, "n = 1; COMMIT; END;")?;
-    assert!(rt; checks(alloc, levels.as_str(), "line 2: E04\n")?);
-    // Two tokens in each repetition, and eight others.
-    let head = "CREATE TABLE t (n INT);\nINSERT INTO t VALUES (";
-    let tokens = repeated(alloc, head, "1,", 2_044, "1); END;")?;
-    assert!(rt; checks(alloc, tokens.as_str(), "line 2: E07\n")?);
-    let tokens = repeated(alloc, head, "1,", 2_045, "1); END;")?;
-    assert!(rt; checks(alloc, tokens.as_str(), "line 2: E04\n")?);
-    Ok(())
-}
-
-#[test]
-fn what_does_not_run_yet(rt: HostRuntime) -> Result<(), Fail> {
-    let alloc = rt.alloc();
-    let script = alone(alloc, "BEGIN", "DELETE FROM own")?;
-    let (status, text) = written(alloc, &["hy", "run"], script.as_bytes().to_vec(alloc)?)?;
-    assert_eq!(rt; status, 2);
-    assert_eq!(rt; text.as_slice(), b"line 5: E04\n".as_slice());
-    let script = alone(alloc, "BEGIN", "DELETE FROM x")?;
-    let (_, text) = written(alloc, &["hy", "run"], script.as_bytes().to_vec(alloc)?)?;
-    assert_eq!(rt; text.as_slice(), b"line 5: E04\n".as_slice());
     Ok(())
 }
 
@@ -340,5 +229,26 @@ fn other_words(rt: HostRuntime) -> Result<(), Fail> {
     assert!(rt; are_refused(alloc, &["hy", "run", "--chunks", "65"])?);
     assert!(rt; are_refused(alloc, &["hy", "check", "--rows", "0"])?);
     assert!(rt; are_refused(alloc, &["hy", "run", "--threads"])?);
+    Ok(())
+}
+
+#[test]
+fn options_at_their_limits(rt: HostRuntime) -> Result<(), Fail> {
+    let alloc = rt.alloc();
+    for (words, status) in [
+        (["hy", "run", "--chunks", "1"], 0),
+        (["hy", "run", "--chunks", "64"], 0),
+        (["hy", "run", "--chunks", "0"], 1),
+        (["hy", "check", "--chunks", "65"], 1),
+        (["hy", "check", "--rows", "1"], 0),
+        (["hy", "check", "--rows", "1024"], 0),
+        (["hy", "check", "--rows", "0"], 1),
+        (["hy", "run", "--rows", "1025"], 1),
+        (["hy", "run", "--no-prune", "--rows=4"], 0),
+        (["hy", "check", "--no-prune", "--rows=4"], 1),
+    ] {
+        let (came_to, _) = written(alloc, &words, b"END;".to_vec(alloc)?)?;
+        assert!(rt; came_to == status, "{words:?}");
+    }
     Ok(())
 }

@@ -1,10 +1,9 @@
 -- How a report answers what was read.
-use Rattle.std.specs.Prelude.{IfErr}
-use Rattle.std.proofs.Common.{◌≡◌, ◌≢◌, ℕ, ◌+◌, ◌*◌, ◌<◌, ◌≤◌, List, [], ◌∷◌, Option, None, Some, Result, Ok, Err, IsNone, IsSome, IfSome, length, take, drop, refl, ap, sym, ◌∙◌, subst, arith, ◌⊎◌, inl, inr}
+use Rattle.std.proofs.Common.{◌≡◌, ℕ, ◌+◌, ◌<◌, ◌≤◌, List, [], Option, None, Some, Result, Ok, Err, IsNone, IsSome, IfSome, length, refl, ap, sym, ◌∙◌, subst, arith, ◌⊎◌, inl, inr}
 use Rattle.std.proofs.Math.Logic.{⊎_elim}
 use Rattle.std.proofs.lemmas.List.{take_all, drop_all, length-take-le}
 use Rattle.hy_bound.specs.declared.Item.{Item}
-use Rattle.hy_outside.specs.Telling.{Takes, TakesSome, GivesAll, GivesPast}
+use Rattle.hy_outside.specs.Telling.{GivesAll, GivesPast}
 use Rattle.hy_script.specs.declared.Script.{Script}
 use Rattle.hy_script.specs.declared.Refused.{Refused}
 use Rattle.hy_script.specs.declared.Options.{Options}
@@ -19,7 +18,7 @@ use Rattle.hy_lawful.specs.FirstForm.{IsFirstForm, IsOfWholeStatements}
 use Rattle.hy_words.specs.declared.Command.{Command}
 use Rattle.hy_words.specs.declared.Command.TheVariants.{Run, Check}
 use Rattle.hy_top.specs.Lines.{refusal_line}
-use Rattle.hy_top.specs.Program.{most_bytes, bytes_read, bytes_left, options_of, outcome_of}
+use Rattle.hy_top.specs.Program.{most_bytes, bytes_read, bytes_left, options_of}
 use Rattle.hy_top.specs.Settings.{setting_of}
 use Rattle.hy_script.specs.declared.Dialect.TheVariants.{FirstForm}
 use Rattle.hy_top.specs.Reports.{IsRefused, Spells, IsRun, Writes, Answers, Runs, Checks, Does}

@@ -2,7 +2,6 @@
 use Rattle.std.specs.Prelude.{ℕ, ◌+◌, List, [], ◌∷◌, ◌++◌, nat_lt, length, codes, if◌then◌else◌}
 use Rattle.std.specs.Fmt.{decimal}
 use Rattle.hy_value.specs.declared.Value.{Value}
-use Rattle.hy_bound.specs.declared.Txn.{Txn}
 use Rattle.hy_script.specs.Codes.{number}
 use Rattle.hy_script.specs.declared.NamedTxns.{NamedTxns}
 use Rattle.hy_script.specs.declared.Refused.{Refused}

@@ -1,5 +1,5 @@
 -- What a call of the program reports, and what it leaves.
-use Rattle.std.specs.Prelude.{◌≡◌, ℕ, List, Option, None, Some, Result, Ok, Err, IsNone, IsSome, IfSome, ◌⊎◌}
+use Rattle.std.specs.Prelude.{◌≡◌, ℕ, List, Option, Some, Ok, Err, IsNone, IsSome, IfSome, ◌⊎◌}
 use Rattle.hy_outside.specs.Telling.{Takes, TakesSome}
 use Rattle.hy_script.specs.declared.Script.{Script}
 use Rattle.hy_script.specs.declared.Refused.{Refused}

@@ -1,4 +1,4 @@
-use Rattle.std.proofs.Common.{◌≡◌, arith}
+use Rattle.std.proofs.Common.{arith}
 use Rattle.hy_script.specs.Reading.{too_long, not_utf8}
 use Rattle.hy_script.proofs.Runs.{as_bytes, is_text, is_no_text}
 use Rattle.hy_script.proofs.read.Goals as goal

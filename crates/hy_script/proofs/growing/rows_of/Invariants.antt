@@ -1,4 +1,4 @@
-use Rattle.std.proofs.Common.{◌≡◌, ◌++◌, ℕ, length, map}
+use Rattle.std.proofs.Common.{◌≡◌, ◌++◌, length, map}
 use Rattle.hy_script.proofs.growing.rows_of.Given as goal
 
 abbrev pub decreases-loop-rest : goal.decreases-loop-rest

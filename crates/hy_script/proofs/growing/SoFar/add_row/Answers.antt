@@ -1,7 +1,6 @@
-use Rattle.std.proofs.Common.{◌≡◌, List, None, ap, ◌∙◌, arith}
-use Rattle.std.specs.Prelude.{slice_set, slice_index_or}
+use Rattle.std.proofs.Common.{List, None, ap, ◌∙◌, arith}
+use Rattle.std.specs.Prelude.{slice_set}
 use Rattle.hy_script.specs.declared.stocks.Stock.{Stock}
-use Rattle.hy_script.specs.declared.growing.SoFar.{SoFar}
 use Rattle.hy_script.specs.Stocks.{no_rows, with_row}
 use Rattle.hy_script.proofs.Tables.{set-set}
 use Rattle.std.proofs.lemmas.List.{get_or_default}

@@ -1,4 +1,4 @@
-use Rattle.std.proofs.Common.{◌≡◌, Bool, List, [], ◌∷◌, ◌++◌, cond, false, ap, ◌∙◌}
+use Rattle.std.proofs.Common.{Bool, [], ◌∷◌, ◌++◌, cond, ap, ◌∙◌}
 use Rattle.std.specs.List.{list_any}
 use Rattle.hy_value.specs.declared.Value.{Value}
 use Rattle.hy_script.specs.Stocks.{is_among}

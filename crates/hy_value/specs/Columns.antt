@@ -1,3 +1,4 @@
+-- Sets of columns.
 use Rattle.std.specs.Prelude.{ℕ, ◌^◌, Bool, ◌==◌, ◌&&◌, nat_lt, if◌then◌else◌, bit_or}
 use Rattle.std.specs.Int.{bit_at}
 use Rattle.hy_value.specs.declared.ColMask.{ColMask}

@@ -3,3 +3,8 @@ pub mod Order
 pub mod Sorted
 pub mod Columns
 pub mod TextBytes
+pub mod Values
+pub mod TotalOrder
+pub mod Distinct
+pub mod Sorting
+pub mod AnyOrder

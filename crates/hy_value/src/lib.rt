@@ -1,19 +1,29 @@
 //! Values, rows, their order and their print.
 #![tactic(auto)]
 
-ghost use Rattle.std.specs.Prelude.{◌≡◌, ℕ, ◌+◌, ◌<◌, ◌≤◌, ◌↔◌, ◌++◌, List, length, take, drop, IfOk, IfErr, IsOk, OnOk, OnErr, IsErrOf, IsTrue, Any, All, MatchResult};
-ghost use Rattle.std.specs.Cmp.{IsTotalOrder};
+ghost use Rattle.std.specs.Prelude.{◌≡◌, ℕ, ◌+◌, ◌<◌, ◌≤◌, ◌↔◌, ◌++◌, List, [], length, is_ok, IfOk, OnOk, OnErr, IsTrue, Any, All};
 ghost use Rattle.std.specs.List.{flat_map};
-ghost use Rattle.hy_value.specs.Order.{value_cmp, row_cmp, holds_at};
-ghost use Rattle.hy_value.specs.Print.{printed, printed_next, printed_row};
-ghost use Rattle.hy_value.specs.Sorted.{sorted, put_value as put_value_of, place_of, stands_at};
+ghost use Rattle.hy_value.specs.Order.{row_cmp, holds_at};
+ghost use Rattle.hy_value.specs.Print.{printed, printed_next, printed_row, BeginsWith};
+ghost use Rattle.hy_value.specs.Sorted.{sorted};
 ghost use Rattle.hy_value.specs.Columns.{has, with, no_columns};
 ghost use Rattle.hy_value.specs.declared.Value.{Value};
 
-use hy_seq::Seq;
+mod laws;
+mod lists;
+mod orders;
+mod sets;
+
+pub use laws::{ascending_lists_are_one, order_is_total};
+pub use lists::Seq;
+pub use sets::ValueSet;
+use smallvec::SmallVec;
 use std::alloc::{AllocError, Global};
 use std::cmp::Ordering;
 use std::marker::Model;
+
+/// How many bytes a TEXT value has at most.
+pub const MOST_TEXT: usize = 255;
 
 /// Why some text is no TEXT value.
 #[derive(Clone, Copy, Debug, PartialEq, Eq)]
@@ -24,94 +34,88 @@ pub enum TextFault {
     Control,
 }
 
-/// A TEXT value: up to 255 bytes, kept in place, so that copying it takes no memory.
-#[derive(Clone, Copy, PartialEq, Eq, Hash)]
+/// A TEXT value: up to 255 bytes, kept in place, so that copying it takes no memory. None of them is of a
+/// control character.
+#[derive(Drop)]
 pub struct Text {
-    length: u8,
-    bytes: [u8; 255],
+    bytes: SmallVec<u8, 255>,
 }
 
 impl Model for Text {
     ghost use Rattle.std.specs.Prelude.{ℕ, List};
+    ghost use Rattle.hy_value.specs.TextBytes.{IsText};
 
     ghost Value = { List ℕ };
 
-    ghost use Rattle.hy_value.specs.TextBytes.{text_bytes, IsPadded, padded_text, padded_again};
+    ghost view = { λ t. t.bytes.items };
 
-    ghost view = { text_bytes };
-
-    ghost invariant = { IsPadded };
-
-    ghost inverse = { padded_text };
-
-    ghost inverse_ok = { padded_again };
+    ghost invariant = { λ t. IsText t.bytes.items };
 }
 
 impl Text {
+    ghost use Rattle.hy_value.specs.TextBytes.{IsText, is_text};
+
+    /// The empty text.
+    pub fn empty(alloc: Global) -> Text
+        ensures { result ≡ [] }
+    {
+        Text {
+            bytes: SmallVec::new(alloc),
+        }
+    }
+
     /// The value of this text. A text that is too long is refused as such, whatever it holds.
-    pub fn new(text: &str) -> Result<Text, TextFault>
+    pub fn new(alloc: Global, text: &str) -> Result<Text, TextFault>
         ensures ok { IfOk result (λ t. t ≡ text.now) }
         ensures too_long { (result ≡ Err TextFault.TooLong) ↔ (255 < length text.now) }
         ensures control { (result ≡ Err TextFault.Control) → Any (λ b. b < 32) text.now }
         ensures printable { OnOk result (All (λ b. 32 ≤ b) text.now) }
     {
-        Text::from_bytes(text.as_bytes())
+        Text::from_bytes(alloc, text.as_bytes())
     }
 
     /// The value of these bytes, which are a text's.
-    fn from_bytes(text: &[u8]) -> Result<Text, TextFault>
+    pub fn from_bytes(alloc: Global, text: &[u8]) -> Result<Text, TextFault>
         ensures ok { IfOk result (λ t. t ≡ text.now) }
+        ensures accepts { is_ok result ≡ is_text text.now }
         ensures too_long { (result ≡ Err TextFault.TooLong) ↔ (255 < length text.now) }
         ensures control { (result ≡ Err TextFault.Control) → Any (λ b. b < 32) text.now }
         ensures printable { OnOk result (All (λ b. 32 ≤ b) text.now) }
     {
-        if text.len() > 255 {
+        if text.len() > MOST_TEXT {
             return Err(TextFault::TooLong);
         }
         if has_control(text) {
             return Err(TextFault::Control);
         }
-        Ok(Text::keep(text))
-    }
-
-    /// The value of the first 255 of these bytes, which are a text's.
-    pub fn front(bytes: &[u8]) -> Text
-        ensures { result ≡ take 255 bytes.now }
-    {
-        if bytes.len() <= 255 {
-            return Text::keep(bytes);
-        }
-        Text::keep(&bytes[..255])
+        Ok(Text::keep(alloc, text))
     }
 
     /// Keeps the bytes in place.
-    fn keep(text: &[u8]) -> Text
-        requires { length text.now ≤ 255 }
+    fn keep(alloc: Global, text: &[u8]) -> Text
+        requires { IsText text.now }
         ensures { result ≡ text.now }
     {
-        let mut bytes = [0; 255];
-        write_front(&mut bytes, text);
-        Text {
-            length: text.len() as u8,
-            bytes,
+        match SmallVec::from_slice(alloc, text) {
+            Ok(bytes) => Text { bytes },
+            Err(_) => unreachable!(),
         }
     }
 
-    /// Its bytes, of which there are at most 255.
+    /// A copy, which takes no memory.
+    pub fn copy(&self) -> Text
+        ensures { result ≡ self.now }
+    {
+        Text::keep(*self.bytes.allocator(), self.bytes.as_slice())
+    }
+
+    /// Its bytes, of which there are at most 255, none of a control character.
     pub fn as_bytes(&self) -> &[u8]
         ensures bytes { result.now ≡ self.now }
-        ensures short { length result.now ≤ 255 }
+        ensures text { IsText result.now }
     {
-        &self.bytes[..usize::from(self.length)]
+        self.bytes.as_slice()
     }
-}
-
-/// Writes a text over the first places.
-fn write_front(places: &mut [u8], text: &[u8])
-    requires { length text.now ≤ length places.old }
-    ensures { places.new ≡ text.now ++ drop (length text.now) places.old }
-{
-    places[..text.len()].copy_from_slice(text);
 }
 
 /// Whether a byte of the text is a control character.
@@ -130,8 +134,11 @@ pub enum Kind {
     Str,
 }
 
+/// Types of columns, in order.
+pub type Kinds = Seq<Kind>;
+
 /// A value of a row.
-#[derive(Clone, Copy, PartialEq, Eq, Hash)]
+#[derive(Drop)]
 pub enum Value {
     /// No value.
     Null,
@@ -142,18 +149,14 @@ pub enum Value {
 }
 
 impl Value {
-    /// How the value stands to another: NULL first, numbers by size, texts by their bytes.
-    pub fn cmp(&self, other: &Value) -> Ordering
-        ensures { result ≡ value_cmp self.now other.now }
+    /// A copy, which takes no memory.
+    pub fn copy(&self) -> Value
+        ensures { result ≡ self.now }
     {
-        match (self, other) {
-            (Value::Null, Value::Null) => Ordering::Equal,
-            (Value::Null, _) => Ordering::Less,
-            (_, Value::Null) => Ordering::Greater,
-            (Value::Int(left), Value::Int(right)) => left.cmp(right),
-            (Value::Int(_), Value::Text(_)) => Ordering::Less,
-            (Value::Text(_), Value::Int(_)) => Ordering::Greater,
-            (Value::Text(left), Value::Text(right)) => left.as_bytes().cmp(right.as_bytes()),
+        match self {
+            Value::Null => Value::Null,
+            Value::Int(number) => Value::Int(*number),
+            Value::Text(text) => Value::Text(text.copy()),
         }
     }
 }
@@ -256,7 +259,18 @@ fn compare_values(left: &[Value], right: &[Value]) -> Ordering
 pub fn copy_row(alloc: Global, row: &Row) -> Result<Row, AllocError>
     ensures { IfOk result (λ copy. copy ≡ row.now) }
 {
-    Seq::from_slice(alloc, row.as_slice())
+    Ok(Seq::from_vec(copy_values(alloc, row.as_slice())?))
+}
+
+/// Copies of values.
+pub fn copy_values(alloc: Global, values: &[Value]) -> Result<Vec<Value>, AllocError>
+    ensures { IfOk result (λ copies. copies.items ≡ values.now) }
+{
+    let mut copies = Vec::with_capacity(alloc, values.len())?;
+    for value in values {
+        copies.push(value.copy())?;
+    }
+    Ok(copies)
 }
 
 /// Puts rows into ascending order. Without memory they stay as they are.
@@ -267,45 +281,37 @@ pub fn sort_rows(rows: &mut Vec<Row>) -> Result<(), AllocError>
     rows.sort_by(compare_rows)
 }
 
-/// Puts a value among others that ascend, unless it is there.
-pub fn put_value(values: &mut Vec<Value>, value: Value) -> Result<(), AllocError>
-    ensures ok { OnOk result (values.new.items ≡ put_value_of value values.old.items) }
-    ensures err { OnErr result (values.new.items ≡ values.old.items) }
-{
-    let place = place(values.as_slice(), &value);
-    if is_there(values.as_slice(), place, &value) {
-        return Ok(());
-    }
-    values.insert(place, value)?;
-    Ok(())
-}
-
-/// Whether a value stands at a place.
-fn is_there(values: &[Value], place: usize, value: &Value) -> bool
-    ensures { result ≡ stands_at value.now (drop place values.now) }
-{
-    match values.get(place) {
-        Some(other) => value.cmp(other).is_eq(),
-        None => false,
-    }
-}
-
-/// How many values stand in front of those that aren't below one.
-fn place(values: &[Value], value: &Value) -> usize
-    ensures bound { result ≤ length values.now }
-    ensures place { result ≡ place_of value.now values.now }
-{
-    for (i, other) in values.iter().enumerate() {
-        if !value.cmp(other).is_gt() {
-            return i;
-        }
-    }
-    values.len()
-}
-
-/// Appends a value as the program prints it. Without memory some of it may be there.
+/// Appends a value as the program prints it. Without memory the buffer is as it was.
 pub fn print(value: &Value, out: &mut Vec<u8>) -> Result<(), AllocError>
-    ensures { OnOk result (out.new.items ≡ out.old.items ++ printed value.now) }
+    ensures ok { OnOk result (out.new.items ≡ out.old.items ++ printed value.now) }
+    ensures err { OnErr result (out.new.items ≡ out.old.items) }
+{
+    let before = out.len();
+    let done = append(value, out);
+    if done.is_err() {
+        out.truncate(before);
+    }
+    done
+}
+
+/// Appends a row as the program prints it: its values, between bars. Without memory the buffer is as it
+/// was.
+pub fn print_row(row: &Row, out: &mut Vec<u8>) -> Result<(), AllocError>
+    ensures ok { OnOk result (out.new.items ≡ out.old.items ++ printed_row row.now) }
+    ensures err { OnErr result (out.new.items ≡ out.old.items) }
+{
+    let before = out.len();
+    let done = append_row(row.as_slice(), out);
+    if done.is_err() {
+        out.truncate(before);
+    }
+    done
+}
+
+/// Appends a value. Without memory some of it may be there.
+fn append(value: &Value, out: &mut Vec<u8>) -> Result<(), AllocError>
+    ensures ok { OnOk result (out.new.items ≡ out.old.items ++ printed value.now) }
+    ensures begun { BeginsWith out.old.items out.new.items }
 {
     match value {
         Value::Null => out.extend_from_slice(b"NULL"),
@@ -313,13 +319,14 @@ pub fn print(value: &Value, out: &mut Vec<u8>) -> Result<(), AllocError>
             let digits = number.to_string(*out.allocator())?;
             out.extend_from_slice(digits.as_bytes())
         }
-        Value::Text(text) => print_text(text.as_bytes(), out),
+        Value::Text(text) => append_text(text.as_bytes(), out),
     }
 }
 
-/// Appends a text between quotes, each quote in it doubled.
-fn print_text(text: &[u8], out: &mut Vec<u8>) -> Result<(), AllocError>
-    ensures { OnOk result (out.new.items ≡ out.old.items ++ printed (Value.Text text.now)) }
+/// Appends a text between quotes, each quote in it doubled. Without memory some of it may be there.
+fn append_text(text: &[u8], out: &mut Vec<u8>) -> Result<(), AllocError>
+    ensures ok { OnOk result (out.new.items ≡ out.old.items ++ printed (Value.Text text.now)) }
+    ensures begun { BeginsWith out.old.items out.new.items }
 {
     out.push(b'\'')?;
     for byte in text {
@@ -332,33 +339,26 @@ fn print_text(text: &[u8], out: &mut Vec<u8>) -> Result<(), AllocError>
     Ok(())
 }
 
-/// Appends a row as the program prints it: its values, between bars. Without memory some of it may be
-/// there.
-pub fn print_row(row: &Row, out: &mut Vec<u8>) -> Result<(), AllocError>
-    ensures { OnOk result (out.new.items ≡ out.old.items ++ printed_row row.now) }
+/// Appends values, with bars between them. Without memory some of it may be there.
+fn append_row(row: &[Value], out: &mut Vec<u8>) -> Result<(), AllocError>
+    ensures ok { OnOk result (out.new.items ≡ out.old.items ++ printed_row row.now) }
+    ensures begun { BeginsWith out.old.items out.new.items }
 {
-    let Some((first, others)) = row.as_slice().split_first() else {
+    let Some((first, others)) = row.split_first() else {
         return Ok(());
     };
-    print(first, out)?;
-    print_others(others, out)
+    append(first, out)?;
+    append_others(others, out)
 }
 
-/// Appends values, each after a bar.
-fn print_others(others: &[Value], out: &mut Vec<u8>) -> Result<(), AllocError>
-    ensures { OnOk result (out.new.items ≡ out.old.items ++ flat_map printed_next others.now) }
+/// Appends values, each after a bar. Without memory some of it may be there.
+fn append_others(others: &[Value], out: &mut Vec<u8>) -> Result<(), AllocError>
+    ensures ok { OnOk result (out.new.items ≡ out.old.items ++ flat_map printed_next others.now) }
+    ensures begun { BeginsWith out.old.items out.new.items }
 {
     for value in others {
         out.push(b'|')?;
-        print(value, out)?;
+        append(value, out)?;
     }
     Ok(())
 }
-
-/// The order of values is total, and only equal values tie; so it is of rows.
-pub fn order_is_total()
-    ensures values { IsTotalOrder value_cmp }
-    ensures ties { (x y : Value) → value_cmp x y ≡ Ordering.Equal → x ≡ y }
-    ensures rows { IsTotalOrder row_cmp }
-    ensures row_ties { (x y : List Value) → row_cmp x y ≡ Ordering.Equal → x ≡ y }
-{}

@@ -39,6 +39,21 @@ combined op (Err range) right = Err range
 combined op (Ok left) (Err range) = Err range
 combined op (Ok left) (Ok right) = applied op left right
 
+-- the number that a value is, if it is one
+abbrev pub number_in : Result Value Range → Result (Option ℤ) Range
+number_in (Err range) = Err range
+number_in (Ok Null) = Ok None
+number_in (Ok (Int n)) = Ok (Some n)
+number_in (Ok (Text t)) = Ok None
+
+-- an operator on two sides of which only the numbers are known
+abbrev pub combined_numbers : Operator → Result (Option ℤ) Range → Result (Option ℤ) Range → Result (Option ℤ) Range
+combined_numbers op (Err range) right = Err range
+combined_numbers op (Ok left) (Err range) = Err range
+combined_numbers op (Ok None) (Ok right) = Ok None
+combined_numbers op (Ok (Some m)) (Ok None) = Ok None
+combined_numbers op (Ok (Some m)) (Ok (Some n)) = number_in (number_of (exact op m n))
+
 -- what a right side of SET is in a row
 abbrev pub value_of : Expression → List Value → Result Value Range
 value_of (Literal value) row = Ok value

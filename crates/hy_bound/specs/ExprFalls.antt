@@ -9,7 +9,9 @@ use Rattle.hy_bound.specs.ExprView.{expression}
 
 -- a side has fewer parts than the whole
 pub depth_le-parts : (n : ExprNode) → max (deep-ExprNode n) 0 ≤ parts (expression n)
-depth_le-parts (node.Literal value) = omega arith
+depth_le-parts node.Null = omega arith
+depth_le-parts (node.Int number) = omega arith
+depth_le-parts (node.Text text) = omega arith
 depth_le-parts (node.Column column) = omega arith
 depth_le-parts (node.Add left right) = omega arith
 depth_le-parts (node.Sub left right) = omega arith

@@ -8,6 +8,8 @@ pub mod Predicate
 pub mod Assignment
 pub mod Records
 pub mod Projection
-pub mod Reads
 pub mod Agreement
 pub mod Changes
+pub mod Fits
+pub mod Truths
+pub mod Masks

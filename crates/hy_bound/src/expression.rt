@@ -1,15 +1,14 @@
 //! The right sides of assignments.
 
-ghost use Rattle.std.specs.Prelude.{◌≡◌, IfOk, slice_set};
+ghost use Rattle.std.specs.Prelude.{◌≡◌, Ok, IfOk, slice_set};
+ghost use Rattle.hy_bound.specs.Predicate.{column_of};
 ghost use Rattle.hy_bound.specs.Expression.{Literal, Column, Add, Sub, Mul};
-ghost use Rattle.hy_bound.specs.Assignment.{value_of, combined, applied, exact, number_of, assigned};
-ghost use Rattle.hy_bound.specs.Records.{columns_read, add_columns};
+ghost use Rattle.hy_bound.specs.Assignment.{value_of, exact, number_of, number_in, combined_numbers, assigned};
+ghost use Rattle.hy_bound.specs.ExprView.{rooted};
 
-use crate::predicate::column_value;
-use crate::restrictions::add_all;
+use crate::predicate::{cell, column_value};
 use crate::{Range, Sets};
-use hy_seq::Seq;
-use hy_value::{ColMask, Row, Value};
+use hy_value::{Row, Seq, Text, Value, copy_values};
 use std::alloc::{AllocError, Global};
 use std::marker::Model;
 
@@ -24,7 +23,9 @@ pub struct SetExpr {
 #[cycle(expressions)]
 #[derive(Drop)]
 enum ExprNode {
-    Literal(Value),
+    Null,
+    Int(i64),
+    Text(Box<Text>),
     Column(u32),
     Add(Box<SetExpr>, Box<SetExpr>),
     Sub(Box<SetExpr>, Box<SetExpr>),
@@ -51,12 +52,15 @@ impl Model for SetExpr {
 
 impl SetExpr {
     /// A value.
-    pub fn literal(value: Value) -> SetExpr
-        ensures { result ≡ Literal value }
+    pub fn literal(alloc: Global, value: Value) -> Result<SetExpr, AllocError>
+        ensures { IfOk result (λ e. e ≡ Literal value) }
     {
-        SetExpr {
-            node: ExprNode::Literal(value),
-        }
+        let node = match value {
+            Value::Null => ExprNode::Null,
+            Value::Int(number) => ExprNode::Int(number),
+            Value::Text(text) => ExprNode::Text(Box::new(alloc, text)?),
+        };
+        Ok(SetExpr { node })
     }
 
     /// A column.
@@ -101,18 +105,39 @@ impl SetExpr {
         })
     }
 
-    /// The set, and the columns of that table that the expression reads.
-    #[tactic(auto, using(crate::proofs::Columns::added_both))]
-    pub(crate) fn add_to(&self, columns: ColMask, from: u128, width: u32) -> ColMask
-        ensures { result ≡ add_columns columns from width (columns_read self.now) }
+    /// What the expression is at its root.
+    pub fn root(&self) -> ExprRoot<'_>
+        ensures { rooted result ≡ self.now }
     {
         match &self.node {
-            ExprNode::Literal(_) => columns,
-            ExprNode::Column(column) => add_all(columns, from, width, &[*column]),
-            ExprNode::Add(left, right) | ExprNode::Sub(left, right) | ExprNode::Mul(left, right) =>
-                { right.add_to(left.add_to(columns, from, width), from, width) }
+            ExprNode::Null => ExprRoot::Null,
+            ExprNode::Int(number) => ExprRoot::Int(*number),
+            ExprNode::Text(text) => ExprRoot::Text(text),
+            ExprNode::Column(column) => ExprRoot::Column(*column),
+            ExprNode::Add(left, right) => ExprRoot::Add(left, right),
+            ExprNode::Sub(left, right) => ExprRoot::Sub(left, right),
+            ExprNode::Mul(left, right) => ExprRoot::Mul(left, right),
         }
     }
+}
+
+/// What an expression is at its root, with the expressions that it is made of.
+#[derive(Clone, Copy)]
+pub enum ExprRoot<'a> {
+    /// NULL.
+    Null,
+    /// A number.
+    Int(i64),
+    /// A text.
+    Text(&'a Text),
+    /// A column.
+    Column(u32),
+    /// A sum.
+    Add(&'a SetExpr, &'a SetExpr),
+    /// A difference.
+    Sub(&'a SetExpr, &'a SetExpr),
+    /// A product.
+    Mul(&'a SetExpr, &'a SetExpr),
 }
 
 /// An operator between two expressions.
@@ -128,41 +153,57 @@ pub fn value(expression: &SetExpr, row: &Row) -> Result<Value, Range>
     ensures { result ≡ value_of expression.now row.now }
 {
     match &expression.node {
-        ExprNode::Literal(value) => Ok(*value),
+        ExprNode::Text(text) => Ok(Value::Text(text.copy())),
         ExprNode::Column(column) => Ok(column_value(row, *column)),
-        ExprNode::Add(left, right) => combine(Operator::Add, value(left, row), value(right, row)),
-        ExprNode::Sub(left, right) => combine(Operator::Sub, value(left, row), value(right, row)),
-        ExprNode::Mul(left, right) => combine(Operator::Mul, value(left, row), value(right, row)),
+        _ => match number(expression, row)? {
+            Some(number) => Ok(Value::Int(number)),
+            None => Ok(Value::Null),
+        },
     }
 }
 
-/// An operator on two sides: out of range where a side is.
+/// The number that a right side of SET is in a row, none where it is a text or NULL. It takes little room
+/// for each operator, so that long chains of them are walked.
+fn number(expression: &SetExpr, row: &Row) -> Result<Option<i64>, Range>
+    ensures { result ≡ number_in (value_of expression.now row.now) }
+{
+    match &expression.node {
+        ExprNode::Null | ExprNode::Text(_) => Ok(None),
+        ExprNode::Int(number) => Ok(Some(*number)),
+        ExprNode::Column(column) => Ok(number_at(row, *column)),
+        ExprNode::Add(left, right) => combine(Operator::Add, number(left, row), number(right, row)),
+        ExprNode::Sub(left, right) => combine(Operator::Sub, number(left, row), number(right, row)),
+        ExprNode::Mul(left, right) => combine(Operator::Mul, number(left, row), number(right, row)),
+    }
+}
+
+/// The number in a column of a row, if there is one.
+fn number_at(row: &Row, column: u32) -> Option<i64>
+    ensures { Ok result ≡ number_in (Ok (column_of row.now column)) }
+{
+    match cell(row, column) {
+        Some(Value::Int(number)) => Some(*number),
+        _ => None,
+    }
+}
+
+/// An operator on two sides: out of range where a side is, and none where a side is none.
 fn combine(
     op: Operator,
-    left: Result<Value, Range>,
-    right: Result<Value, Range>,
-) -> Result<Value, Range>
-    ensures { result ≡ combined op left right }
+    left: Result<Option<i64>, Range>,
+    right: Result<Option<i64>, Range>,
+) -> Result<Option<i64>, Range>
+    ensures { result ≡ combined_numbers op left right }
 {
-    match (left, right) {
-        (Ok(left), Ok(right)) => apply(op, &left, &right),
-        _ => Err(Range),
-    }
-}
-
-/// An operator on two values: NULL where one of them is no number.
-fn apply(op: Operator, left: &Value, right: &Value) -> Result<Value, Range>
-    ensures { result ≡ applied op left.now right.now }
-{
-    match (left, right) {
-        (Value::Int(left), Value::Int(right)) => calculate(op, *left, *right),
-        _ => Ok(Value::Null),
+    match (left?, right?) {
+        (Some(left), Some(right)) => calculate(op, left, right),
+        _ => Ok(None),
     }
 }
 
 /// An operator on two numbers, unless the result leaves 64 bits.
-fn calculate(op: Operator, left: i64, right: i64) -> Result<Value, Range>
-    ensures { result ≡ number_of (exact op left right) }
+fn calculate(op: Operator, left: i64, right: i64) -> Result<Option<i64>, Range>
+    ensures { result ≡ number_in (number_of (exact op left right)) }
 {
     let number = match op {
         Operator::Add => left.checked_add(right),
@@ -170,7 +211,7 @@ fn calculate(op: Operator, left: i64, right: i64) -> Result<Value, Range>
         Operator::Mul => left.checked_mul(right),
     };
     match number {
-        Some(number) => Ok(Value::Int(number)),
+        Some(number) => Ok(Some(number)),
         None => Err(Range),
     }
 }
@@ -179,7 +220,7 @@ fn calculate(op: Operator, left: i64, right: i64) -> Result<Value, Range>
 pub fn set_row(alloc: Global, sets: &Sets, row: &Row) -> Result<Option<Row>, AllocError>
     ensures { IfOk result (λ new. new ≡ assigned sets.now row.now) }
 {
-    let mut new = Vec::from_slice(alloc, row.as_slice())?;
+    let mut new = copy_values(alloc, row.as_slice())?;
     for set in sets.as_slice() {
         let Ok(value) = value(&set.value, row) else {
             return Ok(None);

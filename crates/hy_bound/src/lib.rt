@@ -3,24 +3,22 @@
 #![tactic(auto)]
 
 ghost use Rattle.std.specs.Prelude.{◌≡◌, IfOk};
+ghost use Rattle.hy_bound.specs.Records.{shape_of};
 
 mod changes;
+mod conjuncts;
 mod expression;
 mod laws;
 mod predicate;
 mod projection;
-mod reading;
-mod restrictions;
 
 pub use changes::hits;
-pub use expression::{SetExpr, set_row, value};
-use hy_seq::Seq;
-use hy_value::{ColMask, Row, Value};
+pub use conjuncts::conditions;
+pub use expression::{ExprRoot, SetExpr, set_row, value};
+use hy_value::{ColMask, Row, Seq, Value};
 pub use laws::{only_named_columns_matter, projections_are_spread};
-pub use predicate::{Pred, Side, column_value, truth};
-pub use projection::{add_spread, project_row, spread_row};
-pub use reading::{behind, front_rows, looked_up, reads, records, table_shape};
-pub use restrictions::{conditions, named, restrict};
+pub use predicate::{Pred, Root, Side, SideView, cell, column_value, compare, is_null, truth};
+pub use projection::{mask_row, project_row};
 use std::alloc::{AllocError, Global};
 
 /// Column or table numbers.
@@ -169,23 +167,43 @@ pub struct Shape {
 /// The shapes of a script's tables, by number.
 pub type Shapes = Seq<Shape>;
 
-/// What a statement reads of a table: the rows of which one of the conditions is true, and of these the
-/// columns.
+/// The shape of a table; one that isn't there has no columns.
+pub fn table_shape(shapes: &[Shape], table: u32) -> Shape
+    ensures { result ≡ shape_of shapes.now table }
+{
+    match shapes.get(table as usize) {
+        Some(shape) => *shape,
+        None => Shape {
+            width: 0,
+            key: None,
+        },
+    }
+}
+
+/// What an UPDATE or a DELETE does with a row that it selects.
 #[derive(Drop)]
-pub struct Read {
-    /// The table.
-    pub table: u32,
-    /// The conditions: one, or one for each value of the key by which rows are looked up.
-    pub conditions: Conditions,
-    /// The columns that the statement looks at, those of the conditions among them.
-    pub columns: ColMask,
+pub enum WriteKind {
+    /// It sets columns.
+    Set(Sets),
+    /// The row goes.
+    Delete,
+}
+
+/// A SELECT, by its parts.
+#[derive(Clone, Copy)]
+pub struct Query<'a> {
+    /// The tables, in FROM order.
+    pub tables: &'a [u32],
+    /// The equalities of ON, in order.
+    pub ons: &'a [On],
+    /// The condition of WHERE.
+    pub pred: &'a Pred,
+    /// What is shown.
+    pub items: &'a Items,
 }
 
 /// Conditions on rows.
 pub type Conditions = Seq<Pred>;
-
-/// What a statement reads, a table each.
-pub type Reads = Seq<Read>;
 
 /// What a statement read of a table, for precision locking (Jordan, Banerjee, Batman, SIGMOD 1981).
 #[derive(Drop)]
@@ -207,7 +225,7 @@ pub type Records = Seq<Record>;
 pub type Rows = Seq<Row>;
 
 /// A group of a reply.
-#[derive(Clone, Copy)]
+#[derive(Drop)]
 pub struct Grouped {
     /// The value by which its rows are grouped.
     pub value: Value,

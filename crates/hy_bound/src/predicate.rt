@@ -1,24 +1,35 @@
 //! Conditions on rows.
 
-ghost use Rattle.std.specs.Prelude.{◌≡◌, ◌-◌, ◌++◌, [], ◌∷◌, IfOk, OnOk};
-ghost use Rattle.std.specs.List.{list_all};
+ghost use Rattle.std.specs.Prelude.{◌≡◌, ◌++◌, map, IfOk, OnOk, IfSome, IfNone};
 ghost use Rattle.hy_bound.specs.Condition.{True, Compare, IsNull, Not, And, Or};
 ghost use Rattle.hy_bound.specs.Predicate.{truth_of, sense as sense_of, opposite as opposite_of, both as both_of, either as either_of, compared, side_of, column_of, is_null as is_null_value};
-ghost use Rattle.hy_bound.specs.Records.{own_condition, own_side, joined, own_conditions, conjuncts, and_also as and_also_of, is_of_table, is_within as is_within_of, columns_of, add_columns, side_columns};
+ghost use Rattle.hy_bound.specs.Records.{conjuncts, and_also as and_also_of};
+ghost use Rattle.hy_bound.specs.PredView.{operand_side, rooted};
+ghost use Rattle.hy_value.specs.declared.Value.{Value};
+ghost use Rattle.hy_value.specs.declared.Value.TheVariants.{Null, Int};
 
-use crate::Conditions;
-use crate::restrictions::{add_all, is_within, own_number};
-use hy_value::{Cmp, ColMask, Row, Value};
+use hy_value::{Cmp, Row, Text, Value};
 use std::alloc::{AllocError, Global};
+use std::cmp::Ordering;
 use std::marker::Model;
 
 /// The right side of a comparison.
-#[derive(Clone, Copy)]
+#[derive(Drop)]
 pub enum Side {
     /// A column.
     Column(u32),
     /// A value.
     Literal(Value),
+}
+
+/// The right side of a comparison as a condition keeps it: a text stands behind a pointer, so that a
+/// condition takes no more room than a number.
+#[derive(Drop)]
+enum Operand {
+    Column(u32),
+    Null,
+    Int(i64),
+    Text(Box<Text>),
 }
 
 /// A condition on a row. A column's number counts in the row that is asked about: one table's row, or in
@@ -34,11 +45,48 @@ pub struct Pred {
 #[derive(Drop)]
 enum PredNode {
     True,
-    Compare { column: u32, op: Cmp, side: Side },
+    Compare { column: u32, op: Cmp, side: Operand },
     IsNull(u32),
     Not(Box<Pred>),
     And(Box<Pred>, Box<Pred>),
     Or(Box<Pred>, Box<Pred>),
+}
+
+/// The right side of a comparison, looked at from outside.
+#[derive(Clone, Copy)]
+pub enum SideView<'a> {
+    /// A column.
+    Column(u32),
+    /// NULL.
+    Null,
+    /// A number.
+    Int(i64),
+    /// A text.
+    Text(&'a Text),
+}
+
+/// What a condition is at its root, with the conditions that it is made of.
+#[derive(Clone, Copy)]
+pub enum Root<'a> {
+    /// No condition.
+    True,
+    /// A comparison of a column.
+    Compare {
+        /// The column on the left.
+        column: u32,
+        /// The operator.
+        op: Cmp,
+        /// What stands on the right.
+        side: SideView<'a>,
+    },
+    /// That a column is NULL.
+    IsNull(u32),
+    /// NOT.
+    Not(&'a Pred),
+    /// AND.
+    And(&'a Pred, &'a Pred),
+    /// OR.
+    Or(&'a Pred, &'a Pred),
 }
 
 impl Model for Pred {
@@ -59,6 +107,46 @@ impl Model for Pred {
     ghost size_decreases = { λ a h. depth_le-parts a.node };
 }
 
+impl Operand {
+    ghost use Rattle.hy_bound.specs.PredView.{operand_side, viewed_side};
+
+    /// What it is, from outside.
+    fn view(&self) -> SideView<'_>
+        ensures { viewed_side result ≡ operand_side self.now }
+    {
+        match self {
+            Operand::Column(column) => SideView::Column(*column),
+            Operand::Null => SideView::Null,
+            Operand::Int(number) => SideView::Int(*number),
+            Operand::Text(text) => SideView::Text(text),
+        }
+    }
+
+    /// The right side of a comparison, as it is kept.
+    fn new(alloc: Global, side: Side) -> Result<Operand, AllocError>
+        ensures { IfOk result (λ operand. operand_side operand ≡ side) }
+    {
+        match side {
+            Side::Column(column) => Ok(Operand::Column(column)),
+            Side::Literal(Value::Null) => Ok(Operand::Null),
+            Side::Literal(Value::Int(number)) => Ok(Operand::Int(number)),
+            Side::Literal(Value::Text(text)) => Ok(Operand::Text(Box::new(alloc, text)?)),
+        }
+    }
+
+    /// A copy.
+    fn copy(&self, alloc: Global) -> Result<Operand, AllocError>
+        ensures { IfOk result (λ operand. operand_side operand ≡ operand_side self.now) }
+    {
+        match self {
+            Operand::Column(column) => Ok(Operand::Column(*column)),
+            Operand::Null => Ok(Operand::Null),
+            Operand::Int(number) => Ok(Operand::Int(*number)),
+            Operand::Text(text) => Ok(Operand::Text(Box::new(alloc, text.copy())?)),
+        }
+    }
+}
+
 impl Pred {
     /// No condition.
     pub fn always() -> Pred
@@ -70,12 +158,13 @@ impl Pred {
     }
 
     /// A comparison of a column.
-    pub fn compare(column: u32, op: Cmp, side: Side) -> Pred
-        ensures { result ≡ Compare column op side }
+    pub fn compare(alloc: Global, column: u32, op: Cmp, side: Side) -> Result<Pred, AllocError>
+        ensures { IfOk result (λ p. p ≡ Compare column op side) }
     {
-        Pred {
+        let side = Operand::new(alloc, side)?;
+        Ok(Pred {
             node: PredNode::Compare { column, op, side },
-        }
+        })
     }
 
     /// That a column is NULL.
@@ -119,32 +208,52 @@ impl Pred {
         })
     }
 
+    /// What the condition is at its root.
+    pub fn root(&self) -> Root<'_>
+        ensures { rooted result ≡ self.now }
+    {
+        match &self.node {
+            PredNode::True => Root::True,
+            PredNode::Compare { column, op, side } => Root::Compare {
+                column: *column,
+                op: *op,
+                side: side.view(),
+            },
+            PredNode::IsNull(column) => Root::IsNull(*column),
+            PredNode::Not(inner) => Root::Not(inner),
+            PredNode::And(left, right) => Root::And(left, right),
+            PredNode::Or(left, right) => Root::Or(left, right),
+        }
+    }
+
     /// A copy of the condition.
-    #[tactic(auto, using(crate::proofs::Columns::own_zero))]
     pub fn copy(&self, alloc: Global) -> Result<Pred, AllocError>
         ensures { IfOk result (λ p. p ≡ self.now) }
     {
-        self.own(alloc, 0)
-    }
-
-    /// The condition by the columns' own numbers in the table whose columns begin at `from`.
-    fn own(&self, alloc: Global, from: u128) -> Result<Pred, AllocError>
-        ensures { IfOk result (λ p. p ≡ own_condition from self.now) }
-    {
         match &self.node {
             PredNode::True => Ok(Pred::always()),
-            PredNode::Compare { column, op, side } => Ok(Pred::compare(
-                own_number(from, *column),
-                *op,
-                side.own(from),
-            )),
-            PredNode::IsNull(column) => Ok(Pred::is_null(own_number(from, *column))),
-            PredNode::Not(inner) => Pred::not(alloc, inner.own(alloc, from)?),
+            PredNode::Compare { column, op, side } => copy_comparison(alloc, *column, *op, side),
+            PredNode::IsNull(column) => Ok(Pred::is_null(*column)),
+            PredNode::Not(inner) => Pred::not(alloc, inner.copy(alloc)?),
+            PredNode::And(left, right) => Pred::and(alloc, left.copy(alloc)?, right.copy(alloc)?),
+            PredNode::Or(left, right) => Pred::or(alloc, left.copy(alloc)?, right.copy(alloc)?),
+        }
+    }
+
+    /// Adds the conditions that AND joins in it, one by one.
+    pub fn add_conjuncts<'a>(&'a self, all: &mut Vec<&'a Pred>) -> Result<(), AllocError>
+        ensures { OnOk result (map (λ p. p.now) all.new.items
+            ≡ map (λ p. p.now) all.old.items ++ conjuncts self.now) }
+    {
+        match &self.node {
+            PredNode::True => Ok(()),
             PredNode::And(left, right) => {
-                Pred::and(alloc, left.own(alloc, from)?, right.own(alloc, from)?)
+                left.add_conjuncts(all)?;
+                right.add_conjuncts(all)
             }
-            PredNode::Or(left, right) => {
-                Pred::or(alloc, left.own(alloc, from)?, right.own(alloc, from)?)
+            _ => {
+                all.push(self)?;
+                Ok(())
             }
         }
     }
@@ -158,145 +267,18 @@ impl Pred {
             node => Pred::and(alloc, Pred { node }, other),
         }
     }
-
-    /// This condition, and another where it names columns of that table alone.
-    pub(crate) fn and_own(
-        self,
-        alloc: Global,
-        from: u128,
-        width: u32,
-        other: &Pred,
-    ) -> Result<Pred, AllocError>
-        ensures { IfOk result (λ p. p ≡ joined self (own_conditions from width (other.now ∷ []))) }
-    {
-        if other.is_of_table(from, width) {
-            self.and_also(alloc, other.own(alloc, from)?)
-        } else {
-            Ok(self)
-        }
-    }
-
-    /// This condition, and those of the conditions that AND joins in another that name columns of that
-    /// table alone.
-    pub(crate) fn and_restricted(
-        self,
-        alloc: Global,
-        from: u128,
-        width: u32,
-        other: &Pred,
-    ) -> Result<Pred, AllocError>
-        ensures { IfOk result (λ p. p ≡ joined self (own_conditions from width (conjuncts other.now))) }
-    {
-        match &other.node {
-            PredNode::True => Ok(self),
-            PredNode::And(left, right) => self
-                .and_restricted(alloc, from, width, left)?
-                .and_restricted(alloc, from, width, right),
-            _ => self.and_own(alloc, from, width, other),
-        }
-    }
-
-    /// Adds copies of the conditions that AND joins in it.
-    pub(crate) fn add_conjuncts(
-        &self,
-        alloc: Global,
-        all: &mut Conditions,
-    ) -> Result<(), AllocError>
-        ensures { OnOk result (all.new ≡ all.old ++ conjuncts self.now) }
-    {
-        match &self.node {
-            PredNode::True => Ok(()),
-            PredNode::And(left, right) => {
-                left.add_conjuncts(alloc, all)?;
-                right.add_conjuncts(alloc, all)
-            }
-            _ => {
-                all.push(self.copy(alloc)?)?;
-                Ok(())
-            }
-        }
-    }
-
-    /// Whether it names columns of that table alone, whose own columns begin at `from`.
-    pub fn is_of_table(&self, from: u128, width: u32) -> bool
-        ensures { result ≡ is_of_table from width self.now }
-    {
-        match &self.node {
-            PredNode::True => true,
-            PredNode::Compare {
-                column,
-                op: _,
-                side,
-            } => is_within(from, width, *column) && side.is_of_table(from, width),
-            PredNode::IsNull(column) => is_within(from, width, *column),
-            PredNode::Not(inner) => inner.is_of_table(from, width),
-            PredNode::And(left, right) | PredNode::Or(left, right) => {
-                left.is_of_table(from, width) && right.is_of_table(from, width)
-            }
-        }
-    }
-
-    /// The set, and the columns of that table that the condition reads.
-    #[tactic(auto, using(crate::proofs::Columns::added_both))]
-    pub(crate) fn add_to(&self, columns: ColMask, from: u128, width: u32) -> ColMask
-        ensures { result ≡ add_columns columns from width (columns_of self.now) }
-    {
-        match &self.node {
-            PredNode::True => columns,
-            PredNode::Compare {
-                column,
-                op: _,
-                side,
-            } => side.add_to(add_all(columns, from, width, &[*column]), from, width),
-            PredNode::IsNull(column) => add_all(columns, from, width, &[*column]),
-            PredNode::Not(inner) => inner.add_to(columns, from, width),
-            PredNode::And(left, right) | PredNode::Or(left, right) => {
-                right.add_to(left.add_to(columns, from, width), from, width)
-            }
-        }
-    }
 }
 
-impl Side {
-    /// What it is in a row.
-    fn value(&self, row: &Row) -> Value
-        ensures { result ≡ side_of self.now row.now }
-    {
-        match self {
-            Side::Column(column) => column_value(row, *column),
-            Side::Literal(value) => *value,
-        }
-    }
-
-    /// The side by the column's own number in the table whose columns begin at `from`.
-    fn own(&self, from: u128) -> Side
-        ensures { result ≡ own_side from self.now }
-    {
-        match self {
-            Side::Column(column) => Side::Column(own_number(from, *column)),
-            Side::Literal(value) => Side::Literal(*value),
-        }
-    }
-
-    /// Whether it names no column but of that table.
-    fn is_of_table(&self, from: u128, width: u32) -> bool
-        ensures { result ≡ list_all (is_within_of from width) (side_columns self.now) }
-    {
-        match self {
-            Side::Column(column) => is_within(from, width, *column),
-            Side::Literal(_) => true,
-        }
-    }
-
-    /// The set, and its column where it is that table's.
-    fn add_to(&self, columns: ColMask, from: u128, width: u32) -> ColMask
-        ensures { result ≡ add_columns columns from width (side_columns self.now) }
-    {
-        match self {
-            Side::Column(column) => add_all(columns, from, width, &[*column]),
-            Side::Literal(_) => columns,
-        }
-    }
+/// A copy of a comparison. It stands by itself, so that copying a chain of conditions takes little room for
+/// each.
+#[inline(never)]
+fn copy_comparison(alloc: Global, column: u32, op: Cmp, side: &Operand) -> Result<Pred, AllocError>
+    ensures { IfOk result (λ p. p ≡ Compare column op (operand_side side.now)) }
+{
+    let side = side.copy(alloc)?;
+    Ok(Pred {
+        node: PredNode::Compare { column, op, side },
+    })
 }
 
 /// Whether a condition is true of a row. What is unknown because of a NULL is not true.
@@ -312,33 +294,86 @@ fn sense(pred: &Pred, row: &Row) -> Option<bool>
 {
     match &pred.node {
         PredNode::True => Some(true),
-        PredNode::Compare { column, op, side } => {
-            compare(*op, &column_value(row, *column), &side.value(row))
-        }
-        PredNode::IsNull(column) => Some(is_null(&column_value(row, *column))),
+        PredNode::Compare { column, op, side } => compare_cell(row, *column, *op, side),
+        PredNode::IsNull(column) => Some(is_null_at(row, *column)),
         PredNode::Not(inner) => opposite(sense(inner, row)),
         PredNode::And(left, right) => both(sense(left, row), sense(right, row)),
         PredNode::Or(left, right) => either(sense(left, row), sense(right, row)),
     }
 }
 
+/// A row's value in a column, where it has one.
+pub fn cell(row: &Row, column: u32) -> Option<&Value>
+    ensures value { IfSome result (λ value. value.now ≡ column_of row.now column) }
+    ensures none { IfNone result (column_of row.now column ≡ Null) }
+{
+    row.as_slice().get(column as usize)
+}
+
 /// A row's value in a column, NULL beyond its last.
 pub fn column_value(row: &Row, column: u32) -> Value
     ensures { result ≡ column_of row.now column }
 {
-    match row.as_slice().get(column as usize) {
-        Some(value) => *value,
+    match cell(row, column) {
+        Some(value) => value.copy(),
         None => Value::Null,
     }
 }
 
+/// Whether a row has NULL in a column, as it has beyond its last.
+fn is_null_at(row: &Row, column: u32) -> bool
+    ensures { result ≡ is_null_value (column_of row.now column) }
+{
+    match cell(row, column) {
+        Some(value) => is_null(value),
+        None => true,
+    }
+}
+
+/// What a comparison says of a row.
+#[inline(never)]
+fn compare_cell(row: &Row, column: u32, op: Cmp, side: &Operand) -> Option<bool>
+    ensures { result ≡ compared op (column_of row.now column) (side_of (operand_side side.now) row.now) }
+{
+    let left = cell(row, column)?;
+    match side {
+        Operand::Column(column) => compare(op, left, cell(row, *column)?),
+        Operand::Null => None,
+        Operand::Int(number) => compare_number(op, left, *number),
+        Operand::Text(text) => compare_text(op, left, text),
+    }
+}
+
 /// What a comparison says of two values: nothing where one of them is NULL.
-fn compare(op: Cmp, left: &Value, right: &Value) -> Option<bool>
+pub fn compare(op: Cmp, left: &Value, right: &Value) -> Option<bool>
     ensures { result ≡ compared op left.now right.now }
 {
-    match (left, right) {
-        (Value::Null, _) | (_, Value::Null) => None,
-        _ => Some(op.holds(left.cmp(right))),
+    match right {
+        Value::Null => None,
+        Value::Int(number) => compare_number(op, left, *number),
+        Value::Text(text) => compare_text(op, left, text),
+    }
+}
+
+/// What a comparison says of a value and a number.
+fn compare_number(op: Cmp, left: &Value, right: i64) -> Option<bool>
+    ensures { result ≡ compared op left.now (Int right) }
+{
+    match left {
+        Value::Null => None,
+        Value::Int(left) => Some(op.holds(left.cmp(&right))),
+        Value::Text(_) => Some(op.holds(Ordering::Greater)),
+    }
+}
+
+/// What a comparison says of a value and a text.
+fn compare_text(op: Cmp, left: &Value, right: &Text) -> Option<bool>
+    ensures { result ≡ compared op left.now (Value.Text right.now) }
+{
+    match left {
+        Value::Null => None,
+        Value::Int(_) => Some(op.holds(Ordering::Less)),
+        Value::Text(left) => Some(op.holds(left.as_bytes().cmp(right.as_bytes()))),
     }
 }
 

@@ -1,5 +1,5 @@
-use Rattle.hy_bound.proofs.Truths.{sense_alike, value_alike}
-use Rattle.hy_bound.proofs.Missed.{set_alike}
+use Rattle.hy_bound.specs.Truths.{sense_alike, value_alike}
+use Rattle.hy_bound.specs.Truths.{set_alike}
 use Rattle.hy_bound.proofs.laws.only_named_columns_matter.Goals as goal
 
 pub returns-clause-conditions : goal.returns-clause-conditions

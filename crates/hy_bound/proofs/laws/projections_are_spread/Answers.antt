@@ -1,4 +1,4 @@
-use Rattle.hy_bound.proofs.Masks.{spread_projected}
+use Rattle.hy_bound.specs.Masks.{spread_projected}
 use Rattle.hy_bound.proofs.laws.projections_are_spread.Goals as goal
 
 pub returns : goal.returns

@@ -1,7 +1,0 @@
-use Rattle.std.proofs.Common.{◌≡◌, drop}
-use Rattle.hy_bound.specs.Records.{add_columns, set_columns}
-use Rattle.hy_bound.proofs.restrictions.add_sets.Given as goal
-
--- the rest completes the set
-abbrev pub invariant-loop-set : goal.invariant-loop-set
-invariant-loop-set l = add_columns l.all 0 l.width (set_columns (drop l.set-index l.sets)) ≡ add_columns l.fn.columns 0 l.width (set_columns l.sets)

@@ -1,3 +1,2 @@
 pub mod Answers
-pub mod Kept
-pub mod Gathered
+pub mod Parts

@@ -1,1 +1,10 @@
-pub mod Split
+pub mod Columns
+pub mod Values
+pub mod More
+pub mod OwnColumns
+pub mod NamedColumns
+pub mod OwnParts
+pub mod Spreads
+pub mod Numbers
+pub mod Cells
+pub mod Results

@@ -1,3 +1,11 @@
 pub mod Plans
 pub mod Logs
 pub mod Rows
+pub mod Restrictions
+pub mod Reads
+pub mod Restricted
+pub mod Kept
+pub mod Split
+pub mod OfOneTable
+pub mod Numbers
+pub mod Cells

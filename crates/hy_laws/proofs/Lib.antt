@@ -1,0 +1,13 @@
+pub mod Missed
+pub mod Lookups
+pub mod Products
+pub mod Query
+pub mod Selected
+pub mod Joined
+pub mod Single
+pub mod Unseen
+pub mod Again
+pub mod Bags
+pub mod BagReads
+pub mod BagMeanings
+pub mod Gathered

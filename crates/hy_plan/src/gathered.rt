@@ -1,0 +1,116 @@
+//! Rows gathered of a table, kept by column.
+
+ghost use Rattle.std.specs.Prelude.{◌≡◌, ◌<◌, ◌++◌, [], ◌∷◌, IfOk, OnOk, OnErr, length, slice_index_or};
+ghost use Rattle.hy_bound.specs.Predicate.{column_of};
+ghost use Rattle.hy_bound.specs.Projection.{spread};
+ghost use Rattle.hy_plan.specs.Cells.{ReachTo, with_cells, firsts};
+
+use crate::column::Column;
+use hy_value::{ColMask, Row, Value};
+use std::alloc::{AllocError, Global};
+use std::marker::Model;
+
+/// Rows of so many values each, kept by column. Contracts see them as the list of the rows.
+#[derive(Drop)]
+pub struct Gathered {
+    len: usize,
+    columns: Vec<Column>,
+}
+
+impl Model for Gathered {
+    ghost use Rattle.std.specs.Prelude.{length};
+    ghost use Rattle.hy_plan.specs.Cells.{GatheredRows, gathered_code, rows_of, ReachTo};
+
+    ghost Value = { GatheredRows };
+
+    ghost coded = { gathered_code };
+
+    ghost view = { λ a. record { width = length a.columns.items; rows = rows_of a.len a.columns.items } };
+
+    ghost invariant = { λ a. ReachTo a.len a.columns.items };
+}
+
+impl Gathered {
+    /// No rows, of so many values each.
+    pub fn new(alloc: Global, width: usize) -> Result<Gathered, AllocError>
+        ensures { IfOk result (λ gathered. gathered ≡ record { width = width; rows = [] }) }
+    {
+        let mut columns = Vec::new(alloc);
+        for _column in 0..width {
+            columns.push(Column::new(alloc))?;
+        }
+        Ok(Gathered { len: 0, columns })
+    }
+
+    /// How many rows there are.
+    pub fn len(&self) -> usize
+        ensures { result ≡ length self.now.rows }
+    {
+        self.len
+    }
+
+    /// How many values each row has.
+    pub fn width(&self) -> usize
+        ensures { result ≡ self.now.width }
+    {
+        self.columns.len()
+    }
+
+    /// Adds a row. Without memory nothing changes.
+    pub fn push(&mut self, row: &[Value]) -> Result<(), AllocError>
+        requires { length row.now ≡ self.old.width }
+        ensures ok { OnOk result (self.new ≡ record { width = self.old.width; rows = self.old.rows ++ row.now ∷ [] }) }
+        ensures err { OnErr result (self.new ≡ self.old) }
+    {
+        let len = self.len.checked_add(1).ok_or(AllocError)?;
+        put_row(&mut self.columns, self.len, row)?;
+        self.len = len;
+        Ok(())
+    }
+
+    /// A copy of a row's value in a column.
+    pub fn value(&self, index: usize, column: usize) -> Value
+        requires index { index < length self.now.rows }
+        requires column { column < self.now.width }
+        ensures { result ≡ column_of (slice_index_or self.now.rows index []) column }
+    {
+        self.columns[column].value(index)
+    }
+
+    /// Puts a row behind other values, as a row of so many columns: those of a set have its values in their
+    /// order, the others are NULL.
+    pub fn push_spread(
+        &self,
+        index: usize,
+        columns: ColMask,
+        width: u32,
+        joined: &mut Row,
+    ) -> Result<(), AllocError>
+        requires { index < length self.now.rows }
+        ensures { OnOk result (joined.new ≡ joined.old ++ spread columns width (slice_index_or self.now.rows index [])) }
+    {
+        let mut used = 0;
+        for column in 0..width {
+            if used < self.columns.len() && columns.has(column) {
+                joined.push(self.columns[used].value(index))?;
+                used += 1;
+            } else {
+                joined.push(Value::Null)?;
+            }
+        }
+        Ok(())
+    }
+}
+
+/// Puts a row's values behind the first ones of each column. Without memory only these stay for certain.
+fn put_row(columns: &mut Vec<Column>, len: usize, row: &[Value]) -> Result<(), AllocError>
+    requires width { length row.now ≡ length columns.old.items }
+    requires reach { ReachTo len columns.old.items }
+    ensures ok { OnOk result (columns.new.items ≡ with_cells len row.now columns.old.items) }
+    ensures err { OnErr result (firsts len columns.new.items ≡ firsts len columns.old.items) }
+{
+    for (index, value) in row.iter().enumerate() {
+        columns[index].put(len, value)?;
+    }
+    Ok(())
+}

@@ -3,9 +3,8 @@
 //! place.
 #![tactic(auto)]
 
-use hy_seq::Seq;
 use hy_token::Span;
-use hy_value::{Cmp, Kind};
+use hy_value::{Cmp, Kind, Seq};
 
 /// A column, `column` or `table.column`.
 #[derive(Clone, Copy)]

@@ -3,3 +3,11 @@ pub mod Firsts
 pub mod Fitting
 pub mod Visible
 pub mod Numbers
+pub mod Causes
+pub mod Numbered
+pub mod Reach
+pub mod Named
+pub mod Selects
+pub mod Writes
+pub mod Fit
+pub mod Meanings

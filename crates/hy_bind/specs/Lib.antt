@@ -4,3 +4,5 @@ pub mod Scope
 pub mod Conditions
 pub mod Expressions
 pub mod Statements
+pub mod Shapes
+pub mod Meaning

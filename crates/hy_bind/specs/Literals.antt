@@ -1,6 +1,7 @@
 -- What the words of a script say. A script is its bytes.
-use Rattle.std.specs.Prelude.{ℕ, suc, zero, ◌+◌, ◌-◌, ◌*◌, ℤ, pos, negsuc, Bool, is_some, is_none, List, [], ◌∷◌, Option, Some, None, length, nat_le, nat_lt, ◌==◌, take, drop, slice_range, if◌then◌else◌}
+use Rattle.std.specs.Prelude.{ℕ, suc, zero, ◌+◌, ◌-◌, ◌*◌, ℤ, pos, negsuc, Bool, is_some, is_none, List, [], ◌∷◌, Option, Some, None, length, nat_le, nat_lt, ◌==◌, drop, slice_range, if◌then◌else◌}
 use Rattle.hy_token.specs.declared.Span.{Span}
+use Rattle.hy_value.specs.TextBytes.{text_of}
 use Rattle.hy_value.specs.declared.Kind.{Kind}
 use Rattle.hy_value.specs.declared.Kind.TheVariants as kinds
 use Rattle.hy_value.specs.declared.Value.{Value}
@@ -75,4 +76,4 @@ integer_value (Some n) = values.Int n
 abbrev pub literal_value : List ℕ → Literal → Value
 literal_value script (Null span) = values.Null
 literal_value script (Integer minus digits) = integer_value (integer_of (is_some minus) (number_of (text_in script digits)))
-literal_value script (Text span) = values.Text (take 255 (unquoted (text_in script span)))
+literal_value script (Text span) = values.Text (text_of (unquoted (text_in script span)))

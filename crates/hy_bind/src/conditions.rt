@@ -11,6 +11,7 @@ use crate::refusals::{BindFault, agree, fault_if, first_of};
 use crate::scope::{Scope, column, column_fault, column_kind, operand_fault, operand_kind, side};
 use hy_ast::{ColumnRef, Condition, Operand};
 use hy_bound::Pred;
+use hy_value::Cmp;
 use std::alloc::{AllocError, Global};
 
 /// Why WHERE is refused.
@@ -75,10 +76,7 @@ fn condition_predicate(
             op,
             right,
             ..
-        } => {
-            let left = column(scope, left)?;
-            Ok(Pred::compare(left, *op, side(alloc, scope, right)?))
-        }
+        } => comparison(alloc, scope, left, *op, right),
         Condition::IsNull {
             column,
             negated,
@@ -97,6 +95,22 @@ fn condition_predicate(
         }
         Condition::Nested(condition) => condition_predicate(alloc, scope, condition),
     }
+}
+
+/// A comparison as a predicate. It stands by itself, so that a chain of conditions takes little room for
+/// each.
+#[inline(never)]
+fn comparison(
+    alloc: Global,
+    scope: &Scope,
+    left: &ColumnRef,
+    op: Cmp,
+    right: &Operand,
+) -> Result<Pred, AllocError>
+    ensures { IfOk result (λ p. p ≡ Compare (column_of (scope_of scope.now) left.now) op (operand_side (scope_of scope.now) right.now)) }
+{
+    let left = column(scope, left)?;
+    Pred::compare(alloc, left, op, side(alloc, scope, right)?)
 }
 
 /// IS NULL, or IS NOT NULL.

@@ -76,7 +76,9 @@ pub fn expression(alloc: Global, scope: &Scope, tree: &Expression) -> Result<Set
     }
 }
 
-/// A column or a literal as an expression.
+/// A column or a literal as an expression. It stands by itself, so that a chain of operators takes little
+/// room for each.
+#[inline(never)]
 fn operand_expression(
     alloc: Global,
     scope: &Scope,
@@ -86,7 +88,7 @@ fn operand_expression(
 {
     match operand {
         Operand::Column(reference) => Ok(SetExpr::column(column(scope, reference)?)),
-        Operand::Literal(literal) => Ok(SetExpr::literal(value(alloc, scope.script, literal)?)),
+        Operand::Literal(literal) => SetExpr::literal(alloc, value(alloc, scope.script, literal)?),
     }
 }
 

@@ -8,7 +8,7 @@ use crate::refusals::{BindFault, agree, fault_if, first_of};
 use crate::scope::{Scope, column, column_fault, column_kind};
 use hy_ast::Join;
 use hy_bound::{On, Ons};
-use hy_seq::Seq;
+use hy_value::Seq;
 use std::alloc::{AllocError, Global};
 
 /// The first so many tables.

@@ -9,6 +9,7 @@ ghost use Rattle.hy_bind.specs.Statements.{NamesTables, bind_fault, bound_of, fa
 mod conditions;
 mod expressions;
 mod joins;
+mod laws;
 mod listed;
 mod literals;
 mod queries;
@@ -20,7 +21,8 @@ mod tables;
 use hy_ast::Ast;
 use hy_bound::Bound;
 use hy_schema::Catalog;
-pub use literals::text_in;
+pub use laws::{bound_statements_fit, names_mean_one_column};
+pub use literals::{text, text_in};
 pub use refusals::{BindError, BindFault};
 use std::alloc::{AllocError, Global};
 pub use tables::repeats;

@@ -10,7 +10,7 @@ use crate::refusals::{BindFault, fault_if, first_of};
 use crate::scope::{Scope, column, column_fault, column_kind, width};
 use hy_ast::{ColumnRef, Listed, Total};
 use hy_bound::{Aggregate, Items, Numbers};
-use hy_seq::Seq;
+use hy_value::Seq;
 use std::alloc::{AllocError, Global};
 
 /// Why what is listed is refused.

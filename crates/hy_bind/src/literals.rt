@@ -1,6 +1,7 @@
 //! What the words of a script say.
 
 ghost use Rattle.std.specs.Prelude.{◌≡◌, ◌<◌, ◌≤◌, ◌∷◌, [], is_some, length, drop, IfOk, IfSome, IfNone};
+ghost use Rattle.hy_value.specs.TextBytes.{text_of};
 ghost use Rattle.hy_bind.specs.Literals.{text_in, number_of, in_reach, integer_of, unquoted, unquoted_rest, literal_kind, literal_fault, literal_value, integer_value};
 
 use crate::refusals::{BindFault, fault_if};
@@ -131,6 +132,16 @@ fn integer_value(integer: Option<i64>) -> Value
     }
 }
 
+/// The text that bytes are; for bytes that are none, the empty text.
+pub fn text(alloc: Global, bytes: &[u8]) -> Text
+    ensures { result ≡ text_of bytes.now }
+{
+    match Text::from_bytes(alloc, bytes) {
+        Ok(text) => text,
+        Err(_) => Text::empty(alloc),
+    }
+}
+
 /// The value of a literal; of one that is refused, any.
 pub fn value(alloc: Global, script: &[u8], literal: &Literal) -> Result<Value, AllocError>
     ensures { IfOk result (λ value. value ≡ literal_value script.now literal.now) }
@@ -143,7 +154,7 @@ pub fn value(alloc: Global, script: &[u8], literal: &Literal) -> Result<Value, A
         }
         Literal::Text(span) => {
             let bytes = unquote(alloc, text_in(script, *span))?;
-            Ok(Value::Text(Text::front(bytes.as_slice())))
+            Ok(Value::Text(text(alloc, bytes.as_slice())))
         }
     }
 }

@@ -15,8 +15,8 @@ use crate::statements::table;
 use crate::tables::{joined_tables, repeats};
 use hy_ast::{ColumnRef, Condition, Query, Total};
 use hy_bound::{Bound, Items};
-use hy_seq::Seq;
 use hy_token::Span;
+use hy_value::Seq;
 use std::alloc::{AllocError, Global};
 
 /// How many tables FROM may have.

@@ -16,9 +16,8 @@ use crate::tables::repeats;
 use hy_ast::{Assignment, Condition, Literal};
 use hy_bound::{Assign, Sets};
 use hy_schema::Column;
-use hy_seq::Seq;
 use hy_token::Span;
-use hy_value::{Kind, Row};
+use hy_value::{Kind, Row, Seq};
 use std::alloc::{AllocError, Global};
 
 /// The number of a statement's one table.

@@ -10,8 +10,8 @@ use crate::conditions::MOST_LEVELS;
 use crate::cursor::{Halt, begins, expect, name, next_place};
 use crate::operands::operand;
 use hy_ast::{Assignment, Expression, Operator};
-use hy_seq::Seq;
 use hy_token::{Sign, Span, Token};
+use hy_value::Seq;
 use std::alloc::{AllocError, Global};
 
 /// `+` or `-`.

@@ -7,8 +7,8 @@ ghost use Rattle.hy_parse.specs.Reading.{Read, Gives, items_at};
 
 use crate::Piece;
 use crate::cursor::{Halt, next_place};
-use hy_seq::Seq;
 use hy_token::{Sign, Token};
+use hy_value::Seq;
 use std::alloc::Global;
 
 /// What may stand in a list.

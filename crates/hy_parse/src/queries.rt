@@ -10,8 +10,8 @@ use crate::cursor::{Halt, begins, expect, name, next_place};
 use crate::lists::items;
 use crate::operands::column;
 use hy_ast::{ColumnRef, Join, Listed, Query, Total};
-use hy_seq::Seq;
 use hy_token::{Keyword, Sign, Span, Token};
+use hy_value::Seq;
 use std::alloc::Global;
 
 const COUNT: Token = Token::Reserved(Keyword::Count);

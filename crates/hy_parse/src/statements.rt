@@ -11,9 +11,8 @@ use crate::expressions::assignments;
 use crate::lists::{Item, items};
 use crate::queries::{from_table, query};
 use hy_ast::{Ast, ColumnDef, Turn};
-use hy_seq::Seq;
 use hy_token::{Keyword, Sign, Token};
-use hy_value::Kind;
+use hy_value::{Kind, Seq};
 use std::alloc::Global;
 
 const CREATE: Token = Token::Reserved(Keyword::Create);

@@ -5,8 +5,7 @@ ghost use Rattle.std.specs.Prelude.{◌≡◌, ◌<◌, ◌≤◌, List, [], ◌
 ghost use Rattle.std.specs.Option.{option_copied};
 ghost use Rattle.hy_schema.specs.Names.{number_of, table_number, table_at, refusal_of};
 
-use hy_seq::Seq;
-use hy_value::{Kind, Text};
+use hy_value::{Kind, Seq, Text};
 use indexmap::{IndexMap, IndexSet};
 use std::alloc::{AllocError, AllocFailed, Global};
 use std::marker::Model;
@@ -62,7 +61,7 @@ impl Names {
 }
 
 /// A column of a table.
-#[derive(Clone, Copy)]
+#[derive(Drop)]
 pub struct Column {
     /// Its name.
     pub name: Text,

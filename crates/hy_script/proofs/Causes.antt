@@ -1,10 +1,9 @@
 -- The order of causes.
-use Rattle.std.proofs.Common.{◌≡◌, Bool, true, false, nat_le, cond, Option, None, Some, refl}
+use Rattle.std.proofs.Common.{◌≡◌, Bool, true, false, Some, refl}
 use Rattle.hy_bind.specs.declared.refusals.BindFault.{BindFault}
 use Rattle.hy_bind.specs.declared.refusals.BindFault.TheVariants as fault
-use Rattle.hy_script.specs.declared.codes.Code.{Code}
 use Rattle.hy_script.specs.declared.codes.Code.TheVariants.{KeyTwice, Limit}
-use Rattle.hy_script.specs.Codes.{rank, first_of, code_if, code_of}
+use Rattle.hy_script.specs.Codes.{first_of, code_if, code_of}
 
 -- a key that comes twice is the last cause
 pub key_last : (f : BindFault) (full twice : Bool) → first_of (Some (code_of f)) (first_of (code_if full Limit) (code_if twice KeyTwice)) ≡ first_of (Some (code_of f)) (code_if full Limit)
@@ -16,14 +15,3 @@ key_last _ true true = refl
 key_last _ true false = refl
 key_last _ false true = refl
 key_last _ false false = refl
-
-never : (b : Bool) (x y : Code) → cond b (Some x) (Some y) ≡ None → ⊥
-never true x y h = absurd cc
-never false x y h = absurd cc
-
--- where nothing is refused no key comes twice
-pub free_key : (full : Option Code) (twice : Bool) → first_of full (code_if twice KeyTwice) ≡ None → twice ≡ false
-free_key None true h = absurd cc
-free_key None false h = refl
-free_key (Some code) true h = absurd (never (nat_le (rank code) 17) code KeyTwice h)
-free_key (Some code) false h = refl

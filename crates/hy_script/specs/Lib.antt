@@ -1,7 +1,7 @@
-pub mod Values
 pub mod Codes
 pub mod Stocks
 pub mod Later
 pub mod Refusals
 pub mod Growing
 pub mod Reading
+pub mod Sentences

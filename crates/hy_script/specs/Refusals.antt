@@ -1,6 +1,7 @@
 -- Why a statement is refused, where all its tokens fit: the first of its causes in their order.
-use Rattle.std.specs.Prelude.{ℕ, ◌*◌, Bool, true, false, not, ◌&&◌, ◌||◌, is_some, nat_le, nat_lt, List, [], ◌∷◌, Option, Some, None, length, map, take, count_by, slice_index_or, if◌then◌else◌}
+use Rattle.std.specs.Prelude.{ℕ, ◌*◌, Bool, true, false, not, ◌&&◌, ◌||◌, is_some, nat_le, nat_lt, List, [], ◌∷◌, Option, Some, None, length, map, count_by, slice_index_or, if◌then◌else◌}
 use Rattle.std.specs.Option.{option_map}
+use Rattle.hy_value.specs.TextBytes.{text_of}
 use Rattle.hy_schema.specs.Names.{number_of, table_number}
 use Rattle.hy_ast.specs.declared.ColumnDef.{ColumnDef}
 use Rattle.hy_ast.specs.declared.Turn.{Turn}
@@ -27,9 +28,9 @@ use Rattle.hy_script.specs.Stocks.{no_rows, has_key}
 abbrev pub bind_code : List ℕ → SoFar → Statement → Option Code
 bind_code script sofar statement = option_map code_of (bind_fault script sofar.catalog statement)
 
--- a name as a text; a name has at most 32 bytes
+-- a name as a text; a name is a word, and so a text
 abbrev pub name_in : List ℕ → Span → List ℕ
-name_in script span = take 255 (text_in script span)
+name_in script span = text_of (text_in script span)
 
 -- CREATE TABLE: no table has the name, no two columns have one, and there is one key at most; it is one of at
 -- most 16 tables, with at most 32 columns

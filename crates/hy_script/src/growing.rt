@@ -1,6 +1,6 @@
 //! What is read of a script, statement by statement.
 
-ghost use Rattle.std.specs.Prelude.{◌≡◌, ◌*◌, [], ◌∷◌, ◌++◌, None, Some, unwrap_or, nat_le, length, IfOk, OnOk, slice_set, slice_index_or, false, map, nat_lt, count_by};
+ghost use Rattle.std.specs.Prelude.{◌≡◌, ◌*◌, [], ◌∷◌, ◌++◌, None, Some, is_some, unwrap_or, nat_le, length, IfOk, OnOk, slice_set, slice_index_or, false, map, nat_lt, count_by};
 ghost use Rattle.std.specs.Option.{option_copied};
 ghost use Rattle.hy_ast.specs.Trees.{statement_of, Insert};
 ghost use Rattle.hy_bind.specs.Statements.{NamesTables, bound_of};
@@ -9,19 +9,18 @@ ghost use Rattle.hy_schema.specs.Names.{table_number, refusal_of};
 ghost use Rattle.hy_bind.specs.Literals.{text_in as text_of};
 ghost use Rattle.hy_script.specs.Codes.{first_of as first_of_two};
 ghost use Rattle.hy_script.specs.Stocks.{no_rows, with_row, has_key as key_there};
-ghost use Rattle.hy_script.specs.Refusals.{stock_of, stock_at, is_unknown as is_unknown_in, any_unknown as any_unknown_in, is_key, create_code, first_row_code, session_code, statement_code, schedule_code, begin_code_at, statement_code_at, writes as writes_of, groups as groups_of};
+ghost use Rattle.hy_script.specs.Refusals.{name_in, stock_of, stock_at, is_unknown as is_unknown_in, any_unknown as any_unknown_in, is_key, create_code, first_row_code, session_code, statement_code, schedule_code, begin_code_at, statement_code_at, writes as writes_of, groups as groups_of};
 ghost use Rattle.hy_script.specs.Growing.{nothing, table_of as table_def, column_of as column_def, key_from, with_table, with_first_row, with_session, begun, and_bound, closed, with_schedule, item_of as item_at, all_sessions, script_of, with_statement, Takes};
 
 use crate::codes::{Code, code_if, first_of};
 use crate::stocks::Stock;
 use crate::{NamedTxns, Options, Script};
 use hy_ast::{Ast, ColumnDef, Literal, Query, Turn};
-use hy_bind::{BindError, bind, repeats, text_in};
+use hy_bind::{BindError, bind, repeats, text, text_in};
 use hy_bound::{Bound, Item, Rows, Schedule, Statements, Txn, Txns};
 use hy_schema::{Catalog, Column, Columns, Names, TableDef};
-use hy_seq::Seq;
 use hy_token::Span;
-use hy_value::{Row, Text};
+use hy_value::{Row, Seq};
 use std::alloc::{AllocError, Global};
 use std::mem;
 
@@ -147,17 +146,17 @@ impl SoFar {
     ) -> Result<Option<Code>, AllocError>
         ensures { IfOk result (λ code. Takes code (session_code script.now self.old name) self.new (with_session script.now self.old name)) }
     {
-        let text = text_in(script, name);
-        let twice = self.names.find(text).is_some();
+        let written = text_in(script, name);
+        let twice = self.names.find(written).is_some();
         let code = first_of(
             code_if(twice, Code::Twice),
             code_if(self.names.len() >= 64, Code::Limit),
         );
         if code.is_none() {
             self.end_session()?;
-            self.names.add(alloc, text)?;
+            self.names.add(alloc, written)?;
             self.place = Place::Between(NamedTxns {
-                name: Text::front(text),
+                name: text(alloc, written),
                 txns: Seq::new(alloc),
             });
         }
@@ -213,6 +212,14 @@ impl SoFar {
         }
     }
 
+    /// Whether a table has this name.
+    fn has_table(&self, alloc: Global, script: &[u8], table: Span) -> bool
+        ensures { result ≡ is_some (table_number self.now.catalog (name_in script.now table)) }
+    {
+        let name = text(alloc, text_in(script, table));
+        self.catalog.find(name.as_bytes()).is_some()
+    }
+
     /// Why a table is not added.
     fn create_code(
         &self,
@@ -224,16 +231,11 @@ impl SoFar {
         ensures { IfOk result (λ code. code ≡ create_code script.now self.now table columns.now) }
     {
         let names = names_of(alloc, columns)?;
-        let there = self
-            .catalog
-            .find(Text::front(text_in(script, table)).as_bytes());
+        let there = self.has_table(alloc, script, table);
         let twice = repeats(alloc, script, names.as_slice())?;
         let many = self.catalog.len() >= 16 || columns.len() > 32;
         Ok(first_of(
-            code_if(
-                there.is_some() || twice || has_two_keys(columns),
-                Code::Twice,
-            ),
+            code_if(there || twice || has_two_keys(columns), Code::Twice),
             code_if(many, Code::Limit),
         ))
     }
@@ -311,7 +313,6 @@ impl SoFar {
 
     /// Adds a first row to the table of this number. Where there is none nothing changes.
     fn add_row(&mut self, alloc: Global, number: usize, row: Row) -> Result<(), AllocError>
-        requires { key_there (slice_index_or self.old.stocks number (no_rows None)) row ≡ false }
         ensures { OnOk result (self.new ≡ record self.old { stocks = slice_set self.old.stocks number (with_row (slice_index_or self.old.stocks number (no_rows None)) row) }) }
     {
         if number >= self.stocks.len() {
@@ -324,7 +325,7 @@ impl SoFar {
     }
 
     /// A first row.
-    #[tactic(auto, using(crate::proofs::Causes::key_last, crate::proofs::Causes::free_key))]
+    #[tactic(auto, using(crate::proofs::Causes::key_last))]
     pub fn first_row(
         &mut self,
         alloc: Global,
@@ -429,11 +430,11 @@ fn names_of(alloc: Global, columns: &[ColumnDef]) -> Result<Vec<Span>, AllocErro
 }
 
 /// A column of a new table.
-fn column_of(script: &[u8], column: &ColumnDef) -> Column
+fn column_of(alloc: Global, script: &[u8], column: &ColumnDef) -> Column
     ensures { result ≡ column_def script.now column.now }
 {
     Column {
-        name: Text::front(text_in(script, column.name)),
+        name: text(alloc, text_in(script, column.name)),
         kind: column.kind,
     }
 }
@@ -444,7 +445,7 @@ fn columns_of(alloc: Global, script: &[u8], columns: &[ColumnDef]) -> Result<Col
 {
     let mut all = Seq::new(alloc);
     for column in columns {
-        all.push(column_of(script, column))?;
+        all.push(column_of(alloc, script, column))?;
     }
     Ok(all)
 }
@@ -481,7 +482,7 @@ fn table_of(
     ensures { IfOk result (λ def. def ≡ table_def script.now table columns.now) }
 {
     Ok(TableDef {
-        name: Text::front(text_in(script, table)),
+        name: text(alloc, text_in(script, table)),
         columns: columns_of(alloc, script, columns)?,
         key: key_of(columns)?,
     })

@@ -9,18 +9,23 @@ ghost use Rattle.hy_script.specs.Reading.{Reads, Answers, Says, error_of as erro
 
 use hy_bound::{Rows, Schedule, Txns};
 use hy_schema::Catalog;
-use hy_seq::Seq;
-use hy_value::Text;
+use hy_value::{Seq, Text};
 use std::alloc::{AllocError, Global};
 
 mod codes;
+mod fitting;
 mod growing;
 mod later;
+mod laws;
 mod reading;
 mod stocks;
 
 pub use codes::Code;
+pub use fitting::what_is_read_fits;
 use growing::SoFar;
+pub use laws::{
+    accepted_scripts_are_sentences, reading_comes_to_an_answer, sentences_are_accepted,
+};
 use reading::{Halt, Step, line_of};
 
 /// Which statements a script may have.

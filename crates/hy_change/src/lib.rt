@@ -1,8 +1,7 @@
 //! What a transaction changed, position by position.
 #![tactic(auto)]
 
-use hy_seq::Seq;
-use hy_value::Row;
+use hy_value::{Row, Seq};
 
 /// The change of a transaction at a position of a table: the row before it and the row after it, each
 /// there or absent.

@@ -1,17 +1,20 @@
 //! What a run of the engine comes to, and the text that prints it.
 #![tactic(auto)]
 
-ghost use Rattle.std.specs.Prelude.{◌≡◌, [], ◌∷◌, ◌++◌, OnOk, slice_index_or};
+ghost use Rattle.std.specs.Prelude.{◌≡◌, [], ◌∷◌, ◌++◌, OnOk, OnErr, slice_index_or};
 ghost use Rattle.std.specs.List.{flat_map};
 ghost use Rattle.std.specs.Option.{option_copied};
 ghost use Rattle.std.specs.Fmt.{decimal, signed_decimal};
+ghost use Rattle.hy_value.specs.Print.{BeginsWith};
 ghost use Rattle.hy_render.specs.Report.{line, word, table_name, label_name, place_name, row_line, group_line, reply_text, ending_text, wrote_line, placed_line, placed_lines, start_line, txn_text, row_or_none, versions, change_line, entry_line, order_lines, table_line, table_lines, text};
+
+mod laws;
 
 use hy_bound::{Grouped, Replies, Reply, Rows};
 use hy_change::{Change, Changes};
-use hy_seq::Seq;
 use hy_stamp::Label;
-use hy_value::{Row, Text, print, print_row};
+use hy_value::{Row, Seq, Text, print, print_row};
+pub use laws::text_tells_the_outcome;
 use std::alloc::AllocError;
 
 /// Names, in file order.
@@ -122,9 +125,23 @@ pub struct Outcome {
 }
 
 /// Appends what `run` prints of an outcome: each transaction, the commit order, the final tables.
-/// Without memory some of it may be there.
+/// Without memory the buffer is as it was.
 pub fn render(names: &Names, outcome: &Outcome, out: &mut Vec<u8>) -> Result<(), AllocError>
-    ensures { OnOk result (out.new.items ≡ out.old.items ++ text names.now outcome.now) }
+    ensures ok { OnOk result (out.new.items ≡ out.old.items ++ text names.now outcome.now) }
+    ensures err { OnErr result (out.new.items ≡ out.old.items) }
+{
+    let before = out.len();
+    let done = print_outcome(names, outcome, out);
+    if done.is_err() {
+        out.truncate(before);
+    }
+    done
+}
+
+/// Appends the text of an outcome. Without memory some of it may be there, as in all functions below.
+fn print_outcome(names: &Names, outcome: &Outcome, out: &mut Vec<u8>) -> Result<(), AllocError>
+    ensures ok { OnOk result (out.new.items ≡ out.old.items ++ text names.now outcome.now) }
+    ensures begun { BeginsWith out.old.items out.new.items }
 {
     print_txns(names, outcome.txns.as_slice(), out)?;
     print_count(b"order ", outcome.order.len(), out)?;
@@ -135,14 +152,16 @@ pub fn render(names: &Names, outcome: &Outcome, out: &mut Vec<u8>) -> Result<(),
 
 /// Appends bytes.
 fn put(bytes: &[u8], out: &mut Vec<u8>) -> Result<(), AllocError>
-    ensures { OnOk result (out.new.items ≡ out.old.items ++ bytes.now) }
+    ensures ok { OnOk result (out.new.items ≡ out.old.items ++ bytes.now) }
+    ensures begun { BeginsWith out.old.items out.new.items }
 {
     out.extend_from_slice(bytes)
 }
 
 /// Appends a number in decimal.
 fn print_number(number: u64, out: &mut Vec<u8>) -> Result<(), AllocError>
-    ensures { OnOk result (out.new.items ≡ out.old.items ++ decimal number) }
+    ensures ok { OnOk result (out.new.items ≡ out.old.items ++ decimal number) }
+    ensures begun { BeginsWith out.old.items out.new.items }
 {
     let digits = number.to_string(*out.allocator())?;
     put(digits.as_bytes(), out)
@@ -150,7 +169,8 @@ fn print_number(number: u64, out: &mut Vec<u8>) -> Result<(), AllocError>
 
 /// Appends a whole line.
 fn print_line(bytes: &[u8], out: &mut Vec<u8>) -> Result<(), AllocError>
-    ensures { OnOk result (out.new.items ≡ out.old.items ++ line bytes.now) }
+    ensures ok { OnOk result (out.new.items ≡ out.old.items ++ line bytes.now) }
+    ensures begun { BeginsWith out.old.items out.new.items }
 {
     put(bytes, out)?;
     end_line(out)
@@ -158,7 +178,8 @@ fn print_line(bytes: &[u8], out: &mut Vec<u8>) -> Result<(), AllocError>
 
 /// Appends the end of a line.
 fn end_line(out: &mut Vec<u8>) -> Result<(), AllocError>
-    ensures { OnOk result (out.new.items ≡ out.old.items ++ 10 ∷ []) }
+    ensures ok { OnOk result (out.new.items ≡ out.old.items ++ 10 ∷ []) }
+    ensures begun { BeginsWith out.old.items out.new.items }
 {
     out.push(b'\n')?;
     Ok(())
@@ -166,19 +187,29 @@ fn end_line(out: &mut Vec<u8>) -> Result<(), AllocError>
 
 /// Appends a space.
 fn end_word(out: &mut Vec<u8>) -> Result<(), AllocError>
-    ensures { OnOk result (out.new.items ≡ out.old.items ++ 32 ∷ []) }
+    ensures ok { OnOk result (out.new.items ≡ out.old.items ++ 32 ∷ []) }
+    ensures begun { BeginsWith out.old.items out.new.items }
 {
     out.push(b' ')?;
     Ok(())
 }
 
+/// Appends a number and the end of its line.
+fn end_with_number(number: u64, out: &mut Vec<u8>) -> Result<(), AllocError>
+    ensures ok { OnOk result (out.new.items ≡ out.old.items ++ line (decimal number)) }
+    ensures begun { BeginsWith out.old.items out.new.items }
+{
+    print_number(number, out)?;
+    end_line(out)
+}
+
 /// Appends a line of some words and a number of things.
 fn print_count(words: &[u8], count: usize, out: &mut Vec<u8>) -> Result<(), AllocError>
-    ensures { OnOk result (out.new.items ≡ out.old.items ++ line (words.now ++ decimal count)) }
+    ensures ok { OnOk result (out.new.items ≡ out.old.items ++ line (words.now ++ decimal count)) }
+    ensures begun { BeginsWith out.old.items out.new.items }
 {
     put(words, out)?;
-    print_number(count as u64, out)?;
-    end_line(out)
+    end_with_number(count as u64, out)
 }
 
 /// The name of this number, or no bytes where there is none.
@@ -193,23 +224,26 @@ fn name_of(names: &Texts, number: usize) -> &[u8]
 
 /// Appends a table's name.
 fn print_table(names: &Names, table: u32, out: &mut Vec<u8>) -> Result<(), AllocError>
-    ensures { OnOk result (out.new.items ≡ out.old.items ++ table_name names.now table) }
+    ensures ok { OnOk result (out.new.items ≡ out.old.items ++ table_name names.now table) }
+    ensures begun { BeginsWith out.old.items out.new.items }
 {
     put(name_of(&names.tables, table as usize), out)
 }
 
 /// Appends the name of a transaction.
 fn print_label(names: &Names, label: Label, out: &mut Vec<u8>) -> Result<(), AllocError>
-    ensures { OnOk result (out.new.items ≡ out.old.items ++ label_name names.now label) }
+    ensures ok { OnOk result (out.new.items ≡ out.old.items ++ label_name names.now label) }
+    ensures begun { BeginsWith out.old.items out.new.items }
 {
     put(name_of(&names.sessions, label.session as usize), out)?;
-    out.push(b'.')?;
+    put(b".", out)?;
     print_number(u64::from(label.txn), out)
 }
 
 /// Appends a table's name and a position.
 fn print_place(names: &Names, table: u32, pos: u32, out: &mut Vec<u8>) -> Result<(), AllocError>
-    ensures { OnOk result (out.new.items ≡ out.old.items ++ place_name names.now table pos) }
+    ensures ok { OnOk result (out.new.items ≡ out.old.items ++ place_name names.now table pos) }
+    ensures begun { BeginsWith out.old.items out.new.items }
 {
     print_table(names, table, out)?;
     end_word(out)?;
@@ -218,7 +252,8 @@ fn print_place(names: &Names, table: u32, pos: u32, out: &mut Vec<u8>) -> Result
 
 /// Appends the line of a row.
 fn print_row_line(row: &Row, out: &mut Vec<u8>) -> Result<(), AllocError>
-    ensures { OnOk result (out.new.items ≡ out.old.items ++ row_line row.now) }
+    ensures ok { OnOk result (out.new.items ≡ out.old.items ++ row_line row.now) }
+    ensures begun { BeginsWith out.old.items out.new.items }
 {
     put(b"row ", out)?;
     print_row(row, out)?;
@@ -226,8 +261,10 @@ fn print_row_line(row: &Row, out: &mut Vec<u8>) -> Result<(), AllocError>
 }
 
 /// Appends a line for each row.
+#[tactic(auto, using(crate::proofs::Buffers::begins_from))]
 fn print_rows(rows: &[Row], out: &mut Vec<u8>) -> Result<(), AllocError>
-    ensures { OnOk result (out.new.items ≡ out.old.items ++ flat_map row_line rows.now) }
+    ensures ok { OnOk result (out.new.items ≡ out.old.items ++ flat_map row_line rows.now) }
+    ensures begun { BeginsWith out.old.items out.new.items }
 {
     for row in rows {
         print_row_line(row, out)?;
@@ -237,7 +274,8 @@ fn print_rows(rows: &[Row], out: &mut Vec<u8>) -> Result<(), AllocError>
 
 /// Appends a reply.
 fn print_reply(reply: &Reply, out: &mut Vec<u8>) -> Result<(), AllocError>
-    ensures { OnOk result (out.new.items ≡ out.old.items ++ reply_text reply.now) }
+    ensures ok { OnOk result (out.new.items ≡ out.old.items ++ reply_text reply.now) }
+    ensures begun { BeginsWith out.old.items out.new.items }
 {
     match reply {
         Reply::Rows(rows) => {
@@ -258,44 +296,47 @@ fn print_reply(reply: &Reply, out: &mut Vec<u8>) -> Result<(), AllocError>
 
 /// Appends a line of a word and a number of rows.
 fn print_changed(words: &[u8], count: u64, out: &mut Vec<u8>) -> Result<(), AllocError>
-    ensures { OnOk result (out.new.items ≡ out.old.items ++ line (words.now ++ decimal count)) }
+    ensures ok { OnOk result (out.new.items ≡ out.old.items ++ line (words.now ++ decimal count)) }
+    ensures begun { BeginsWith out.old.items out.new.items }
 {
     put(words, out)?;
-    print_number(count, out)?;
-    end_line(out)
+    end_with_number(count, out)
 }
 
 /// Appends the line of a total.
 fn print_total(total: i128, out: &mut Vec<u8>) -> Result<(), AllocError>
-    ensures { OnOk result (out.new.items ≡ out.old.items ++ reply_text (Reply.Value total)) }
+    ensures ok { OnOk result (out.new.items ≡ out.old.items ++ reply_text (Reply.Value total)) }
+    ensures begun { BeginsWith out.old.items out.new.items }
 {
     put(b"value ", out)?;
-    print_signed(total, out)?;
-    end_line(out)
+    end_with_total(total, out)
 }
 
-/// Appends a number in decimal, with its sign where it is negative.
-fn print_signed(number: i128, out: &mut Vec<u8>) -> Result<(), AllocError>
-    ensures { OnOk result (out.new.items ≡ out.old.items ++ signed_decimal number) }
+/// Appends a total in decimal, with its sign where it is negative, and the end of its line.
+fn end_with_total(total: i128, out: &mut Vec<u8>) -> Result<(), AllocError>
+    ensures ok { OnOk result (out.new.items ≡ out.old.items ++ line (signed_decimal total)) }
+    ensures begun { BeginsWith out.old.items out.new.items }
 {
-    let digits = number.to_string(*out.allocator())?;
-    put(digits.as_bytes(), out)
+    let digits = total.to_string(*out.allocator())?;
+    print_line(digits.as_bytes(), out)
 }
 
 /// Appends the line of a group.
 fn print_group(group: &Grouped, out: &mut Vec<u8>) -> Result<(), AllocError>
-    ensures { OnOk result (out.new.items ≡ out.old.items ++ group_line group.now) }
+    ensures ok { OnOk result (out.new.items ≡ out.old.items ++ group_line group.now) }
+    ensures begun { BeginsWith out.old.items out.new.items }
 {
     put(b"group ", out)?;
     print(&group.value, out)?;
-    out.push(b'|')?;
-    print_signed(group.total, out)?;
-    end_line(out)
+    put(b"|", out)?;
+    end_with_total(group.total, out)
 }
 
 /// Appends a line for each group.
+#[tactic(auto, using(crate::proofs::Buffers::begins_from))]
 fn print_groups(groups: &[Grouped], out: &mut Vec<u8>) -> Result<(), AllocError>
-    ensures { OnOk result (out.new.items ≡ out.old.items ++ flat_map group_line groups.now) }
+    ensures ok { OnOk result (out.new.items ≡ out.old.items ++ flat_map group_line groups.now) }
+    ensures begun { BeginsWith out.old.items out.new.items }
 {
     for group in groups {
         print_group(group, out)?;
@@ -304,8 +345,10 @@ fn print_groups(groups: &[Grouped], out: &mut Vec<u8>) -> Result<(), AllocError>
 }
 
 /// Appends replies.
+#[tactic(auto, using(crate::proofs::Buffers::begins_from))]
 fn print_replies(replies: &[Reply], out: &mut Vec<u8>) -> Result<(), AllocError>
-    ensures { OnOk result (out.new.items ≡ out.old.items ++ flat_map reply_text replies.now) }
+    ensures ok { OnOk result (out.new.items ≡ out.old.items ++ flat_map reply_text replies.now) }
+    ensures begun { BeginsWith out.old.items out.new.items }
 {
     for reply in replies {
         print_reply(reply, out)?;
@@ -315,7 +358,8 @@ fn print_replies(replies: &[Reply], out: &mut Vec<u8>) -> Result<(), AllocError>
 
 /// Appends how a transaction ended.
 fn print_ending(names: &Names, ending: &Ending, out: &mut Vec<u8>) -> Result<(), AllocError>
-    ensures { OnOk result (out.new.items ≡ out.old.items ++ ending_text names.now ending.now) }
+    ensures ok { OnOk result (out.new.items ≡ out.old.items ++ ending_text names.now ending.now) }
+    ensures begun { BeginsWith out.old.items out.new.items }
 {
     match ending {
         Ending::Committed { place } => {
@@ -352,8 +396,9 @@ fn print_ending(names: &Names, ending: &Ending, out: &mut Vec<u8>) -> Result<(),
 
 /// Appends the line of how a transaction ended.
 fn print_end(names: &Names, ending: &Ending, out: &mut Vec<u8>) -> Result<(), AllocError>
-    ensures { OnOk result (out.new.items
+    ensures ok { OnOk result (out.new.items
         ≡ out.old.items ++ line (ending_text names.now ending.now)) }
+    ensures begun { BeginsWith out.old.items out.new.items }
 {
     print_ending(names, ending, out)?;
     end_line(out)
@@ -367,8 +412,9 @@ fn print_rival(
     other: Label,
     out: &mut Vec<u8>,
 ) -> Result<(), AllocError>
-    ensures { OnOk result (out.new.items
+    ensures ok { OnOk result (out.new.items
         ≡ out.old.items ++ (word (place_name names.now table pos) ++ label_name names.now other)) }
+    ensures begun { BeginsWith out.old.items out.new.items }
 {
     print_place(names, table, pos, out)?;
     end_word(out)?;
@@ -377,7 +423,8 @@ fn print_rival(
 
 /// Appends the line of a position that a transaction wrote.
 fn print_wrote(names: &Names, place: &Place, out: &mut Vec<u8>) -> Result<(), AllocError>
-    ensures { OnOk result (out.new.items ≡ out.old.items ++ wrote_line names.now place.now) }
+    ensures ok { OnOk result (out.new.items ≡ out.old.items ++ wrote_line names.now place.now) }
+    ensures begun { BeginsWith out.old.items out.new.items }
 {
     put(b"wrote ", out)?;
     print_place(names, place.table, place.pos, out)?;
@@ -385,9 +432,11 @@ fn print_wrote(names: &Names, place: &Place, out: &mut Vec<u8>) -> Result<(), Al
 }
 
 /// Appends a line for each position that a transaction wrote.
+#[tactic(auto, using(crate::proofs::Buffers::begins_from))]
 fn print_places(names: &Names, places: &[Place], out: &mut Vec<u8>) -> Result<(), AllocError>
-    ensures { OnOk result (out.new.items
+    ensures ok { OnOk result (out.new.items
         ≡ out.old.items ++ flat_map (wrote_line names.now) places.now) }
+    ensures begun { BeginsWith out.old.items out.new.items }
 {
     for place in places {
         print_wrote(names, place, out)?;
@@ -396,8 +445,10 @@ fn print_places(names: &Names, places: &[Place], out: &mut Vec<u8>) -> Result<()
 }
 
 /// Appends a line for each table where inserts were placed.
+#[tactic(auto, using(crate::proofs::Buffers::begins_again))]
 fn print_placed(names: &Names, counts: &[u64], out: &mut Vec<u8>) -> Result<(), AllocError>
-    ensures { OnOk result (out.new.items ≡ out.old.items ++ placed_lines names.now 0 counts.now) }
+    ensures ok { OnOk result (out.new.items ≡ out.old.items ++ placed_lines names.now 0 counts.now) }
+    ensures begun { BeginsWith out.old.items out.new.items }
 {
     for (table, count) in counts.iter().enumerate() {
         print_inserts(names, table, *count, out)?;
@@ -412,7 +463,8 @@ fn print_inserts(
     count: u64,
     out: &mut Vec<u8>,
 ) -> Result<(), AllocError>
-    ensures { OnOk result (out.new.items ≡ out.old.items ++ placed_line names.now table count) }
+    ensures ok { OnOk result (out.new.items ≡ out.old.items ++ placed_line names.now table count) }
+    ensures begun { BeginsWith out.old.items out.new.items }
 {
     if count == 0 {
         return Ok(());
@@ -420,13 +472,13 @@ fn print_inserts(
     put(b"placed ", out)?;
     put(name_of(&names.tables, table), out)?;
     end_word(out)?;
-    print_number(count, out)?;
-    end_line(out)
+    end_with_number(count, out)
 }
 
 /// Appends what a transaction came to.
 fn print_txn(names: &Names, txn: &TxnOutcome, out: &mut Vec<u8>) -> Result<(), AllocError>
-    ensures { OnOk result (out.new.items ≡ out.old.items ++ txn_text names.now txn.now) }
+    ensures ok { OnOk result (out.new.items ≡ out.old.items ++ txn_text names.now txn.now) }
+    ensures begun { BeginsWith out.old.items out.new.items }
 {
     print_start(names, txn.label, txn.start, out)?;
     print_replies(txn.replies.as_slice(), out)?;
@@ -437,19 +489,21 @@ fn print_txn(names: &Names, txn: &TxnOutcome, out: &mut Vec<u8>) -> Result<(), A
 
 /// Appends the first line of a transaction.
 fn print_start(names: &Names, label: Label, start: u32, out: &mut Vec<u8>) -> Result<(), AllocError>
-    ensures { OnOk result (out.new.items ≡ out.old.items ++ start_line names.now label start) }
+    ensures ok { OnOk result (out.new.items ≡ out.old.items ++ start_line names.now label start) }
+    ensures begun { BeginsWith out.old.items out.new.items }
 {
     put(b"txn ", out)?;
     print_label(names, label, out)?;
     put(b" start ", out)?;
-    print_number(u64::from(start), out)?;
-    end_line(out)
+    end_with_number(u64::from(start), out)
 }
 
 /// Appends transactions.
+#[tactic(auto, using(crate::proofs::Buffers::begins_from))]
 fn print_txns(names: &Names, txns: &[TxnOutcome], out: &mut Vec<u8>) -> Result<(), AllocError>
-    ensures { OnOk result (out.new.items
+    ensures ok { OnOk result (out.new.items
         ≡ out.old.items ++ flat_map (txn_text names.now) txns.now) }
+    ensures begun { BeginsWith out.old.items out.new.items }
 {
     for txn in txns {
         print_txn(names, txn, out)?;
@@ -459,7 +513,8 @@ fn print_txns(names: &Names, txns: &[TxnOutcome], out: &mut Vec<u8>) -> Result<(
 
 /// Appends a row that is there or not.
 fn print_version(row: Option<&Row>, out: &mut Vec<u8>) -> Result<(), AllocError>
-    ensures { OnOk result (out.new.items ≡ out.old.items ++ row_or_none (option_copied row.entry)) }
+    ensures ok { OnOk result (out.new.items ≡ out.old.items ++ row_or_none (option_copied row.entry)) }
+    ensures begun { BeginsWith out.old.items out.new.items }
 {
     match row {
         Some(row) => print_row(row, out),
@@ -469,7 +524,8 @@ fn print_version(row: Option<&Row>, out: &mut Vec<u8>) -> Result<(), AllocError>
 
 /// Appends the line of a change.
 fn print_change(names: &Names, change: &Change, out: &mut Vec<u8>) -> Result<(), AllocError>
-    ensures { OnOk result (out.new.items ≡ out.old.items ++ change_line names.now change.now) }
+    ensures ok { OnOk result (out.new.items ≡ out.old.items ++ change_line names.now change.now) }
+    ensures begun { BeginsWith out.old.items out.new.items }
 {
     put(b"change ", out)?;
     print_place(names, change.table, change.pos, out)?;
@@ -484,8 +540,9 @@ fn print_versions(
     after: Option<&Row>,
     out: &mut Vec<u8>,
 ) -> Result<(), AllocError>
-    ensures { OnOk result (out.new.items
+    ensures ok { OnOk result (out.new.items
         ≡ out.old.items ++ versions (option_copied before.entry) (option_copied after.entry)) }
+    ensures begun { BeginsWith out.old.items out.new.items }
 {
     put(b"from ", out)?;
     print_version(before, out)?;
@@ -494,9 +551,11 @@ fn print_versions(
 }
 
 /// Appends a line for each change.
+#[tactic(auto, using(crate::proofs::Buffers::begins_from))]
 fn print_changes(names: &Names, changes: &[Change], out: &mut Vec<u8>) -> Result<(), AllocError>
-    ensures { OnOk result (out.new.items
+    ensures ok { OnOk result (out.new.items
         ≡ out.old.items ++ flat_map (change_line names.now) changes.now) }
+    ensures begun { BeginsWith out.old.items out.new.items }
 {
     for change in changes {
         print_change(names, change, out)?;
@@ -511,7 +570,8 @@ fn print_entry(
     label: Label,
     out: &mut Vec<u8>,
 ) -> Result<(), AllocError>
-    ensures { OnOk result (out.new.items ≡ out.old.items ++ entry_line names.now place label) }
+    ensures ok { OnOk result (out.new.items ≡ out.old.items ++ entry_line names.now place label) }
+    ensures begun { BeginsWith out.old.items out.new.items }
 {
     put(b"entry ", out)?;
     print_number(place as u64, out)?;
@@ -521,8 +581,10 @@ fn print_entry(
 }
 
 /// Appends the entries of the commit order, with their changes.
+#[tactic(auto, using(crate::proofs::Buffers::begins_again))]
 fn print_order(names: &Names, order: &[Committed], out: &mut Vec<u8>) -> Result<(), AllocError>
-    ensures { OnOk result (out.new.items ≡ out.old.items ++ order_lines names.now 0 order.now) }
+    ensures ok { OnOk result (out.new.items ≡ out.old.items ++ order_lines names.now 0 order.now) }
+    ensures begun { BeginsWith out.old.items out.new.items }
 {
     for (place, entry) in order.iter().enumerate() {
         print_entry(names, place, entry.label, out)?;
@@ -538,18 +600,20 @@ fn print_size(
     count: usize,
     out: &mut Vec<u8>,
 ) -> Result<(), AllocError>
-    ensures { OnOk result (out.new.items ≡ out.old.items ++ table_line names.now table count) }
+    ensures ok { OnOk result (out.new.items ≡ out.old.items ++ table_line names.now table count) }
+    ensures begun { BeginsWith out.old.items out.new.items }
 {
     put(b"table ", out)?;
     put(name_of(&names.tables, table), out)?;
     end_word(out)?;
-    print_number(count as u64, out)?;
-    end_line(out)
+    end_with_number(count as u64, out)
 }
 
 /// Appends the tables, with their rows.
+#[tactic(auto, using(crate::proofs::Buffers::begins_again))]
 fn print_tables(names: &Names, tables: &[Rows], out: &mut Vec<u8>) -> Result<(), AllocError>
-    ensures { OnOk result (out.new.items ≡ out.old.items ++ table_lines names.now 0 tables.now) }
+    ensures ok { OnOk result (out.new.items ≡ out.old.items ++ table_lines names.now 0 tables.now) }
+    ensures begun { BeginsWith out.old.items out.new.items }
 {
     for (table, rows) in tables.iter().enumerate() {
         print_size(names, table, rows.len(), out)?;

@@ -1,0 +1,10 @@
+pub mod Reading
+pub mod Numbers
+pub mod Values
+pub mod Labels
+pub mod Replies
+pub mod Endings
+pub mod Txns
+pub mod Changes
+pub mod Telling
+pub mod Buffers

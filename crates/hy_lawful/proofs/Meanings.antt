@@ -11,7 +11,7 @@ use Rattle.std.proofs.lemmas.List.Sorted.{IsPermutation-refl, IsPermutation-sym,
 use Rattle.hy_value.specs.declared.Value.{Value}
 use Rattle.hy_value.specs.Order.{row_cmp}
 use Rattle.hy_value.specs.Sorted.{put_row, sorted}
-use Rattle.hy_value.proofs.Sorting.{sorted_from_permutation, sorted_permutes, sorted-map}
+use Rattle.hy_value.specs.Sorting.{sorted_from_permutation, sorted_permutes, sorted-map}
 use Rattle.hy_bound.specs.Condition.{Condition}
 use Rattle.hy_bound.specs.declared.On.{On}
 use Rattle.hy_bound.specs.declared.Shape.{Shape}

@@ -1,3 +1,4 @@
+-- Settings of the first form: one chunk a table, one transaction a session, one writer that sets values.
 use Rattle.std.specs.Prelude.{◌≡◌, ◌≢◌, ℕ, ◌≤◌, List, [], ◌∷◌, IsTrue, length, slice_index_or}
 use Rattle.std.specs.List.{AllByRecursion}
 use Rattle.hy_bound.specs.declared.Txn.{Txn}

@@ -1,4 +1,5 @@
-use Rattle.std.specs.Prelude.{ℕ, suc, ◌-◌, List, [], ◌∷◌, ◌++◌, Option, None, Some, slice_index_or, slice_get, take, map, IsTrue, not}
+-- The transactions of a script, by their labels.
+use Rattle.std.specs.Prelude.{ℕ, zero, suc, List, [], ◌∷◌, ◌++◌, Option, None, Some, slice_index_or, slice_get, take, map, IsTrue, not}
 use Rattle.hy_bound.specs.declared.Txn.{Txn}
 use Rattle.hy_bound.specs.declared.Bound.{Bound}
 use Rattle.hy_bound.specs.declared.Shape.{Shape}
@@ -11,9 +12,14 @@ use Rattle.hy_meaning.specs.Serial.{serial, database_of}
 abbrev pub Programs : Type 0
 Programs = List (List Txn)
 
+-- the transaction of this number among these, the first of which has number 1
+abbrev pub numbered : List Txn → ℕ → Option Txn
+numbered txns zero = None
+numbered txns (suc n) = slice_get txns n
+
 -- the transaction of this label, if the script has it
 abbrev pub txn_of : Programs → Label → Option Txn
-txn_of programs label = slice_get (slice_index_or programs label.session []) (label.txn - 1)
+txn_of programs label = numbered (slice_index_or programs label.session []) label.txn
 
 abbrev pub statements_in : Option Txn → List Bound
 statements_in None = []

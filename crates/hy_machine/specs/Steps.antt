@@ -6,7 +6,7 @@ use Rattle.hy_bound.specs.Condition.{Condition}
 use Rattle.hy_bound.specs.declared.Assign.{Assign}
 use Rattle.hy_bound.specs.declared.Reply.{Reply}
 use Rattle.hy_bound.specs.declared.Reply.TheVariants.{Updated}
-use Rattle.hy_bound.specs.Reads.{records_of}
+use Rattle.hy_plan.specs.Reads.{records_of}
 use Rattle.hy_value.specs.declared.Value.{Value}
 use Rattle.hy_meaning.specs.Statement.{answer, grouped}
 use Rattle.hy_stamp.specs.declared.Label.{Label}

@@ -6,9 +6,8 @@
 
 use hy_bound::{Records, Replies, Rows, Shapes, Txns};
 use hy_render::{Ending, Place};
-use hy_seq::Seq;
 use hy_stamp::Label;
-use hy_value::Row;
+use hy_value::{Row, Seq};
 
 mod endings;
 mod lists;

@@ -3,7 +3,7 @@
 ghost use Rattle.std.specs.Prelude.{◌≡◌, ◌+◌, ◌++◌, IfOk, OnOk, take, drop};
 ghost use Rattle.std.specs.Prelude.{suc};
 
-use hy_seq::Seq;
+use hy_value::Seq;
 use std::alloc::AllocError;
 
 /// A length as a number of 32 bits. A list of 2^32 elements or more is want of memory.

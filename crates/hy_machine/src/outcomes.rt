@@ -7,12 +7,11 @@ use crate::lists::{next, number};
 use crate::overlay::{copy_cell, history, opening_tables, rows_of};
 use crate::writes::written;
 use crate::{Cell, Cells, Entry, Finished, Machine, Pair, Pairs, Session, Setting};
-use hy_bound::{Replies, Reply, Rows};
+use hy_bound::{Grouped, Groups, Replies, Reply, Rows};
 use hy_change::{Change, Changes};
 use hy_render::{Committed, Outcome, Place, TxnOutcome};
-use hy_seq::Seq;
 use hy_stamp::Label;
-use hy_value::{Row, copy_row, sort_rows};
+use hy_value::{Row, Seq, copy_row, sort_rows};
 use std::alloc::{AllocError, Global};
 
 /// A copy of rows.
@@ -26,6 +25,20 @@ fn copy_rows(alloc: Global, rows: &[Row]) -> Result<Rows, AllocError>
     Ok(copy)
 }
 
+/// A copy of groups.
+fn copy_groups(alloc: Global, groups: &[Grouped]) -> Result<Groups, AllocError>
+    ensures { IfOk result (λ copy. copy ≡ groups.now) }
+{
+    let mut copy = Seq::new(alloc);
+    for group in groups {
+        copy.push(Grouped {
+            value: group.value.copy(),
+            total: group.total,
+        })?;
+    }
+    Ok(copy)
+}
+
 /// A copy of a reply.
 fn copy_reply(alloc: Global, reply: &Reply) -> Result<Reply, AllocError>
     ensures { IfOk result (λ copy. copy ≡ reply.now) }
@@ -33,7 +46,7 @@ fn copy_reply(alloc: Global, reply: &Reply) -> Result<Reply, AllocError>
     match reply {
         Reply::Rows(rows) => Ok(Reply::Rows(copy_rows(alloc, rows.as_slice())?)),
         Reply::Value(total) => Ok(Reply::Value(*total)),
-        Reply::Groups(groups) => Ok(Reply::Groups(Seq::from_slice(alloc, groups.as_slice())?)),
+        Reply::Groups(groups) => Ok(Reply::Groups(copy_groups(alloc, groups.as_slice())?)),
         Reply::Inserted => Ok(Reply::Inserted),
         Reply::Duplicate => Ok(Reply::Duplicate),
         Reply::Updated(count) => Ok(Reply::Updated(*count)),

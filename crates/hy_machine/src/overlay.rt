@@ -9,8 +9,7 @@ ghost use Rattle.hy_machine.specs.Sessions.{snapshot as snapshot_of, view as vie
 use crate::lists::{behind, front};
 use crate::{Begun, Cell, Cells, Entry, Machine, Own, OwnCells, Pair, Pairs, Setting, Tables};
 use hy_bound::Rows;
-use hy_seq::Seq;
-use hy_value::{Row, copy_row};
+use hy_value::{Row, Seq, copy_row};
 use std::alloc::{AllocError, Global};
 
 /// A copy of a cell.

@@ -8,7 +8,7 @@ use crate::states::has_ended;
 use crate::stepping::step;
 use crate::{Machine, Session, Setting, Stepped};
 use hy_bound::Item;
-use hy_seq::Seq;
+use hy_value::Seq;
 use std::alloc::{AllocError, Global};
 
 /// No statement takes more steps than this: there are at most 16 tables of 64 chunks.

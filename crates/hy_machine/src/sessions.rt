@@ -9,10 +9,10 @@ use crate::lists::{append, next, number};
 use crate::states::least_prefix;
 use crate::visits::{News, own_with};
 use crate::{Begun, Current, Finished, Machine, Own, OwnCells, Phase, Session, Setting};
-use hy_bound::{Bound, Pred, Read, Record, Reply, Rows, Side, records};
+use hy_bound::{Bound, Pred, Record, Reply, Rows, Side};
+use hy_plan::{Read, records};
 use hy_render::Ending;
-use hy_seq::Seq;
-use hy_value::Value;
+use hy_value::{Seq, Value};
 use std::alloc::{AllocError, Global};
 
 /// The types inside what a session holds. A function that moves such values names them once, since the

@@ -17,8 +17,7 @@ use crate::{Begun, Cells, Current, Machine, Phase, Setting, Stepped};
 use hy_bound::{Aggregate, Bound, Items, On, Pred, Reply, Rows, Sets, Txn};
 use hy_meaning::{answer, group};
 use hy_render::Ending;
-use hy_seq::Seq;
-use hy_value::Row;
+use hy_value::{Row, Seq};
 use std::alloc::{AllocError, Global};
 
 /// Answers a statement of a transaction that was taken out of its session, and puts it back.

@@ -12,9 +12,8 @@ use crate::rivals::opponent;
 use crate::{Cell, Cells, Entry, Machine, Own, OwnCells, Pair, Pairs, Setting};
 use hy_bound::{Pred, Record, Sets, hits, set_row, truth};
 use hy_render::Ending;
-use hy_seq::Seq;
 use hy_stamp::Label;
-use hy_value::{Row, copy_row};
+use hy_value::{Row, Seq, copy_row};
 use std::alloc::{AllocError, Global};
 
 /// The new rows of positions, by position: a row, or none where it stays.

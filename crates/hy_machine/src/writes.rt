@@ -8,7 +8,7 @@ use crate::lists::number;
 use crate::overlay::{chunk_of, own_at, own_table};
 use crate::{Cell, OwnCells, Setting};
 use hy_render::{Place, Places};
-use hy_seq::Seq;
+use hy_value::Seq;
 use std::alloc::{AllocError, Global};
 
 /// Chunks: the number of the table, and that of the chunk in the table.

@@ -1,7 +1,16 @@
 //! The program `hy`: makes the real words, reader and writer, and ends with the status of the call.
 #![tactic(auto)]
 
-use hy_outside::{StdSink, StdSource};
+ghost use Rattle.std.specs.Prelude.{◌≡◌, ◌≢◌, ◌⊎◌, Option, None, IfSome, map};
+ghost use Rattle.std.specs.Process.{exit_status};
+ghost use Rattle.std.specs.String.{string_bytes};
+ghost use Rattle.hy_render.specs.declared.Outcome.{Outcome};
+ghost use Rattle.hy_words.specs.Words.{command_of};
+ghost use Rattle.hy_top.specs.Lines.{usage_line};
+ghost use Rattle.hy_top.specs.Program.{bytes_read};
+ghost use Rattle.hy_top.specs.Reports.{Writes, Answers};
+
+use hy_outside::{Sink, Source, StdSink, StdSource};
 use std::alloc::{AllocError, Global};
 use std::process::ExitCode;
 use std::rt::Env;
@@ -10,18 +19,33 @@ use std::{env, io};
 /// The status where the words themselves found no memory.
 const NO_MEMORY: u8 = 5;
 
-fn main(rt: HostRuntime) -> ExitCode {
-    ExitCode::from(start(&rt))
-}
-
 /// Calls the program on the process's words, standard input and standard output.
-fn start(rt: &(impl Env + AllocGlobal + Input + Print)) -> u8 {
-    let Ok(words) = words_of(rt) else {
-        return NO_MEMORY;
+fn main(rt: HostRuntime) -> ExitCode {
+    let Ok(words) = words_of(&rt) else {
+        return ExitCode::from(NO_MEMORY);
     };
     let mut source = StdSource::new(rt.reader());
-    let mut sink = StdSink::new(io::writer(rt));
-    hy_top::run(rt.alloc(), &words, &mut source, &mut sink).status
+    let mut sink = StdSink::new(io::writer(&rt));
+    exit_code_of(rt.alloc(), &words, &mut source, &mut sink)
+}
+
+/// Calls the program, and gives the code of its status.
+fn exit_code_of<R: Source, W: Sink>(
+    alloc: Global,
+    words: &[String],
+    source: &mut R,
+    sink: &mut W,
+) -> ExitCode
+    ensures words_refused { command_of (map string_bytes words.now) ≡ None
+        → (exit_status result ≡ 5) ⊎ Writes 1 (exit_status result) (W.written sink.old) (W.written sink.new) usage_line }
+    ensures usage { exit_status result ≡ 1 → command_of (map string_bytes words.now) ≡ None }
+    ensures answers { IfSome (command_of (map string_bytes words.now)) (λ command. IfSome (R.rest source.old) (λ all.
+        (exit_status result ≡ 3) ⊎ ((outcome : Option Outcome)
+        × Answers command (bytes_read all) (exit_status result) outcome (W.written sink.old) (W.written sink.new)))) }
+    ensures source_steady { exit_status result ≢ 3 → R.faults source.new ≡ R.faults source.old }
+    ensures sink_steady { exit_status result ≢ 4 → W.faults sink.new ≡ W.faults sink.old }
+{
+    ExitCode::from(hy_top::run(alloc, words, source, sink).status)
 }
 
 /// The process's words, the program's name first. Words that are no text are as good as none: they are

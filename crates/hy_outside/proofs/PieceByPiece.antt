@@ -1,32 +1,22 @@
 -- Bytes that come or go piece by piece.
-use Rattle.std.proofs.Common.{◌≡◌, ℕ, ◌+◌, ◌≤◌, List, ◌++◌, length, take, drop, Option, Some, None, refl, sym, ap, ◌∙◌, subst, arith, append_assoc, length-append}
+use Rattle.std.proofs.Common.{◌≡◌, ℕ, ◌+◌, ◌≤◌, List, ◌++◌, length, take, drop, Option, Some, None, sym, ap, ◌∙◌, subst, arith, length-append}
 use Rattle.std.proofs.Math.Seq.{take-add, take-append_seam, drop-append_seam}
 use Rattle.std.proofs.lemmas.List.{drop-drop, length-take-le, take-append-drop}
 use Rattle.std.proofs.lemmas.Grind.{common_steps}
-use Rattle.std.specs.Io.KnownBytes.{prepend_known, append_known}
-use Rattle.hy_outside.specs.Telling.{Gives, GivesPast, Takes}
-
-pub append_known-append : (known : Option (List ℕ)) (xs ys : List ℕ) → append_known (append_known known xs) ys ≡ append_known known (xs ++ ys)
-append_known-append None xs ys = refl
-append_known-append (Some all) xs ys = ap Some (append_assoc all xs ys)
+use Rattle.std.proofs.KnownBytes.{Appends-trans, Consumes-trans}
+use Rattle.hy_outside.specs.Telling.{Gives, GivesAtMost, GivesPast, Takes}
 
 -- after the first bytes, the sink took the next
 pub Takes-more : (before between after : Option (List ℕ)) (bytes : List ℕ) (done count : ℕ)
     → Takes before between (take done bytes) → Takes between after (take count (drop done bytes)) → Takes before after (take (done + count) bytes)
 Takes-more before between after bytes done count first next =
-    next ∙ ap (λ known. append_known known (take count (drop done bytes))) first
-    ∙ append_known-append before (take done bytes) (take count (drop done bytes))
-    ∙ ap (append_known before) (sym (take-add done count bytes))
-
-pub prepend_known-append : (known : Option (List ℕ)) (xs ys : List ℕ) → prepend_known xs (prepend_known ys known) ≡ prepend_known (xs ++ ys) known
-prepend_known-append None xs ys = refl
-prepend_known-append (Some all) xs ys = ap Some (sym (append_assoc xs ys all))
+    subst (Takes before after) (sym (take-add done count bytes)) (Appends-trans before between after (take done bytes) (take count (drop done bytes)) first next)
 
 -- after these bytes, the source gave the next
-pub Gives-more : (before between after : Option (List ℕ)) (bytes next : List ℕ)
-    → Gives before between bytes → Gives between after next → Gives before after (bytes ++ next)
-Gives-more before between after bytes next first second =
-    first ∙ ap (prepend_known bytes) second ∙ prepend_known-append after bytes next
+pub GivesAtMost-more : (before between after : Option (List ℕ)) (bytes next : List ℕ) (limit : ℕ)
+    → Gives before between bytes → Gives between after next → length bytes + length next ≤ limit → GivesAtMost before after limit
+GivesAtMost-more before between after bytes next limit first second short =
+    (bytes ++ next, omega (arith, length-append bytes next), Consumes-trans before between after bytes next first second)
 
 -- the last bytes, behind the first
 pub behind_first : (all first left : List ℕ) (count : ℕ) → all ≡ first ++ left → length first ≡ count → left ≡ drop count all
@@ -35,12 +25,10 @@ behind_first all first left count whole long = grind (arith, common_steps, drop-
 -- a source that gave one byte more than the limit had more than the limit
 pub GivesPast-given : (before after : Option (List ℕ)) (bytes : List ℕ) (limit : ℕ)
     → Gives before after bytes → length bytes ≡ limit + 1 → GivesPast before after limit
-GivesPast-given None None bytes limit given long = refl
-GivesPast-given None (Some left) bytes limit given long = cc
-GivesPast-given (Some all) None bytes limit given long = cc
+GivesPast-given None after bytes limit given long = tt
+GivesPast-given (Some all) None bytes limit given long = absurd given
 GivesPast-given (Some all) (Some left) bytes limit given long =
-    let whole : all ≡ bytes ++ left = cc in
-    (omega (arith, ap length whole, length-append bytes left), ap Some (behind_first all bytes left (limit + 1) whole long))
+    (omega (arith, ap length given, length-append bytes left), ap Some (behind_first all bytes left (limit + 1) given long))
 
 -- what was left are the bytes that were copied to the front, and the bytes that are left now
 pub left-given : (all after behind : List ℕ) (taken count : ℕ)

@@ -1,5 +1,5 @@
 -- What sources and sinks in memory show.
-use Rattle.std.specs.Prelude.{ℕ, ◌<◌, ◌≤◌, List, length}
+use Rattle.std.specs.Prelude.{ℕ, ◌≤◌, List, length}
 
 -- a source of bytes in memory
 pub record MemoryInput : Type 0 where
@@ -27,6 +27,6 @@ pub record MemoryOutput : Type 0 where
   -- how many of them failed
   pub faults : ℕ
 
--- no room is left, and there are bytes to write
-abbrev pub IsFullFor : MemoryOutput → ℕ → Type 0
-IsFullFor sink count = (sink.room ≤ length sink.bytes) × (0 < count)
+-- no room is left
+abbrev pub IsFull : MemoryOutput → Type 0
+IsFull sink = sink.room ≤ length sink.bytes

@@ -1,11 +1,11 @@
 //! Where bytes come from and where they go: sources and sinks, over memory and over std.
 #![tactic(auto)]
 
-ghost use Rattle.std.specs.Prelude.{◌≡◌, ℕ, ◌^◌, ◌<◌, ◌≤◌, List, Option, length, take, drop, IsSome, IfOk, OnOk, OnErr, IsErrOf};
+ghost use Rattle.std.specs.Prelude.{◌≡◌, ℕ, ◌+◌, ◌^◌, ◌<◌, ◌≤◌, List, Option, length, take, drop, IsSome, IfOk, OnOk, OnErr, IsErrOf};
 ghost use Rattle.std.specs.Io.{ReadsAtMost, WritesAtMost};
-ghost use Rattle.std.specs.Io.KnownBytes.{IsAtEnd};
+ghost use Rattle.std.specs.Io.KnownBytes.{Keeps, IsAtEnd};
 ghost use Rattle.hy_outside.specs.Faults.{Rose};
-ghost use Rattle.hy_outside.specs.Telling.{Gives, GivesSome, GivesAll, GivesPast, Takes, TakesSome};
+ghost use Rattle.hy_outside.specs.Telling.{Gives, GivesAtMost, GivesAll, GivesPast, Takes, TakesSome};
 ghost use Rattle.hy_outside.specs.declared.ReadAllError.TheVariants.{OutOfMemory};
 
 mod adapters;
@@ -45,7 +45,7 @@ impl From<AllocError> for ReadAllError {
 
 /// Where bytes come from.
 pub trait Source {
-    // The bytes that are left, where the source tells them.
+    // The bytes that are left, where the source tells them. Where it does not, nothing is claimed of them.
     ghost rest: { Self → Option (List ℕ) };
 
     // How many faults there were, up to the end of a `u64`.
@@ -58,7 +58,8 @@ pub trait Source {
         ensures given { IfOk result (λ n. Gives (rest self.old) (rest self.new) (take n into.new)) }
         ensures kept { IfOk result (λ n. IsSome (rest self.old) → drop n into.new ≡ drop n into.old) }
         ensures end { IfOk result (λ n. n ≡ 0 → 0 < length into.old → IsAtEnd (rest self.old)) }
-        ensures failed { OnErr result (rest self.new ≡ rest self.old) }
+        ensures steady { OnOk result (faults self.new ≡ faults self.old) }
+        ensures failed { OnErr result (Keeps (rest self.old) (rest self.new)) }
         ensures fault { OnErr result (Rose (faults self.old) (faults self.new)) }
         ensures never_fell { faults self.old ≤ faults self.new }
         ensures in_range { faults self.new < 2 ^ 64 };
@@ -66,7 +67,7 @@ pub trait Source {
 
 /// Where bytes go to.
 pub trait Sink {
-    // The bytes that were taken, where the sink tells them.
+    // The bytes that were taken, where the sink tells them. Where it does not, nothing is claimed of them.
     ghost written: { Self → Option (List ℕ) };
 
     // How many faults there were, up to the end of a `u64`.
@@ -78,14 +79,15 @@ pub trait Sink {
         ensures bound { WritesAtMost result from.now }
         ensures some { IfOk result (λ n. 0 < length from.now → 0 < n) }
         ensures taken { IfOk result (λ n. Takes (written self.old) (written self.new) (take n from.now)) }
-        ensures failed { OnErr result (written self.new ≡ written self.old) }
+        ensures steady { OnOk result (faults self.new ≡ faults self.old) }
+        ensures failed { OnErr result (Keeps (written self.old) (written self.new)) }
         ensures fault { OnErr result (Rose (faults self.old) (faults self.new)) }
         ensures never_fell { faults self.old ≤ faults self.new }
         ensures in_range { faults self.new < 2 ^ 64 };
 }
 
 /// How many bytes are asked for at once.
-const PIECE: usize = 4096;
+pub(crate) const PIECE: usize = 4096;
 
 /// All bytes that the source has left, of which there may be `limit`. One more is too long, and is
 /// taken from the source. Whatever the error, the source is left behind the bytes that it gave.
@@ -99,7 +101,9 @@ pub fn read_all<R: Source>(
     ensures at_most { IfOk result (λ bytes. length bytes.items ≤ limit) }
     ensures too_long { IsErrOf result ReadAllError.TooLong → GivesPast (R.rest source.old) (R.rest source.new) limit }
     ensures read_fault { IsErrOf result ReadAllError.ReadFault → Rose (R.faults source.old) (R.faults source.new) }
-    ensures given { GivesSome (R.rest source.old) (R.rest source.new) }
+    ensures steady { ¬ IsErrOf result ReadAllError.ReadFault → R.faults source.new ≡ R.faults source.old }
+    ensures given { GivesAtMost (R.rest source.old) (R.rest source.new) (limit + 1) }
+    ensures within { ¬ IsErrOf result ReadAllError.TooLong → GivesAtMost (R.rest source.old) (R.rest source.new) limit }
     ensures never_fell { R.faults source.old ≤ R.faults source.new }
 {
     let mut bytes = Vec::new(alloc);
@@ -126,6 +130,7 @@ pub fn write_all<W: Sink>(sink: &mut W, bytes: &[u8]) -> Result<(), WriteFault>
     ensures whole { OnOk result (Takes (W.written sink.old) (W.written sink.new) bytes.now) }
     ensures taken { TakesSome (W.written sink.old) (W.written sink.new) bytes.now }
     ensures fault { OnErr result (Rose (W.faults sink.old) (W.faults sink.new)) }
+    ensures steady { OnOk result (W.faults sink.new ≡ W.faults sink.old) }
     ensures never_fell { W.faults sink.old ≤ W.faults sink.new }
 {
     let mut done = 0;

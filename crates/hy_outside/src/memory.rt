@@ -2,7 +2,7 @@
 ghost use Rattle.std.specs.Prelude.{◌≡◌, ℕ, ◌+◌, ◌-◌, ◌^◌, ◌<◌, ◌≤◌, ◌↔◌, ◌++◌, ◌⊎◌, List, [], min, length, take, drop, Some, None, Ok, IsOk, IsErr, IfOk, OnOk, OnErr, Contains};
 ghost use Rattle.std.specs.Io.{ReadsAtMost};
 ghost use Rattle.hy_outside.specs.Faults.{one_more};
-ghost use Rattle.hy_outside.specs.Memory.{MemoryInput, MemoryOutput, IsFullFor};
+ghost use Rattle.hy_outside.specs.Memory.{MemoryInput, MemoryOutput, IsFull};
 
 use crate::pieces::copy_front;
 use crate::{Failed, Sink, Source};
@@ -154,7 +154,8 @@ impl Model for MemSink {
 
 impl MemSink {
     /// A sink with room for `room` bytes, for which it takes the memory at once. The calls whose
-    /// numbers, counted from 1, stand in `fails` fail, and so do those that find no room left.
+    /// numbers, counted from 1, stand in `fails` fail, and so does each call that finds no room
+    /// left, whatever it is to write.
     pub fn new(alloc: Global, room: usize, fails: Vec<u64>) -> Result<MemSink, AllocError>
         ensures { IfOk result (λ s. s ≡ record { bytes = []; room = room; failing = fails.items; calls = 0; faults = 0 }) }
     {
@@ -183,7 +184,7 @@ impl Sink for MemSink {
     fn write(&mut self, from: &[u8]) -> Result<usize, Failed>
         ensures count { IfOk result (λ n. n ≡ min (length from.now) (self.old.room - length self.old.bytes)) }
         ensures taken { IfOk result (λ n. self.new.bytes ≡ self.old.bytes ++ take n from.now) }
-        ensures fails { IsErr result ↔ (Contains self.old.failing self.new.calls ⊎ IsFullFor self.old (length from.now)) }
+        ensures fails { IsErr result ↔ (Contains self.old.failing self.new.calls ⊎ IsFull self.old) }
         ensures call { self.new.calls ≡ one_more self.old.calls }
         ensures same { (self.new.room ≡ self.old.room) × (self.new.failing ≡ self.old.failing) }
         ensures ok { OnOk result (self.new.faults ≡ self.old.faults) }
@@ -193,7 +194,7 @@ impl Sink for MemSink {
     {
         self.calls = self.calls.saturating_add(1);
         let left = self.room - self.bytes.len();
-        if self.fails.contains(&self.calls) || (left == 0 && !from.is_empty()) {
+        if self.fails.contains(&self.calls) || left == 0 {
             self.faults = self.faults.saturating_add(1);
             return Err(Failed);
         }

@@ -1,9 +1,10 @@
 //! The program as a call: from the words of a command and a source of bytes to a sink and a status.
 #![tactic(auto)]
 
-ghost use Rattle.std.specs.Prelude.{◌≡◌, ◌≢◌, ℕ, ◌<◌, ◌≤◌, ◌⊎◌, List, Option, None, Some, IsNone, IsSome, IfSome, OnOk, IfOk, Ok, Err, map};
+ghost use Rattle.std.specs.Prelude.{◌≡◌, ◌≢◌, ℕ, ◌+◌, ◌<◌, ◌≤◌, ◌⊎◌, List, Option, None, Some, IsNone, IsSome, IfSome, OnOk, IfOk, Ok, Err, map};
 ghost use Rattle.std.specs.String.{string_bytes};
 ghost use Rattle.hy_outside.specs.Faults.{Rose};
+ghost use Rattle.hy_outside.specs.Telling.{GivesAtMost};
 ghost use Rattle.hy_script.specs.declared.Script.{Script};
 ghost use Rattle.hy_script.specs.declared.Options.{Options};
 ghost use Rattle.hy_script.specs.declared.Dialect.TheVariants.{FirstForm};
@@ -14,7 +15,7 @@ ghost use Rattle.hy_render.specs.Report.{text};
 ghost use Rattle.hy_words.specs.declared.Command.{Command};
 ghost use Rattle.hy_words.specs.Words.{command_of};
 ghost use Rattle.hy_top.specs.Lines.{usage_line, refusal_line as refusal_line_of, checked as checked_line};
-ghost use Rattle.hy_top.specs.Program.{bytes_read, bytes_left, options_of as options_by, names_of, outcome_of};
+ghost use Rattle.hy_top.specs.Program.{most_bytes, bytes_read, bytes_left, options_of as options_by, names_of, outcome_of};
 ghost use Rattle.hy_top.specs.Reports.{Writes, Answers, Runs, Checks, Does};
 
 mod lines;
@@ -63,6 +64,9 @@ pub fn run<R: Source, W: Sink>(
     ensures bytes { IsSome (command_of (map string_bytes words.now)) → IfSome (R.rest source.old) (λ all.
         (result.status ≡ 3) ⊎ (result.status ≡ 5) ⊎ (R.rest source.new ≡ Some (bytes_left all))) }
 
+    // Whatever the status, the source gave some first bytes, and no more than one past the limit.
+    ensures given { GivesAtMost (R.rest source.old) (R.rest source.new) (most_bytes + 1) }
+
     // Where these bytes are refused the refusal line is written. Where they spell a script it is run, and the
     // text of its outcome is written, which is the machine's run of that script, and lawful; or it is checked.
     ensures answers { IfSome (command_of (map string_bytes words.now)) (λ command. IfSome (R.rest source.old) (λ all.
@@ -72,6 +76,10 @@ pub fn run<R: Source, W: Sink>(
     ensures read_fault { result.status ≡ 3 → Rose (R.faults source.old) (R.faults source.new) × (sink.new ≡ sink.old) × IsNone result.outcome }
     ensures write_fault { result.status ≡ 4 → Rose (W.faults sink.old) (W.faults sink.new) }
     ensures no_memory { result.status ≡ 5 → (sink.new ≡ sink.old) × IsNone result.outcome }
+
+    // And a fault is told: at every other status the count of faults is as it was.
+    ensures source_steady { result.status ≢ 3 → R.faults source.new ≡ R.faults source.old }
+    ensures sink_steady { result.status ≢ 4 → W.faults sink.new ≡ W.faults sink.old }
 
     // Without words that are accepted there is no run, and no other status than 1, 4 or 5.
     ensures script_statuses { (result.status ≡ 0) ⊎ (result.status ≡ 2) ⊎ (result.status ≡ 3) ⊎ IsSome result.outcome
@@ -95,6 +103,7 @@ pub fn run<R: Source, W: Sink>(
 fn write<W: Sink>(sink: &mut W, bytes: &[u8], done: u8) -> u8
     ensures writes { Writes done result (W.written sink.old) (W.written sink.new) bytes.now }
     ensures fault { done ≢ 4 → result ≡ 4 → Rose (W.faults sink.old) (W.faults sink.new) }
+    ensures steady { result ≢ 4 → W.faults sink.new ≡ W.faults sink.old }
 {
     match write_all(sink, bytes) {
         Ok(()) => done,
@@ -111,11 +120,14 @@ fn run_command<R: Source, W: Sink>(
 ) -> Report
     ensures bytes { IfSome (R.rest source.old) (λ all.
         (result.status ≡ 3) ⊎ (result.status ≡ 5) ⊎ (R.rest source.new ≡ Some (bytes_left all))) }
+    ensures given { GivesAtMost (R.rest source.old) (R.rest source.new) (most_bytes + 1) }
     ensures answers { IfSome (R.rest source.old) (λ all.
         (result.status ≡ 3) ⊎ Answers command (bytes_read all) result.status result.outcome (W.written sink.old) (W.written sink.new)) }
     ensures read_fault { result.status ≡ 3 → Rose (R.faults source.old) (R.faults source.new) × (sink.new ≡ sink.old) × IsNone result.outcome }
     ensures write_fault { result.status ≡ 4 → Rose (W.faults sink.old) (W.faults sink.new) }
     ensures no_memory { result.status ≡ 5 → (sink.new ≡ sink.old) × IsNone result.outcome }
+    ensures source_steady { result.status ≢ 3 → R.faults source.new ≡ R.faults source.old }
+    ensures sink_steady { result.status ≢ 4 → W.faults sink.new ≡ W.faults sink.old }
     ensures statuses { (result.status ≢ 1) × (result.status ≤ 5) }
 {
     read_once();
@@ -144,6 +156,7 @@ fn run_command<R: Source, W: Sink>(
 fn refuse<W: Sink>(alloc: Global, refused: Refused, sink: &mut W) -> Report
     ensures writes { (result.status ≡ 5) ⊎ Writes 2 result.status (W.written sink.old) (W.written sink.new) (refusal_line_of refused) }
     ensures fault { result.status ≡ 4 → Rose (W.faults sink.old) (W.faults sink.new) }
+    ensures steady { result.status ≢ 4 → W.faults sink.new ≡ W.faults sink.old }
     ensures no_memory { result.status ≡ 5 → sink.new ≡ sink.old }
     ensures statuses { (result.status ≢ 0) × (result.status ≢ 1) × (result.status ≢ 3) × (result.status ≤ 5) }
     ensures nothing { IsNone result.outcome }
@@ -186,6 +199,7 @@ fn options_of(command: Command) -> Options
 fn answer<W: Sink>(alloc: Global, command: Command, bytes: &[u8], sink: &mut W) -> Report
     ensures answers { Answers command bytes.now result.status result.outcome (W.written sink.old) (W.written sink.new) }
     ensures write_fault { result.status ≡ 4 → Rose (W.faults sink.old) (W.faults sink.new) }
+    ensures sink_steady { result.status ≢ 4 → W.faults sink.new ≡ W.faults sink.old }
     ensures no_memory { result.status ≡ 5 → (sink.new ≡ sink.old) × IsNone result.outcome }
     ensures statuses { (result.status ≢ 1) × (result.status ≢ 3) × (result.status ≤ 5) }
 {
@@ -207,6 +221,7 @@ fn perform<W: Sink>(alloc: Global, command: Command, script: Script, sink: &mut 
     ensures does { (result.status ≡ 5) × (sink.new ≡ sink.old) × IsNone result.outcome
         ⊎ Does command script result.status result.outcome (W.written sink.old) (W.written sink.new) }
     ensures write_fault { result.status ≡ 4 → Rose (W.faults sink.old) (W.faults sink.new) }
+    ensures sink_steady { result.status ≢ 4 → W.faults sink.new ≡ W.faults sink.old }
 {
     match command {
         Command::Run { .. } => run_script(alloc, script, sink),
@@ -219,6 +234,7 @@ fn run_script<W: Sink>(alloc: Global, script: Script, sink: &mut W) -> Report
     ensures run { (result.status ≡ 5) × (sink.new ≡ sink.old) × IsNone result.outcome
         ⊎ Runs script result.status result.outcome (W.written sink.old) (W.written sink.new) }
     ensures write_fault { result.status ≡ 4 → Rose (W.faults sink.old) (W.faults sink.new) }
+    ensures sink_steady { result.status ≢ 4 → W.faults sink.new ≡ W.faults sink.old }
 {
     match outcome_and_text(alloc, script) {
         Ok((outcome, written)) => Report {
@@ -237,6 +253,7 @@ fn check_script<W: Sink>(alloc: Global, script: Script, sink: &mut W) -> Report
     ensures check { (result.status ≡ 5) × (sink.new ≡ sink.old) × IsNone result.outcome
         ⊎ Checks script result.status result.outcome (W.written sink.old) (W.written sink.new) }
     ensures write_fault { result.status ≡ 4 → Rose (W.faults sink.old) (W.faults sink.new) }
+    ensures sink_steady { result.status ≢ 4 → W.faults sink.new ≡ W.faults sink.old }
 {
     match checked(alloc, &script) {
         Ok(line) => Report {

@@ -1,7 +1,8 @@
 //! What the machine is given of a script.
 
 ghost use Rattle.std.specs.Prelude.{◌≡◌, ◌++◌, IfOk, map, drop};
-ghost use Rattle.hy_top.specs.Settings.{shape_of as shape_at, setting_of as setting_at};
+ghost use Rattle.hy_bind.specs.Shapes.{defined_shape, catalog_shapes};
+ghost use Rattle.hy_top.specs.Settings.{setting_of as setting_at};
 ghost use Rattle.hy_top.specs.Program.{names_of as names_at};
 
 use hy_bound::{Schedule, Shape, Shapes, Statements, Txn, Txns};
@@ -9,12 +10,12 @@ use hy_machine::Setting;
 use hy_render::{Names, Texts};
 use hy_schema::TableDef;
 use hy_script::{NamedTxns, Script};
-use hy_seq::Seq;
+use hy_value::Seq;
 use std::alloc::{AllocError, Global};
 
 /// The shape of a table. A width past 32 bits would be want of memory.
 fn shape_of(def: &TableDef) -> Result<Shape, AllocError>
-    ensures { IfOk result (λ shape. shape ≡ shape_at def.now) }
+    ensures { IfOk result (λ shape. shape ≡ defined_shape def.now) }
 {
     match u32::try_from(def.columns.len()) {
         Ok(width) => Ok(Shape {
@@ -59,7 +60,7 @@ pub fn setting_of(alloc: Global, script: Script) -> Result<(Setting, Names, Sche
 
 /// The shapes of tables.
 fn shapes_of(alloc: Global, tables: &[TableDef]) -> Result<Shapes, AllocError>
-    ensures { IfOk result (λ shapes. shapes ≡ map shape_at tables.now) }
+    ensures { IfOk result (λ shapes. shapes ≡ catalog_shapes tables.now) }
 {
     let mut shapes = Seq::new(alloc);
     for table in tables {
@@ -74,7 +75,7 @@ fn table_names(alloc: Global, tables: &[TableDef]) -> Result<Texts, AllocError>
 {
     let mut names = Seq::new(alloc);
     for table in tables {
-        names.push(table.name)?;
+        names.push(table.name.copy())?;
     }
     Ok(names)
 }
@@ -85,7 +86,7 @@ fn session_names(alloc: Global, sessions: &[NamedTxns]) -> Result<Texts, AllocEr
 {
     let mut names = Seq::new(alloc);
     for session in sessions {
-        names.push(session.name)?;
+        names.push(session.name.copy())?;
     }
     Ok(names)
 }

@@ -1,4 +1,4 @@
-use Rattle.std.proofs.Common.{◌≤◌, length}
+use Rattle.std.proofs.Common.{◌≡◌, ◌≤◌, length}
 use Rattle.hy_outside.specs.Telling.{Gives}
 use Rattle.hy_outside.proofs.read_all.Given as goal
 
@@ -7,5 +7,5 @@ invariant-turns g l = record {
   advanced : l.counter ≤ length l.bytes.items;
   within : length l.bytes.items ≤ l.limit;
   given : Gives (g.R.Source.rest l.fn.source) (g.R.Source.rest l.source) l.bytes.items;
-  never_fell : g.R.Source.faults l.fn.source ≤ g.R.Source.faults l.source;
+  steady : g.R.Source.faults l.source ≡ g.R.Source.faults l.fn.source;
 }

@@ -1,4 +1,4 @@
-use Rattle.std.proofs.Common.{arith, length-drop}
+use Rattle.std.proofs.Common.{◌∙◌, arith, length-drop}
 use Rattle.std.proofs.lemmas.List.{take_rest}
 use Rattle.hy_outside.proofs.PieceByPiece.{Takes-more}
 use Rattle.hy_outside.proofs.write_all.Goals as goal
@@ -8,5 +8,5 @@ turns-preserved g c = record {
   advanced = omega (arith, length-drop c.turns.done c.args.bytes.now, c.in-Ok.ensures.some);
   within = omega (arith, length-drop c.turns.done c.args.bytes.now, c.in-Ok.ensures.bound);
   taken = Takes-more _ _ _ c.args.bytes.now c.turns.done c.in-Ok.count c.turns.invariant.taken (rw (take_rest c.args.bytes.now c.turns.done) at c.in-Ok.ensures.taken);
-  never_fell = omega (arith, c.turns.invariant.never_fell, c.in-Ok.ensures.never_fell);
+  steady = c.in-Ok.ensures.steady ∙ c.turns.invariant.steady;
 }

@@ -4,9 +4,8 @@ use hy_ast::Ast;
 use hy_bind::{BindError, BindFault, bind};
 use hy_parse::{ParseError, parse_statement};
 use hy_schema::{AddError, Catalog, Column, TableDef};
-use hy_seq::Seq;
-use hy_value::{Kind, Text};
-use std::alloc::{AllocError, Global};
+use hy_value::{Kind, Seq, Text};
+use std::alloc::Global;
 use std::test::Fail;
 
 /// Where a statement ends or what is wrong with it: 0 for its end, 1 for a token that doesn't fit, 2 for a bad
@@ -51,16 +50,16 @@ fn statements_are_parsed(rt: HostRuntime) {
 }
 
 /// The table acc of two numbers, the first of them its key.
-fn acc(alloc: Global) -> Result<TableDef, AllocError> {
+fn acc(alloc: Global) -> Result<TableDef, Fail> {
     let mut columns = Vec::new(alloc);
     for name in ["id", "bal"] {
         columns.push(Column {
-            name: Text::front(name.as_bytes()),
+            name: Text::new(alloc, name)?,
             kind: Kind::Int,
         })?;
     }
     Ok(TableDef {
-        name: Text::front(b"acc"),
+        name: Text::new(alloc, "acc")?,
         columns: Seq::from_vec(columns),
         key: Some(0),
     })
@@ -74,11 +73,11 @@ fn a_catalog_numbers_its_tables(rt: HostRuntime) -> Result<(), Fail> {
     assert!(rt; matches!(catalog.add(alloc, acc(alloc)?), Err(AddError::Duplicate)));
     for letter in b"bcdefghijklmnop" {
         let mut def = acc(alloc)?;
-        def.name = Text::front(&[*letter]);
+        def.name = Text::from_bytes(alloc, &[*letter])?;
         assert!(rt; catalog.add(alloc, def).is_ok());
     }
     let mut def = acc(alloc)?;
-    def.name = Text::front(b"q");
+    def.name = Text::new(alloc, "q")?;
     assert!(rt; matches!(catalog.add(alloc, def), Err(AddError::Limit)));
     assert_eq!(rt; catalog.find(b"acc"), Some(0));
     assert_eq!(rt; catalog.find(b"x"), None);

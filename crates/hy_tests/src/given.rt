@@ -1,13 +1,16 @@
-//! A transaction that runs alone over tables, both from their text: what it is told, and what it leaves.
+//! What tests are given: rows, conditions and assignments; and a transaction that runs alone over tables, both
+//! from their text: what it is told, and what it leaves.
 
-use hy_bound::{Bound, Record, Replies, Rows, Shape, Shapes, Statements, Txn, records};
+use hy_bound::{
+    Assign, Bound, Pred, Record, Replies, Rows, SetExpr, Sets, Shape, Shapes, Side, Statements, Txn,
+};
 use hy_meaning::{Tables, copy_rows};
+use hy_plan::records;
 use hy_render::{Ending, Names, Outcome, TxnOutcome, render};
 use hy_schema::TableDef;
 use hy_script::{Dialect, Options, Script};
-use hy_seq::Seq;
 use hy_stamp::Label;
-use hy_value::{Row, Text, Value, print_row};
+use hy_value::{Cmp, Row, Seq, Text, Value, copy_values, print_row};
 use std::alloc::{AllocError, Global};
 use std::process::Abort;
 use std::test::Fail;
@@ -25,13 +28,13 @@ struct Given {
 
 /// What a transaction that ran alone was told, and what it left.
 #[derive(Drop)]
-struct Told {
+pub struct Told {
     /// The replies, as they are printed.
-    replies: String,
+    pub replies: String,
     /// The rows of all tables after it, each printed and followed by a space.
-    rows: String,
+    pub rows: String,
     /// The number of the statement at which it stopped.
-    stop: Option<u32>,
+    pub stop: Option<u32>,
 }
 
 /// The types inside a script. A function that moves them names them once, since the checker looks for the
@@ -39,13 +42,56 @@ struct Told {
 type Met = Option<(Txn, Statements, Bound)>;
 
 /// A text value.
-pub fn text(word: &str) -> Value {
-    Value::Text(Text::front(word.as_bytes()))
+pub fn text(alloc: Global, word: &str) -> Result<Value, Fail> {
+    Ok(Value::Text(Text::new(alloc, word)?))
 }
 
 /// A row.
 pub fn row(alloc: Global, values: &[Value]) -> Result<Row, AllocError> {
-    Seq::from_slice(alloc, values)
+    Ok(Seq::from_vec(copy_values(alloc, values)?))
+}
+
+/// A row of numbers.
+pub fn number_row(alloc: Global, numbers: &[i64]) -> Result<Row, AllocError> {
+    let mut values = Seq::new(alloc);
+    for number in numbers {
+        values.push(Value::Int(*number))?;
+    }
+    Ok(values)
+}
+
+/// A column compared with a number.
+pub fn compare(alloc: Global, column: u32, op: Cmp, number: i64) -> Result<Pred, AllocError> {
+    Pred::compare(alloc, column, op, Side::Literal(Value::Int(number)))
+}
+
+/// The assignment of a number to a column.
+pub fn set_number(alloc: Global, column: u32, number: i64) -> Result<Sets, AllocError> {
+    let mut sets = Seq::new(alloc);
+    sets.push(Assign {
+        column,
+        value: SetExpr::literal(alloc, Value::Int(number))?,
+    })?;
+    Ok(sets)
+}
+
+/// Rows as they are printed, each followed by a space.
+pub fn printed_rows(alloc: Global, rows: &[Row]) -> Result<String, Fail> {
+    let mut bytes = Vec::new(alloc);
+    for row in rows {
+        print_row(row, &mut bytes)?;
+        bytes.push(b' ')?;
+    }
+    Ok(String::from_utf8(bytes)?)
+}
+
+/// The rows of tables as they are printed, each followed by a space.
+pub fn printed_tables(alloc: Global, tables: &[Rows]) -> Result<String, Fail> {
+    let mut all = String::new(alloc);
+    for table in tables {
+        all.push_str(printed_rows(alloc, table.as_slice())?.as_str())?;
+    }
+    Ok(all)
 }
 
 /// The tables that a script creates and fills, and the statements of its one transaction, which is begun
@@ -106,36 +152,30 @@ fn run_alone(alloc: Global, tables: &str, begin: &str, statements: &str) -> Resu
         first,
         statements,
     } = read_given(alloc, tables, begin, statements)?;
+    tell_alone(alloc, shapes.as_slice(), statements.as_slice(), first)
+}
+
+/// What the transaction of these statements is told, and what it leaves, over tables of these shapes.
+pub fn tell_alone(
+    alloc: Global,
+    shapes: &[Shape],
+    statements: &[Bound],
+    first: Tables,
+) -> Result<Told, Fail> {
     if statements.len() > 256 {
         return Err(Fail::from("a transaction has at most 256 statements"));
     }
-    let (replies, after, stop) = hy_meaning::alone(
-        alloc,
-        shapes.as_slice(),
-        statements.as_slice(),
-        first,
-    )?;
+    let mut tables = first;
+    let (replies, stop) = hy_meaning::alone(alloc, shapes, statements, &mut tables)?;
     Ok(Told {
         replies: printed(alloc, replies)?,
-        rows: rows_of(alloc, &after)?,
+        rows: printed_tables(alloc, tables.as_slice())?,
         stop: stop.map(|stop| stop.statement),
     })
 }
 
-/// The rows of tables, each printed and followed by a space.
-fn rows_of(alloc: Global, tables: &Tables) -> Result<String, Fail> {
-    let mut bytes = Vec::new(alloc);
-    for table in tables.as_slice() {
-        for row in table.as_slice() {
-            print_row(row, &mut bytes)?;
-            bytes.push(b' ')?;
-        }
-    }
-    Ok(String::from_utf8(bytes)?)
-}
-
 /// Replies as they are printed between the first line of their transaction and the last.
-fn printed(alloc: Global, replies: Replies) -> Result<String, Fail> {
+pub fn printed(alloc: Global, replies: Replies) -> Result<String, Fail> {
     let mut txns = Seq::new(alloc);
     txns.push(TxnOutcome {
         label: Label { session: 0, txn: 1 },

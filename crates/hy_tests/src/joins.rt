@@ -1,9 +1,8 @@
 //! Joins and the order of what is shown, by statements that run alone.
 
-use crate::given::{asserts_selects, row, text};
+use crate::given::{asserts_selects, printed_rows, row, text};
 use hy_bound::{Items, Pred, Reply};
-use hy_seq::Seq;
-use hy_value::{Value, print_row};
+use hy_value::{Seq, Value};
 use std::test::Fail;
 
 /// A table with a key, and one without.
@@ -174,10 +173,10 @@ fn numbers_are_shown_before_texts(rt: HostRuntime) -> Result<(), Fail> {
     let alloc = rt.alloc();
     let mut rows = Seq::new(alloc);
     for value in [
-        text("a"),
+        text(alloc, "a")?,
         Value::Int(9),
         Value::Null,
-        text(""),
+        text(alloc, "")?,
         Value::Int(-1),
     ] {
         rows.push(row(alloc, &[value])?)?;
@@ -189,12 +188,8 @@ fn numbers_are_shown_before_texts(rt: HostRuntime) -> Result<(), Fail> {
     let Reply::Rows(shown) = reply else {
         return Err(Fail::from("a SELECT has rows"));
     };
-    let mut text = Vec::new(alloc);
-    for row in shown.as_slice() {
-        print_row(row, &mut text)?;
-        text.push(b' ')?;
-    }
-    assert_eq!(rt; text.as_slice(), b"NULL -1 9 '' 'a' ".as_slice());
+    let lines = printed_rows(alloc, shown.as_slice())?;
+    assert_eq!(rt; lines.as_str(), "NULL -1 9 '' 'a' ");
     Ok(())
 }
 

@@ -1,15 +1,13 @@
 //! The language beyond the first form: conditions, expressions, and what each kind of statement means
 //! and reads.
 
+use crate::given::{compare, number_row, printed, printed_tables, row};
 use hy_bound::{
-    Aggregate, Assign, Bound, Items, On, Pred, Reply, Rows, SetExpr, Shape, Side, records, truth,
-    value,
+    Aggregate, Assign, Bound, Items, On, Pred, Rows, SetExpr, Shape, Side, truth, value,
 };
 use hy_meaning::meaning;
-use hy_render::{Ending, Names, Outcome, TxnOutcome, render};
-use hy_seq::Seq;
-use hy_stamp::Label;
-use hy_value::{Cmp, Row, Value, print_row};
+use hy_plan::records;
+use hy_value::{Cmp, Seq, Value};
 use std::alloc::{AllocError, Global};
 use std::test::Fail;
 
@@ -19,68 +17,19 @@ const KEYED: Shape = Shape {
     key: Some(0),
 };
 
-/// A row.
-fn row(alloc: Global, values: &[Value]) -> Result<Row, AllocError> {
-    Seq::from_slice(alloc, values)
-}
-
 /// The rows 1|5, 2|NULL, 3|7 and 4|5.
 fn four_rows(alloc: Global) -> Result<Rows, AllocError> {
     let mut rows = Seq::new(alloc);
-    rows.push(row(alloc, &[Value::Int(1), Value::Int(5)])?)?;
+    rows.push(number_row(alloc, &[1, 5])?)?;
     rows.push(row(alloc, &[Value::Int(2), Value::Null])?)?;
-    rows.push(row(alloc, &[Value::Int(3), Value::Int(7)])?)?;
-    rows.push(row(alloc, &[Value::Int(4), Value::Int(5)])?)?;
+    rows.push(number_row(alloc, &[3, 7])?)?;
+    rows.push(number_row(alloc, &[4, 5])?)?;
     Ok(rows)
 }
 
 /// A column equal to a number.
-fn equal(column: u32, number: i64) -> Pred {
-    Pred::compare(column, Cmp::Eq, Side::Literal(Value::Int(number)))
-}
-
-/// The reply to a statement over the one table of four rows, and the table after it, as they are printed.
-fn told(alloc: Global, statement: &Bound) -> Result<(Vec<u8>, Vec<u8>), Fail> {
-    let mut tables = Seq::new(alloc);
-    tables.push(four_rows(alloc)?)?;
-    let Some(reply) = meaning(alloc, &[KEYED], statement, &mut tables)? else {
-        return Err(Fail::from("the statement has a meaning"));
-    };
-    let mut after = Vec::new(alloc);
-    for table in tables.as_slice() {
-        for row in table.as_slice() {
-            print_row(row, &mut after)?;
-            after.push(b' ')?;
-        }
-    }
-    Ok((printed(alloc, reply)?, after))
-}
-
-/// A reply as it is printed between the first line of its transaction and the last.
-fn printed(alloc: Global, reply: Reply) -> Result<Vec<u8>, Fail> {
-    let mut replies = Seq::new(alloc);
-    replies.push(reply)?;
-    let mut txns = Seq::new(alloc);
-    txns.push(TxnOutcome {
-        label: Label { session: 0, txn: 1 },
-        start: 0,
-        replies,
-        ending: Ending::Read,
-        wrote: Seq::new(alloc),
-        placed: Seq::new(alloc),
-    })?;
-    let names = Names {
-        tables: Seq::new(alloc),
-        sessions: Seq::new(alloc),
-    };
-    let outcome = Outcome {
-        txns,
-        order: Seq::new(alloc),
-        tables: Seq::new(alloc),
-    };
-    let mut text = Vec::new(alloc);
-    render(&names, &outcome, &mut text)?;
-    Ok(text)
+fn equal(alloc: Global, column: u32, number: i64) -> Result<Pred, AllocError> {
+    compare(alloc, column, Cmp::Eq, number)
 }
 
 #[test]
@@ -88,16 +37,18 @@ fn conditions_have_three_values(rt: HostRuntime) -> Result<(), Fail> {
     let alloc = rt.alloc();
     let row = row(alloc, &[Value::Int(1), Value::Null])?;
     assert!(rt; truth(&Pred::is_null(1), &row) && !truth(&Pred::is_null(0), &row));
-    assert!(rt; !truth(&Pred::not(alloc, equal(1, 1))?, &row));
-    assert!(rt; truth(&Pred::not(alloc, equal(0, 2))?, &row));
-    assert!(rt; !truth(&Pred::and(alloc, equal(0, 1), equal(1, 1))?, &row));
+    assert!(rt; !truth(&Pred::not(alloc, equal(alloc, 1, 1)?)?, &row));
+    assert!(rt; truth(&Pred::not(alloc, equal(alloc, 0, 2)?)?, &row));
+    let both = Pred::and(alloc, equal(alloc, 0, 1)?, equal(alloc, 1, 1)?)?;
+    assert!(rt; !truth(&both, &row));
     // False AND unknown is false, so that its negation is true.
-    let neither = Pred::and(alloc, equal(0, 2), equal(1, 1))?;
+    let neither = Pred::and(alloc, equal(alloc, 0, 2)?, equal(alloc, 1, 1)?)?;
     assert!(rt; truth(&Pred::not(alloc, neither.copy(alloc)?)?, &row));
-    assert!(rt; truth(&Pred::or(alloc, equal(1, 1), equal(0, 1))?, &row));
-    assert!(rt; !truth(&Pred::or(alloc, equal(1, 1), neither)?, &row));
-    assert!(rt; truth(&Pred::compare(0, Cmp::Le, Side::Column(0)), &row));
-    assert!(rt; !truth(&Pred::compare(1, Cmp::Eq, Side::Column(1)), &row));
+    let either = Pred::or(alloc, equal(alloc, 1, 1)?, equal(alloc, 0, 1)?)?;
+    assert!(rt; truth(&either, &row));
+    assert!(rt; !truth(&Pred::or(alloc, equal(alloc, 1, 1)?, neither)?, &row));
+    assert!(rt; truth(&Pred::compare(alloc, 0, Cmp::Le, Side::Column(0))?, &row));
+    assert!(rt; !truth(&Pred::compare(alloc, 1, Cmp::Eq, Side::Column(1))?, &row));
     Ok(())
 }
 
@@ -105,11 +56,11 @@ fn conditions_have_three_values(rt: HostRuntime) -> Result<(), Fail> {
 fn expressions_leave_64_bits_or_not(rt: HostRuntime) -> Result<(), Fail> {
     let alloc = rt.alloc();
     let row = row(alloc, &[Value::Int(i64::MAX), Value::Null])?;
-    let one = SetExpr::literal(Value::Int(1));
+    let one = SetExpr::literal(alloc, Value::Int(1))?;
     let less = SetExpr::sub(alloc, SetExpr::column(0), one)?;
-    let again = SetExpr::add(alloc, less, SetExpr::literal(Value::Int(1)))?;
+    let again = SetExpr::add(alloc, less, SetExpr::literal(alloc, Value::Int(1))?)?;
     assert!(rt; matches!(value(&again, &row), Ok(Value::Int(i64::MAX))));
-    let over = SetExpr::add(alloc, again, SetExpr::literal(Value::Int(1)))?;
+    let over = SetExpr::add(alloc, again, SetExpr::literal(alloc, Value::Int(1))?)?;
     assert!(rt; value(&over, &row).is_err());
     let nothing = SetExpr::mul(alloc, SetExpr::column(1), SetExpr::column(0))?;
     assert!(rt; matches!(value(&nothing, &row), Ok(Value::Null)));
@@ -120,12 +71,16 @@ fn expressions_leave_64_bits_or_not(rt: HostRuntime) -> Result<(), Fail> {
 
 /// Whether the reply to a statement over the four rows, and the rows after it, are printed so.
 fn gives(alloc: Global, statement: &Bound, reply: &str, rows: &str) -> Result<bool, Fail> {
-    let (told, after) = told(alloc, statement)?;
-    let text = told.as_slice();
-    let front = b"txn .1 start 0\n".len();
-    let back = b"read\norder 0\nend\n".len();
-    let same = text.len() >= front + back && &text[front..text.len() - back] == reply.as_bytes();
-    Ok(same && after.as_slice() == rows.as_bytes())
+    let mut tables = Seq::new(alloc);
+    tables.push(four_rows(alloc)?)?;
+    let Some(told) = meaning(alloc, &[KEYED], statement, &mut tables)? else {
+        return Err(Fail::from("the statement has a meaning"));
+    };
+    let mut replies = Seq::new(alloc);
+    replies.push(told)?;
+    let told = printed(alloc, replies)?;
+    let after = printed_tables(alloc, tables.as_slice())?;
+    Ok(told.as_str() == reply && after.as_str() == rows)
 }
 
 /// The four rows as they are printed.
@@ -150,7 +105,8 @@ fn sums_pass_over_null(rt: HostRuntime) -> Result<(), Fail> {
 
 #[test]
 fn rows_are_counted(rt: HostRuntime) -> Result<(), Fail> {
-    assert!(rt; shows(rt.alloc(), equal(1, 5), Items::Count, "value 2\n")?);
+    let alloc = rt.alloc();
+    assert!(rt; shows(alloc, equal(alloc, 1, 5)?, Items::Count, "value 2\n")?);
     Ok(())
 }
 
@@ -167,7 +123,7 @@ fn groups_ascend_and_null_is_one(rt: HostRuntime) -> Result<(), Fail> {
     assert!(rt; gives(alloc, &counted, lines, FOUR)?);
     let summed = Bound::Group {
         table: 0,
-        pred: equal(1, 5),
+        pred: equal(alloc, 1, 5)?,
         key: 1,
         aggregate: Aggregate::Sum(0),
     };
@@ -180,7 +136,7 @@ fn a_row_comes_once_by_its_key(rt: HostRuntime) -> Result<(), Fail> {
     let alloc = rt.alloc();
     let again = Bound::Insert {
         table: 0,
-        row: row(alloc, &[Value::Int(3), Value::Int(0)])?,
+        row: number_row(alloc, &[3, 0])?,
     };
     assert!(rt; gives(alloc, &again, "duplicate\n", FOUR)?);
     let new = Bound::Insert {
@@ -196,7 +152,7 @@ fn selected_rows_go(rt: HostRuntime) -> Result<(), Fail> {
     let alloc = rt.alloc();
     let fives = Bound::Delete {
         table: 0,
-        pred: equal(1, 5),
+        pred: equal(alloc, 1, 5)?,
     };
     assert!(rt; gives(alloc, &fives, "deleted 2\n", "2|NULL 3|7 ")?);
     Ok(())
@@ -209,7 +165,7 @@ fn join(alloc: Global) -> Result<Bound, AllocError> {
     Ok(Bound::Select {
         tables: Seq::from_slice(alloc, &[0, 0])?,
         ons: Seq::from_slice(alloc, &[on])?,
-        pred: Pred::and(alloc, equal(0, 1), equal(3, 5))?,
+        pred: Pred::and(alloc, equal(alloc, 0, 1)?, equal(alloc, 3, 5)?)?,
         items: Items::Columns(Seq::from_slice(alloc, &[2])?),
     })
 }
@@ -237,8 +193,8 @@ fn a_join_reads_each_table_by_itself(rt: HostRuntime) -> Result<(), Fail> {
     gathered.push(four_rows(alloc)?)?;
     gathered.push(four_rows(alloc)?)?;
     let all = records(alloc, &[KEYED], &join(alloc)?, 1, gathered.as_slice())?;
-    let one = row(alloc, &[Value::Int(1), Value::Int(0)])?;
-    let five = row(alloc, &[Value::Int(0), Value::Int(5)])?;
+    let one = number_row(alloc, &[1, 0])?;
+    let five = number_row(alloc, &[0, 5])?;
     let [left, right] = all.as_slice() else {
         return Err(Fail::from("two tables have two records"));
     };
@@ -252,8 +208,8 @@ fn a_join_reads_each_table_by_itself(rt: HostRuntime) -> Result<(), Fail> {
 #[test]
 fn an_insert_looks_for_its_key(rt: HostRuntime) -> Result<(), Fail> {
     let alloc = rt.alloc();
-    let new = row(alloc, &[Value::Int(3), Value::Int(0)])?;
-    let same = row(alloc, &[Value::Int(3), Value::Int(9)])?;
+    let new = number_row(alloc, &[3, 0])?;
+    let same = number_row(alloc, &[3, 9])?;
     let insert = Bound::Insert { table: 0, row: new };
     let looked = records(alloc, &[KEYED], &insert, 1, &[])?;
     let [key] = looked.as_slice() else {
@@ -273,7 +229,7 @@ fn names(alloc: Global, statement: &Bound, first: bool, second: bool) -> Result<
 }
 
 #[test]
-fn statements_read_what_they_name(rt: HostRuntime) -> Result<(), Fail> {
+fn an_update_reads_what_it_names(rt: HostRuntime) -> Result<(), Fail> {
     let alloc = rt.alloc();
     let mut sets = Seq::new(alloc);
     sets.push(Assign {
@@ -286,6 +242,12 @@ fn statements_read_what_they_name(rt: HostRuntime) -> Result<(), Fail> {
         pred: Pred::is_null(0),
     };
     assert!(rt; names(alloc, &update, true, true)?);
+    Ok(())
+}
+
+#[test]
+fn groups_read_what_they_name(rt: HostRuntime) -> Result<(), Fail> {
+    let alloc = rt.alloc();
     let group = Bound::Group {
         table: 0,
         pred: Pred::always(),
@@ -293,9 +255,15 @@ fn statements_read_what_they_name(rt: HostRuntime) -> Result<(), Fail> {
         aggregate: Aggregate::Sum(1),
     };
     assert!(rt; names(alloc, &group, true, true)?);
+    Ok(())
+}
+
+#[test]
+fn a_delete_reads_what_it_names(rt: HostRuntime) -> Result<(), Fail> {
+    let alloc = rt.alloc();
     let delete = Bound::Delete {
         table: 0,
-        pred: equal(1, 5),
+        pred: equal(alloc, 1, 5)?,
     };
     assert!(rt; names(alloc, &delete, false, true)?);
     Ok(())

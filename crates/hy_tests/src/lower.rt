@@ -1,76 +1,62 @@
 //! One row for each call of the lower crates, with ample memory.
 
-use hy_bound::{Assign, Pred, Record, SetExpr, Side};
+use crate::given::{compare, number_row, printed_rows, row, set_number, text};
+use hy_bound::{Pred, Record};
 use hy_outside::{
-    CleanSink, CleanSource, MemSink, MemSource, ReadAllError, Sink, Source, StdSink, StdSource,
-    read_all, write_all,
+    CleanSink, CleanSource, MemSink, MemSource, ReadAllError, Sink, Source, read_all, write_all,
 };
-use hy_seq::Seq;
 use hy_stamp::{Clock, Label};
 use hy_token::{Bad, Keyword, Sign, Span, Token};
-use hy_value::{Cmp, ColMask, Row, Text, TextFault, Value};
-use std::alloc::{AllocError, Global};
+use hy_value::{Cmp, ColMask, Text, TextFault, Value};
 use std::test::Fail;
-
-/// A row of numbers.
-fn row(alloc: Global, numbers: &[i64]) -> Result<Row, AllocError> {
-    let mut values = Vec::new(alloc);
-    for number in numbers {
-        values.push(Value::Int(*number))?;
-    }
-    Ok(Seq::from_vec(values))
-}
-
-/// A column compared with a number.
-fn compare(column: u32, op: Cmp, number: i64) -> Pred {
-    Pred::compare(column, op, Side::Literal(Value::Int(number)))
-}
 
 #[test]
 fn texts_keep_their_bytes(rt: HostRuntime) {
-    assert!(rt; matches!(Text::new("ab"), Ok(text) if text.as_bytes() == b"ab".as_slice()));
-    assert!(rt; matches!(Text::new("a\nb"), Err(TextFault::Control)));
-    assert!(rt; matches!(Text::new(""), Ok(text) if text.as_bytes().is_empty()));
+    let alloc = rt.alloc();
+    assert!(rt; matches!(Text::new(alloc, "ab"), Ok(text) if text.as_bytes() == b"ab".as_slice()));
+    assert!(rt; matches!(Text::new(alloc, "a\nb"), Err(TextFault::Control)));
+    assert!(rt; matches!(Text::new(alloc, ""), Ok(text) if text.as_bytes().is_empty()));
+    assert!(rt; Text::empty(alloc).as_bytes().is_empty());
 }
 
 #[test]
 fn a_text_has_at_most_255_bytes(rt: HostRuntime) -> Result<(), Fail> {
-    let mut letters = String::new(rt.alloc());
+    let alloc = rt.alloc();
+    let mut letters = String::new(alloc);
     for _ in 0..255 {
         letters.push('a')?;
     }
-    assert!(rt; Text::new(letters.as_str()).is_ok());
-    letters.push('\n')?;
-    assert!(rt; matches!(Text::new(letters.as_str()), Err(TextFault::TooLong)));
+    assert!(rt; Text::new(alloc, letters.as_str()).is_ok());
+    for last in ['a', '\n'] {
+        let mut longer = letters.clone()?;
+        longer.push(last)?;
+        assert!(rt; matches!(Text::new(alloc, longer.as_str()), Err(TextFault::TooLong)));
+    }
     Ok(())
 }
 
 #[test]
 fn values_print(rt: HostRuntime) -> Result<(), Fail> {
-    let mut out = Vec::new(rt.alloc());
-    if let Ok(text) = Text::new("o'hara") {
-        hy_value::print(&Value::Text(text), &mut out)?;
-    }
+    let alloc = rt.alloc();
+    let mut out = Vec::new(alloc);
+    hy_value::print(&text(alloc, "o'hara")?, &mut out)?;
     hy_value::print(&Value::Int(-5), &mut out)?;
     hy_value::print(&Value::Null, &mut out)?;
-    hy_value::print_row(&row(rt.alloc(), &[1, 100])?, &mut out)?;
+    hy_value::print_row(&number_row(alloc, &[1, 100])?, &mut out)?;
     assert_eq!(rt; out.as_slice(), b"'o''hara'-5NULL1|100".as_slice());
     Ok(())
 }
 
 #[test]
 fn rows_sort_by_their_first_differing_column(rt: HostRuntime) -> Result<(), Fail> {
-    let mut rows = Vec::new(rt.alloc());
+    let alloc = rt.alloc();
+    let mut rows = Vec::new(alloc);
     for numbers in [[2, 1], [1, 9], [-3, 0], [1, 2]] {
-        rows.push(row(rt.alloc(), &numbers)?)?;
+        rows.push(number_row(alloc, &numbers)?)?;
     }
     hy_value::sort_rows(&mut rows)?;
-    let mut out = Vec::new(rt.alloc());
-    for sorted in &rows {
-        hy_value::print_row(sorted, &mut out)?;
-        out.push(b' ')?;
-    }
-    assert_eq!(rt; out.as_slice(), b"-3|0 1|2 1|9 2|1 ".as_slice());
+    let sorted = printed_rows(alloc, rows.as_slice())?;
+    assert_eq!(rt; sorted.as_str(), "-3|0 1|2 1|9 2|1 ");
     Ok(())
 }
 
@@ -127,24 +113,13 @@ fn a_sink_takes_what_it_has_room_for(rt: HostRuntime) -> Result<(), Fail> {
     let mut small = MemSink::new(rt.alloc(), 2, Vec::new(rt.alloc()))?;
     assert!(rt; write_all(&mut small, b"abc").is_err());
     assert_eq!(rt; small.bytes(), b"ab".as_slice());
+    assert!(rt; small.write(b"").is_err());
     let mut broken = MemSink::new(rt.alloc(), 3, [1].to_vec(rt.alloc())?)?;
     assert!(rt; write_all(&mut broken, b"abc").is_err());
     assert!(rt; broken.bytes().is_empty());
     let mut clean = CleanSink::new();
     assert!(rt; write_all(&mut clean, b"abc").is_ok());
     assert_eq!(rt; clean.count(), 3);
-    Ok(())
-}
-
-#[test]
-fn the_adapters_pass_bytes_on(rt: HostRuntime) -> Result<(), Fail> {
-    let mut source = StdSource::new(b"abc".as_slice());
-    assert!(rt;
-        matches!(read_all(rt.alloc(), &mut source, 9), Ok(read) if read.as_slice() == b"abc".as_slice())
-    );
-    let mut room = [0u8; 2];
-    let mut sink = StdSink::new(room.as_mut_slice());
-    assert!(rt; write_all(&mut sink, b"abc").is_err());
     Ok(())
 }
 
@@ -187,14 +162,15 @@ fn tokens_are_found(rt: HostRuntime) {
 
 #[test]
 fn predicates_and_hits(rt: HostRuntime) -> Result<(), Fail> {
-    let before = row(rt.alloc(), &[1, 100])?;
-    let after = row(rt.alloc(), &[1, 5])?;
-    assert!(rt; hy_bound::truth(&compare(1, Cmp::Gt, 50), &before));
-    assert!(rt; !hy_bound::truth(&compare(1, Cmp::Gt, 100), &before));
+    let alloc = rt.alloc();
+    let before = number_row(alloc, &[1, 100])?;
+    let after = number_row(alloc, &[1, 5])?;
+    assert!(rt; hy_bound::truth(&compare(alloc, 1, Cmp::Gt, 50)?, &before));
+    assert!(rt; !hy_bound::truth(&compare(alloc, 1, Cmp::Gt, 100)?, &before));
     let log = Record {
         statement: 1,
         table: 0,
-        pred: compare(1, Cmp::Eq, 100),
+        pred: compare(alloc, 1, Cmp::Eq, 100)?,
         columns: ColMask::none().with(1),
     };
     assert!(rt; hy_bound::hits(&log, Some(&before), Some(&after)));
@@ -211,30 +187,20 @@ fn predicates_and_hits(rt: HostRuntime) -> Result<(), Fail> {
 
 #[test]
 fn null_makes_a_comparison_unknown(rt: HostRuntime) -> Result<(), Fail> {
-    let mut values = Vec::new(rt.alloc());
-    values.push(Value::Null)?;
-    let empty: Row = Seq::from_vec(values);
-    assert!(rt; !hy_bound::truth(&compare(0, Cmp::Eq, 1), &empty));
-    assert!(rt; !hy_bound::truth(&compare(0, Cmp::Ne, 1), &empty));
+    let alloc = rt.alloc();
+    let empty = row(alloc, &[Value::Null])?;
+    assert!(rt; !hy_bound::truth(&compare(alloc, 0, Cmp::Eq, 1)?, &empty));
+    assert!(rt; !hy_bound::truth(&compare(alloc, 0, Cmp::Ne, 1)?, &empty));
     Ok(())
 }
 
 #[test]
 fn set_reads_the_row_before(rt: HostRuntime) -> Result<(), Fail> {
-    let mut sets = Vec::new(rt.alloc());
-    sets.push(Assign {
-        column: 1,
-        value: SetExpr::literal(Value::Int(90)),
-    })?;
-    let new = hy_bound::set_row(
-        rt.alloc(),
-        &Seq::from_vec(sets),
-        &row(rt.alloc(), &[1, 100])?,
-    )?;
-    let mut out = Vec::new(rt.alloc());
-    if let Some(new) = new {
-        hy_value::print_row(&new, &mut out)?;
-    }
-    assert_eq!(rt; out.as_slice(), b"1|90".as_slice());
+    let alloc = rt.alloc();
+    let before = number_row(alloc, &[1, 100])?;
+    let Some(new) = hy_bound::set_row(alloc, &set_number(alloc, 1, 90)?, &before)? else {
+        return Err(Fail::from("the number is in range"));
+    };
+    assert_eq!(rt; printed_rows(alloc, &[new])?.as_str(), "1|90 ");
     Ok(())
 }

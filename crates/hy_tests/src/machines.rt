@@ -1,13 +1,11 @@
 //! The machine step by step, and the records of reads.
 
-use hy_bound::{
-    Assign, Bound, Item, Items, Pred, SetExpr, Shape, Shapes, Side, Statements, Txn, Txns,
-};
+use crate::given::{compare, number_row, set_number};
+use hy_bound::{Bound, Item, Items, Shape, Shapes, Statements, Txn, Txns};
 use hy_machine::{Machine, Setting, Stepped, opening, outcome, step};
 use hy_render::Ending;
-use hy_seq::Seq;
 use hy_stamp::Label;
-use hy_value::{Cmp, Value};
+use hy_value::{Cmp, Seq};
 use std::alloc::{AllocError, Global};
 use std::process::Abort;
 use std::test::Fail;
@@ -18,32 +16,22 @@ const ONE_COLUMN: Shape = Shape {
     key: None,
 };
 
-/// The one column compared with a number.
-fn compare(op: Cmp, number: i64) -> Pred {
-    Pred::compare(0, op, Side::Literal(Value::Int(number)))
-}
-
 /// SELECT of the one column of the one table, where it is above 0.
 fn select(alloc: Global) -> Result<Bound, AllocError> {
     Ok(Bound::Select {
         tables: Seq::from_slice(alloc, &[0])?,
         ons: Seq::new(alloc),
-        pred: compare(Cmp::Gt, 0),
+        pred: compare(alloc, 0, Cmp::Gt, 0)?,
         items: Items::Columns(Seq::from_slice(alloc, &[0])?),
     })
 }
 
 /// UPDATE of the one column to 5, where it is 1.
 fn update(alloc: Global) -> Result<Bound, AllocError> {
-    let mut sets = Seq::new(alloc);
-    sets.push(Assign {
-        column: 0,
-        value: SetExpr::literal(Value::Int(5)),
-    })?;
     Ok(Bound::Update {
         table: 0,
-        sets,
-        pred: compare(Cmp::Eq, 1),
+        sets: set_number(alloc, 0, 5)?,
+        pred: compare(alloc, 0, Cmp::Eq, 1)?,
     })
 }
 
@@ -63,7 +51,7 @@ fn program(alloc: Global, statement: Bound) -> Result<Txns, AllocError> {
 /// A table of one row, a writer and a reader.
 fn writer_and_reader(alloc: Global) -> Result<Setting, AllocError> {
     let mut rows = Seq::new(alloc);
-    rows.push(Seq::from_slice(alloc, &[Value::Int(1)])?)?;
+    rows.push(number_row(alloc, &[1])?)?;
     let mut first = Seq::new(alloc);
     first.push(rows)?;
     let mut programs = Seq::new(alloc);
@@ -144,7 +132,7 @@ fn a_schedule_of_single_steps_is_run(rt: HostRuntime) -> Result<(), Fail> {
 #[test]
 fn an_update_logs_what_its_condition_reads(rt: HostRuntime) -> Result<(), Fail> {
     let alloc = rt.alloc();
-    let all = hy_bound::records(alloc, &[ONE_COLUMN], &update(alloc)?, 3, &[])?;
+    let all = hy_plan::records(alloc, &[ONE_COLUMN], &update(alloc)?, 3, &[])?;
     assert_eq!(rt; all.len(), 1);
     for of in all.as_slice() {
         assert_eq!(rt; of.statement, 3);

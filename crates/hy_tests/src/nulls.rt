@@ -1,10 +1,9 @@
 //! NULL on each side of each operator, in each kind of statement.
 
-use crate::given::{asserts_alone, asserts_selects, row, text};
+use crate::given::{asserts_alone, asserts_selects, compare, row, text};
 use hy_bound::{Bound, Pred, Reply, SetExpr, Shape, Side, truth, value};
 use hy_meaning::meaning;
-use hy_seq::Seq;
-use hy_value::{Cmp, Row, Value};
+use hy_value::{Cmp, Row, Seq, Value};
 use std::alloc::{AllocError, Global};
 use std::test::Fail;
 
@@ -28,11 +27,11 @@ fn sense(alloc: Global, pred: Pred, row: &Row) -> Result<Option<bool>, AllocErro
 fn null_beside_a_comparison_makes_it_unknown(rt: HostRuntime) -> Result<(), Fail> {
     let alloc = rt.alloc();
     // NULL, 1, 'a'
-    let row = row(alloc, &[Value::Null, Value::Int(1), text("a")])?;
+    let row = row(alloc, &[Value::Null, Value::Int(1), text(alloc, "a")?])?;
     for op in OPERATORS {
         for (column, side) in [
             (0, Side::Literal(Value::Int(1))),
-            (0, Side::Literal(text("a"))),
+            (0, Side::Literal(text(alloc, "a")?)),
             (0, Side::Literal(Value::Null)),
             (1, Side::Literal(Value::Null)),
             (2, Side::Literal(Value::Null)),
@@ -41,10 +40,10 @@ fn null_beside_a_comparison_makes_it_unknown(rt: HostRuntime) -> Result<(), Fail
             (1, Side::Column(0)),
             (2, Side::Column(0)),
         ] {
-            let unknown = sense(alloc, Pred::compare(column, op, side), &row)?;
+            let unknown = sense(alloc, Pred::compare(alloc, column, op, side)?, &row)?;
             assert!(rt; unknown.is_none(), "column {column} {op:?}");
         }
-        let known = sense(alloc, Pred::compare(1, op, Side::Column(1)), &row)?;
+        let known = sense(alloc, Pred::compare(alloc, 1, op, Side::Column(1))?, &row)?;
         assert_eq!(rt;
             known,
             Some(matches!(op, Cmp::Eq | Cmp::Le | Cmp::Ge)),
@@ -55,13 +54,13 @@ fn null_beside_a_comparison_makes_it_unknown(rt: HostRuntime) -> Result<(), Fail
 }
 
 /// A condition on the row NULL, 1 that is true, false or unknown.
-fn condition(sense: Option<bool>) -> Pred {
+fn condition(alloc: Global, sense: Option<bool>) -> Result<Pred, AllocError> {
     let (column, number) = match sense {
         Some(true) => (1, 1),
         Some(false) => (1, 2),
         None => (0, 1),
     };
-    Pred::compare(column, Cmp::Eq, Side::Literal(Value::Int(number)))
+    compare(alloc, column, Cmp::Eq, number)
 }
 
 #[test]
@@ -81,13 +80,13 @@ fn connectives_have_three_values(rt: HostRuntime) -> Result<(), Fail> {
         (unknown, no, no, unknown),
         (unknown, unknown, unknown, unknown),
     ] {
-        let and = Pred::and(alloc, condition(left), condition(right))?;
+        let and = Pred::and(alloc, condition(alloc, left)?, condition(alloc, right)?)?;
         assert_eq!(rt; sense(alloc, and, &row)?, both, "{left:?} AND {right:?}");
-        let or = Pred::or(alloc, condition(left), condition(right))?;
+        let or = Pred::or(alloc, condition(alloc, left)?, condition(alloc, right)?)?;
         assert_eq!(rt; sense(alloc, or, &row)?, either, "{left:?} OR {right:?}");
     }
     for (inner, outer) in [(yes, no), (no, yes), (unknown, unknown)] {
-        let not = Pred::not(alloc, condition(inner))?;
+        let not = Pred::not(alloc, condition(alloc, inner)?)?;
         assert_eq!(rt; sense(alloc, not, &row)?, outer, "NOT {inner:?}");
     }
     Ok(())
@@ -96,7 +95,7 @@ fn connectives_have_three_values(rt: HostRuntime) -> Result<(), Fail> {
 #[test]
 fn is_null_is_never_unknown(rt: HostRuntime) -> Result<(), Fail> {
     let alloc = rt.alloc();
-    let row = row(alloc, &[Value::Null, Value::Int(0), text("")])?;
+    let row = row(alloc, &[Value::Null, Value::Int(0), text(alloc, "")?])?;
     for (column, wanted) in [(0, true), (1, false), (2, false)] {
         let is_null = sense(alloc, Pred::is_null(column), &row)?;
         assert_eq!(rt; is_null, Some(wanted), "column {column}");
@@ -120,8 +119,8 @@ fn combined(
 
 /// A sum that leaves 64 bits.
 fn too_large(alloc: Global) -> Result<SetExpr, AllocError> {
-    let most = SetExpr::literal(Value::Int(i64::MAX));
-    SetExpr::add(alloc, most, SetExpr::literal(Value::Int(1)))
+    let most = SetExpr::literal(alloc, Value::Int(i64::MAX))?;
+    SetExpr::add(alloc, most, SetExpr::literal(alloc, Value::Int(1))?)
 }
 
 #[test]
@@ -331,8 +330,8 @@ fn a_key_that_is_null_is_no_duplicate(rt: HostRuntime) -> Result<(), Fail> {
     for (there, new, wanted) in [
         (Value::Int(1), Value::Int(1), true),
         (Value::Int(1), Value::Int(2), false),
-        (text("a"), text("a"), true),
-        (text("a"), text("A"), false),
+        (text(alloc, "a")?, text(alloc, "a")?, true),
+        (text(alloc, "a")?, text(alloc, "A")?, false),
         (Value::Null, Value::Null, false),
         (Value::Null, Value::Int(1), false),
         (Value::Int(1), Value::Null, false),

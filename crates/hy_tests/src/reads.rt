@@ -1,9 +1,9 @@
 //! What statements log of their reads, a join key by key, and which changes hit it.
 
-use crate::given::{logged, row, text};
-use hy_bound::{Bound, Items, On, Pred, Record, Records, Rows, Shape, Side, hits, records, truth};
-use hy_seq::Seq;
-use hy_value::{Cmp, ColMask, Value};
+use crate::given::{compare, logged, number_row, row, text};
+use hy_bound::{Bound, Items, On, Record, Records, Rows, Shape, hits, truth};
+use hy_plan::records;
+use hy_value::{Cmp, ColMask, Seq, Value};
 use std::alloc::{AllocError, Global};
 use std::test::Fail;
 
@@ -34,7 +34,7 @@ fn keys(alloc: Global, all: &Records, digits: &[u8]) -> Result<String, Fail> {
         }
         for digit in digits {
             let number = i64::from(*digit) - i64::from(b'0');
-            let there = row(alloc, &[Value::Int(number), Value::Int(100)])?;
+            let there = number_row(alloc, &[number, 100])?;
             if truth(&of.pred, &there) {
                 found.push(*digit)?;
             }
@@ -55,9 +55,9 @@ fn a_table_is_looked_up_by_the_keys_that_are_read(rt: HostRuntime) -> Result<(),
     assert_eq!(rt; (own.statement, own.table), (1, 0));
     assert_eq!(rt; own.columns, both_columns());
     for (aid, who, wanted) in [
-        (Value::Int(1), text("ann"), true),
-        (Value::Int(8), text("ann"), true),
-        (Value::Int(1), text("bob"), false),
+        (Value::Int(1), text(alloc, "ann")?, true),
+        (Value::Int(8), text(alloc, "ann")?, true),
+        (Value::Int(1), text(alloc, "bob")?, false),
         (Value::Int(1), Value::Null, false),
     ] {
         assert_eq!(rt; truth(&own.pred, &row(alloc, &[aid, who])?), wanted);
@@ -152,7 +152,7 @@ fn on_may_compare_the_key_with_its_own_table(rt: HostRuntime) -> Result<(), Fail
     assert_eq!(rt; own.columns, ColMask::none().with(1));
     assert_eq!(rt; acc.columns, both_columns());
     for (id, bal, wanted) in [(5, 5, true), (5, 6, false), (100, 100, true)] {
-        let there = row(alloc, &[Value::Int(id), Value::Int(bal)])?;
+        let there = number_row(alloc, &[id, bal])?;
         assert_eq!(rt; truth(&acc.pred, &there), wanted, "{id} {bal}");
     }
     Ok(())
@@ -190,7 +190,7 @@ fn is_hit(
     let mut rows = Seq::new(alloc);
     for numbers in [before, after] {
         rows.push(match numbers {
-            Some((id, bal)) => Some(row(alloc, &[Value::Int(id), Value::Int(bal)])?),
+            Some((id, bal)) => Some(number_row(alloc, &[id, bal])?),
             None => None,
         })?;
     }
@@ -232,10 +232,10 @@ fn changes_hit_what_was_looked_up(rt: HostRuntime) -> Result<(), Fail> {
 fn many(alloc: Global, numbers: i64) -> Result<Records, Fail> {
     let mut left: Rows = Seq::new(alloc);
     for number in 1..=numbers {
-        left.push(row(alloc, &[Value::Int(number)])?)?;
+        left.push(number_row(alloc, &[number])?)?;
     }
     left.push(row(alloc, &[Value::Null])?)?;
-    left.push(row(alloc, &[Value::Int(1)])?)?;
+    left.push(number_row(alloc, &[1])?)?;
     let mut gathered = Seq::new(alloc);
     gathered.push(left)?;
     gathered.push(Seq::new(alloc))?;
@@ -252,7 +252,7 @@ fn many(alloc: Global, numbers: i64) -> Result<Records, Fail> {
     let select = Bound::Select {
         tables: Seq::from_slice(alloc, &[0, 1])?,
         ons: Seq::from_slice(alloc, &[On { left: 0, right: 1 }])?,
-        pred: Pred::compare(1, Cmp::Ge, Side::Literal(Value::Int(1))),
+        pred: compare(alloc, 1, Cmp::Ge, 1)?,
         items: Items::Count,
     };
     Ok(records(alloc, &shapes, &select, 1, gathered.as_slice())?)
@@ -260,7 +260,7 @@ fn many(alloc: Global, numbers: i64) -> Result<Records, Fail> {
 
 /// Whether a record is true of a row of this number.
 fn is_true_of(alloc: Global, of: &Record, number: i64) -> Result<bool, AllocError> {
-    Ok(truth(&of.pred, &row(alloc, &[Value::Int(number)])?))
+    Ok(truth(&of.pred, &number_row(alloc, &[number])?))
 }
 
 #[test]

@@ -1,4 +1,5 @@
--- Statements as they are written, without where their parts lie in memory.
+-- Statements as they are written, without where their parts lie in memory: each tree of the program and the tree of
+-- the same name that contracts see.
 use Rattle.std.specs.Prelude.{Bool, List, Option, map}
 use Rattle.std.specs.Option.{option_map}
 use Rattle.hy_token.specs.declared.Span.{Span}
@@ -12,15 +13,13 @@ use Rattle.hy_ast.specs.declared.Join.{Join}
 use Rattle.hy_ast.specs.declared.Turn.{Turn}
 use Rattle.hy_ast.specs.declared.Total.{Total}
 use Rattle.hy_ast.specs.declared.Listed.{Listed}
-use Rattle.hy_ast.specs.declared.Condition.{Condition}
-use Rattle.hy_ast.specs.declared.Condition as condition
-use Rattle.hy_ast.specs.declared.Expression.{Expression}
-use Rattle.hy_ast.specs.declared.Expression as expression
-use Rattle.hy_ast.specs.declared.Assignment.{Assignment}
-use Rattle.hy_ast.specs.declared.Query.{Query}
-use Rattle.hy_ast.specs.declared.Query.TheVariants as query
-use Rattle.hy_ast.specs.declared.Ast.{Ast}
-use Rattle.hy_ast.specs.declared.Ast.TheVariants as ast
+use Rattle.hy_ast.specs.declared.Test as boxed_test
+use Rattle.hy_ast.specs.declared.Formula as boxed_formula
+use Rattle.hy_ast.specs.declared.SetClause as boxed_set_clause
+use Rattle.hy_ast.specs.declared.Selection as boxed_selection
+use Rattle.hy_ast.specs.declared.Selection.TheVariants as selections
+use Rattle.hy_ast.specs.declared.Statement as boxed_statement
+use Rattle.hy_ast.specs.declared.Statement.TheVariants as statements
 
 -- a condition
 pub data Test : Type 0 where
@@ -38,7 +37,7 @@ pub data Formula : Type 0 where
   Bracket : (formula : Formula) → Formula
 
 -- an assignment
-pub record Setting : Type 0 where
+pub record SetClause : Type 0 where
   pub column : Span
   pub value : Formula
 
@@ -57,41 +56,41 @@ pub data Statement : Type 0 where
   Commit : Statement
   Rollback : Statement
   Select : (selection : Selection) → Statement
-  Update : (table : Span) (sets : List Setting) (test : Option Test) → Statement
+  Update : (table : Span) (sets : List SetClause) (test : Option Test) → Statement
   Delete : (table : Span) (test : Option Test) → Statement
   Schedule : (turns : List Turn) → Statement
   End : Statement
 
-abbrev pub test_of : Condition → Test
-test_of (condition.Compare left op at right) = Compare left op at right
-test_of (condition.IsNull column at negated) = IsNull column at negated
-test_of (condition.Not' at p inner) = Not at (test_of inner)
-test_of (condition.And' p left at q right) = And (test_of left) at (test_of right)
-test_of (condition.Or' p left at q right) = Or (test_of left) at (test_of right)
-test_of (condition.Nested' p inner) = Nested (test_of inner)
+abbrev pub test_of : boxed_test.Test → Test
+test_of (boxed_test.Compare left op at right) = Compare left op at right
+test_of (boxed_test.IsNull column at negated) = IsNull column at negated
+test_of (boxed_test.Not' at p inner) = Not at (test_of inner)
+test_of (boxed_test.And' p left at q right) = And (test_of left) at (test_of right)
+test_of (boxed_test.Or' p left at q right) = Or (test_of left) at (test_of right)
+test_of (boxed_test.Nested' p inner) = Nested (test_of inner)
 
-abbrev pub formula_of : Expression → Formula
-formula_of (expression.Operand operand) = Plain operand
-formula_of (expression.Binary' p left op at q right) = Binary (formula_of left) op at (formula_of right)
-formula_of (expression.Nested' p inner) = Bracket (formula_of inner)
+abbrev pub formula_of : boxed_formula.Formula → Formula
+formula_of (boxed_formula.Plain operand) = Plain operand
+formula_of (boxed_formula.Binary' p left op at q right) = Binary (formula_of left) op at (formula_of right)
+formula_of (boxed_formula.Bracket' p inner) = Bracket (formula_of inner)
 
-abbrev pub setting_of : Assignment → Setting
-setting_of set = record { column = set.column; value = formula_of set.value }
+abbrev pub set_clause_of : boxed_set_clause.SetClause → SetClause
+set_clause_of set = record { column = set.column; value = formula_of set.value }
 
-abbrev pub selection_of : Query → Selection
-selection_of (query.Rows listed table joins condition) = Rows listed table joins (option_map test_of condition)
-selection_of (query.Count table condition) = Count table (option_map test_of condition)
-selection_of (query.Groups column total table condition key) = Groups column total table (option_map test_of condition) key
+abbrev pub selection_of : boxed_selection.Selection → Selection
+selection_of (selections.Rows listed table joins condition) = Rows listed table joins (option_map test_of condition)
+selection_of (selections.Count table condition) = Count table (option_map test_of condition)
+selection_of (selections.Groups column total table condition key) = Groups column total table (option_map test_of condition) key
 
-abbrev pub statement_of : Ast → Statement
-statement_of (ast.Create table columns) = Create table columns
-statement_of (ast.Insert table values) = Insert table values
-statement_of (ast.Session name) = Session name
-statement_of (ast.Begin read_only) = Begin read_only
-statement_of ast.Commit = Commit
-statement_of ast.Rollback = Rollback
-statement_of (ast.Select query) = Select (selection_of query)
-statement_of (ast.Update table sets condition) = Update table (map setting_of sets) (option_map test_of condition)
-statement_of (ast.Delete table condition) = Delete table (option_map test_of condition)
-statement_of (ast.Schedule turns) = Schedule turns
-statement_of ast.End = End
+abbrev pub statement_of : boxed_statement.Statement → Statement
+statement_of (statements.Create table columns) = Create table columns
+statement_of (statements.Insert table values) = Insert table values
+statement_of (statements.Session name) = Session name
+statement_of (statements.Begin read_only) = Begin read_only
+statement_of statements.Commit = Commit
+statement_of statements.Rollback = Rollback
+statement_of (statements.Select query) = Select (selection_of query)
+statement_of (statements.Update table sets condition) = Update table (map set_clause_of sets) (option_map test_of condition)
+statement_of (statements.Delete table condition) = Delete table (option_map test_of condition)
+statement_of (statements.Schedule turns) = Schedule turns
+statement_of statements.End = End

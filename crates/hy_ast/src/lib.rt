@@ -1,6 +1,6 @@
 //! Statements as they are written: the parts of each rule of the grammar in the rule's order, each name,
-//! literal and operator with its place in the script. A name's or a literal's text is the script's in its
-//! place.
+//! literal and operator with its span in the script. A name's or a literal's text is the script's in its
+//! span.
 #![tactic(auto)]
 
 use hy_token::Span;
@@ -43,7 +43,7 @@ pub enum Operand {
 /// A condition as it is written. Chains of OR and of AND group to the left, AND binds before OR, NOT
 /// before both.
 #[derive(Drop)]
-pub enum Condition {
+pub enum Test {
     /// A column compared with a column or a literal.
     Compare {
         /// The column on the left.
@@ -69,28 +69,28 @@ pub enum Condition {
         /// Where NOT stands.
         at: Span,
         /// What is negated.
-        condition: Box<Condition>,
+        condition: Box<Test>,
     },
     /// AND.
     And {
         /// What stands on the left.
-        left: Box<Condition>,
+        left: Box<Test>,
         /// Where AND stands.
         at: Span,
         /// What stands on the right.
-        right: Box<Condition>,
+        right: Box<Test>,
     },
     /// OR.
     Or {
         /// What stands on the left.
-        left: Box<Condition>,
+        left: Box<Test>,
         /// Where OR stands.
         at: Span,
         /// What stands on the right.
-        right: Box<Condition>,
+        right: Box<Test>,
     },
     /// A condition in parentheses.
-    Nested(Box<Condition>),
+    Nested(Box<Test>),
 }
 
 /// An operator of an expression.
@@ -107,22 +107,22 @@ pub enum Operator {
 /// The right side of an assignment as it is written. Chains of `+` and `-` and chains of `*` group to the
 /// left, and `*` binds before `+` and `-`.
 #[derive(Drop)]
-pub enum Expression {
+pub enum Formula {
     /// A column or a literal.
-    Operand(Operand),
+    Plain(Operand),
     /// An operator between two expressions.
     Binary {
         /// What stands on the left.
-        left: Box<Expression>,
+        left: Box<Formula>,
         /// The operator.
         op: Operator,
         /// Where it stands.
         at: Span,
         /// What stands on the right.
-        right: Box<Expression>,
+        right: Box<Formula>,
     },
     /// An expression in parentheses.
-    Nested(Box<Expression>),
+    Bracket(Box<Formula>),
 }
 
 /// A column of a new table.
@@ -149,11 +149,11 @@ pub struct Join {
 
 /// An assignment of UPDATE.
 #[derive(Drop)]
-pub struct Assignment {
+pub struct SetClause {
     /// The column that is set.
     pub column: Span,
     /// What it is set to.
-    pub value: Expression,
+    pub value: Formula,
 }
 
 /// What a SELECT of rows lists.
@@ -178,7 +178,7 @@ pub enum Total {
 
 /// A SELECT.
 #[derive(Drop)]
-pub enum Query {
+pub enum Selection {
     /// Rows of one table or of several joined ones, or a sum over them.
     Rows {
         /// What is listed.
@@ -188,14 +188,14 @@ pub enum Query {
         /// The tables joined to it.
         joins: Seq<Join>,
         /// WHERE.
-        condition: Option<Condition>,
+        condition: Option<Test>,
     },
     /// `COUNT ( * )` of one table.
     Count {
         /// The table.
         table: Span,
         /// WHERE.
-        condition: Option<Condition>,
+        condition: Option<Test>,
     },
     /// Groups of one table.
     Groups {
@@ -206,7 +206,7 @@ pub enum Query {
         /// The table.
         table: Span,
         /// WHERE.
-        condition: Option<Condition>,
+        condition: Option<Test>,
         /// The column of GROUP BY.
         key: ColumnRef,
     },
@@ -223,7 +223,7 @@ pub struct Turn {
 
 /// A statement of a script.
 #[derive(Drop)]
-pub enum Ast {
+pub enum Statement {
     /// CREATE TABLE.
     Create {
         /// The table's name.
@@ -253,22 +253,22 @@ pub enum Ast {
     /// ROLLBACK.
     Rollback,
     /// SELECT.
-    Select(Query),
+    Select(Selection),
     /// UPDATE.
     Update {
         /// The table.
         table: Span,
         /// The assignments.
-        sets: Seq<Assignment>,
+        sets: Seq<SetClause>,
         /// WHERE.
-        condition: Option<Condition>,
+        condition: Option<Test>,
     },
     /// DELETE FROM.
     Delete {
         /// The table.
         table: Span,
         /// WHERE.
-        condition: Option<Condition>,
+        condition: Option<Test>,
     },
     /// SCHEDULE.
     Schedule {

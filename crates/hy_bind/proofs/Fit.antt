@@ -12,7 +12,7 @@ use Rattle.hy_ast.specs.Trees as tree
 use Rattle.hy_bound.specs.Agreement.{HasItsKey}
 use Rattle.hy_bound.specs.Records.{no_shape}
 use Rattle.hy_bound.specs.Fits.{FitsStatement}
-use Rattle.hy_bind.specs.Literals.{text_in}
+use Rattle.hy_bind.specs.Literals.{text_of_span}
 use Rattle.hy_bind.specs.Shapes.{defined_shape, catalog_shapes}
 use Rattle.hy_bind.specs.Statements.{NamesTables, and_number, numbers_of, numbers_or_none, fault_in, fault_of_numbered, in_scope, bound_in, bind_fault, bound_of}
 use Rattle.hy_bind.proofs.Numbered.{number_within}
@@ -22,12 +22,12 @@ use Rattle.hy_bind.proofs.Named.{all_named}
 use Rattle.hy_bind.proofs.Writes.{insert_fits, update_fits}
 
 -- what is true of a statement in the scope of a table that is there is true of one that names one table
-one_table : (script : List ℕ) (catalog : List TableDef) (table : Span) (s : Statement) (number : Option ℕ) → table_number catalog (text_in script table) ≡ number
+one_table : (script : List ℕ) (catalog : List TableDef) (table : Span) (s : Statement) (number : Option ℕ) → table_number catalog (text_of_span script table) ≡ number
     → ((n : ℕ) → n < length (catalog_shapes catalog) → fault_in (in_scope script catalog (n ∷ [])) s ≡ None → FitsStatement (catalog_shapes catalog) (bound_in (in_scope script catalog (n ∷ [])) s))
     → fault_of_numbered script catalog (and_number number (Some [])) s ≡ None → FitsStatement (catalog_shapes catalog) (bound_in (in_scope script catalog (numbers_or_none (and_number number (Some [])))) s)
 one_table script catalog table s None is fits h = absurd cc
 one_table script catalog table s (Some n) is fits h =
-    let within = number_within (table_names catalog) (text_in script table) n is in
+    let within = number_within (table_names catalog) (text_of_span script table) n is in
     let names = length-map catalog (λ (def : TableDef). def.name) in
     let shapes = length-map catalog defined_shape in
     fits n (omega (arith, within, names, shapes)) h

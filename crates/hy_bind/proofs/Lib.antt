@@ -1,4 +1,4 @@
-pub mod Places
+pub mod Ordinals
 pub mod Firsts
 pub mod Fitting
 pub mod Visible

@@ -20,7 +20,7 @@ use Rattle.hy_ast.specs.declared.ColumnRef.{ColumnRef}
 use Rattle.hy_bind.specs.declared.scope.Found.{Found}
 use Rattle.hy_bind.specs.declared.scope.Search.{Search}
 use Rattle.hy_bind.specs.declared.scope.Search.TheVariants.{Nowhere, In, Several}
-use Rattle.hy_bind.specs.Literals.{text_in}
+use Rattle.hy_bind.specs.Literals.{text_of_span}
 use Rattle.hy_bind.specs.Meaning.{MayMean, Means, MayMeanTwo, MeansNothing}
 use Rattle.hy_bind.specs.Scope.{Scope, width_at, total_width, may_mean, found_at, found_in, and_found, searched, only, resolved}
 use Rattle.hy_bind.specs.Statements.{in_scope}
@@ -31,92 +31,92 @@ use Rattle.hy_bind.specs.Statements.{in_scope}
 abbrev offer : List ℕ → List TableDef → ColumnRef → ℕ → ℕ → Option Found
 offer script catalog reference number from = option_and_then (found_in script reference number from) (table_at catalog number)
 
-abbrev place_found : ℕ → ℕ → ℕ → Column → Found
-place_found number from place column = record { table = number; column = from + place; kind = column.kind }
+abbrev ordinal_found : ℕ → ℕ → ℕ → Column → Found
+ordinal_found number from ordinal column = record { table = number; column = from + ordinal; kind = column.kind }
 
-may : (script : List ℕ) (table : Option Span) (name : List ℕ) → IfSome table (λ span. text_in script span ≡ name) → may_mean script table name ≡ true
+may : (script : List ℕ) (table : Option Span) (name : List ℕ) → IfSome table (λ span. text_of_span script span ≡ name) → may_mean script table name ≡ true
 may script None name h = refl
-may script (Some span) name h = (bytes_eq-Decides (text_in script span) name).1 h
+may script (Some span) name h = (bytes_eq-Decides (text_of_span script span) name).1 h
 
-may_not_else : (script : List ℕ) (table : Option Span) (name : List ℕ) → may_mean script table name ≡ true → IfSome table (λ span. text_in script span ≡ name)
+may_not_else : (script : List ℕ) (table : Option Span) (name : List ℕ) → may_mean script table name ≡ true → IfSome table (λ span. text_of_span script span ≡ name)
 may_not_else script None name h = tt
-may_not_else script (Some span) name h = (bytes_eq-Decides (text_in script span) name).0 h
+may_not_else script (Some span) name h = (bytes_eq-Decides (text_of_span script span) name).0 h
 
--- the name of a column by its place
+-- the name of a column by its ordinal
 name_there : (columns : List Column) (k : ℕ) (d : Column) → k < length columns → get_or (column_names columns) k [] ≡ (get_or columns k d).name
 name_there columns k d within = get_or-map (λ (column : Column). column.name) columns k d [] within
 
 -- the first column with a name has that number
-first_number : (columns : List Column) (name : List ℕ) (place : ℕ) (column : Column) → slice_get columns place ≡ Some column → column.name ≡ name
-    → All (λ (earlier : Column). earlier.name ≢ name) (take place columns) → column_number columns name ≡ Some place
-first_number columns name place column there named first =
-    let within = slice_get_within columns place column there in
+first_number : (columns : List Column) (name : List ℕ) (ordinal : ℕ) (column : Column) → slice_get columns ordinal ≡ Some column → column.name ≡ name
+    → All (λ (earlier : Column). earlier.name ≢ name) (take ordinal columns) → column_number columns name ≡ Some ordinal
+first_number columns name ordinal column there named first =
+    let within = slice_get_within columns ordinal column there in
     let many = length-map columns (λ (c : Column). c.name) in
     let names = column_names columns in
-    let here : bytes_eq name (get_or names place []) ≡ true =
-    (bytes_eq-Decides name (get_or names place [])).1 (sym (name_there columns place column within ∙ ap (λ (c : Column). c.name) (get_or_from_slice_get columns place column column there) ∙ named)) in
-    let at : position_or_len (bytes_eq name) names ≡ place =
-    position_or_len_is (bytes_eq name) names place [] (omega (arith, within, many))
+    let here : bytes_eq name (get_or names ordinal []) ≡ true =
+    (bytes_eq-Decides name (get_or names ordinal [])).1 (sym (name_there columns ordinal column within ∙ ap (λ (c : Column). c.name) (get_or_from_slice_get columns ordinal column column there) ∙ named)) in
+    let at : position_or_len (bytes_eq name) names ≡ ordinal =
+    position_or_len_is (bytes_eq name) names ordinal [] (omega (arith, within, many))
     (λ k below.
     let inside : k < length columns = omega (arith, below, within) in
-    let taken = length-take-le place columns (omega (arith, within)) in
+    let taken = length-take-le ordinal columns (omega (arith, within)) in
     false_from_ne_true (bytes_eq name (get_or names k [])) (λ yes.
-    first k column (omega (arith, below, taken)) (ap (λ (c : Column). c.name) (get_or-take place columns k column below) ∙ sym (name_there columns k column inside) ∙ sym ((bytes_eq-Decides name (get_or names k [])).0 yes))))
+    first k column (omega (arith, below, taken)) (ap (λ (c : Column). c.name) (get_or-take ordinal columns k column below) ∙ sym (name_there columns k column inside) ∙ sym ((bytes_eq-Decides name (get_or names k [])).0 yes))))
     (λ _. here) in
-    ap (λ n. cond (nat_lt n (length names)) (Some n) None) at ∙ ap (λ b. cond b (Some place) None) (lt-ltb place (length names) (omega (arith, within, many)))
+    ap (λ n. cond (nat_lt n (length names)) (Some n) None) at ∙ ap (λ b. cond b (Some ordinal) None) (lt-ltb ordinal (length names) (omega (arith, within, many)))
 
 -- a table that a reference may mean is found
 offered : (script : List ℕ) (catalog : List TableDef) (tables : List ℕ) (reference : ColumnRef) (number from : ℕ) (m : MayMean (in_scope script catalog tables) reference number)
-    → offer script catalog reference number from ≡ Some (place_found number from m.place m.column)
+    → offer script catalog reference number from ≡ Some (ordinal_found number from m.ordinal m.column)
 offered script catalog tables reference number from m =
     ap (option_and_then (found_in script reference number from)) m.is
-    ∙ ap (λ b. cond b (option_and_then (found_at number from m.def.columns) (column_number m.def.columns (text_in script reference.column))) None) (may script reference.table m.def.name m.of_table)
-    ∙ ap (option_and_then (found_at number from m.def.columns)) (first_number m.def.columns (text_in script reference.column) m.place m.column m.there m.named m.first)
-    ∙ ap (option_map (λ (column : Column). place_found number from m.place column)) m.there
+    ∙ ap (λ b. cond b (option_and_then (found_at number from m.def.columns) (column_number m.def.columns (text_of_span script reference.column))) None) (may script reference.table m.def.name m.of_table)
+    ∙ ap (option_and_then (found_at number from m.def.columns)) (first_number m.def.columns (text_of_span script reference.column) m.ordinal m.column m.there m.named m.first)
+    ∙ ap (option_map (λ (column : Column). ordinal_found number from m.ordinal column)) m.there
 
 -- what is found is of a table that the reference may mean
 record IsOffer (script : List ℕ) (catalog : List TableDef) (tables : List ℕ) (reference : ColumnRef) (number from : ℕ) (found : Found) : Type 0 where
   meant : MayMean (in_scope script catalog tables) reference number
-  is : found ≡ place_found number from meant.place meant.column
+  is : found ≡ ordinal_found number from meant.ordinal meant.column
 
-offer_at : (script : List ℕ) (catalog : List TableDef) (tables : List ℕ) (reference : ColumnRef) (number from : ℕ) (found : Found) (def : TableDef) (place : ℕ) (column : Option Column)
-    → Contains tables number → table_at catalog number ≡ Some def → may_mean script reference.table def.name ≡ true → column_number def.columns (text_in script reference.column) ≡ Some place → slice_get def.columns place ≡ column
-    → option_map (λ (c : Column). place_found number from place c) column ≡ Some found → IsOffer script catalog tables reference number from found
-offer_at script catalog tables reference number from found def place None stands is of_table numbered there h = absurd cc
-offer_at script catalog tables reference number from found def place (Some column) stands is of_table numbered there h =
-    let text = text_in script reference.column in
+offer_at : (script : List ℕ) (catalog : List TableDef) (tables : List ℕ) (reference : ColumnRef) (number from : ℕ) (found : Found) (def : TableDef) (ordinal : ℕ) (column : Option Column)
+    → Contains tables number → table_at catalog number ≡ Some def → may_mean script reference.table def.name ≡ true → column_number def.columns (text_of_span script reference.column) ≡ Some ordinal → slice_get def.columns ordinal ≡ column
+    → option_map (λ (c : Column). ordinal_found number from ordinal c) column ≡ Some found → IsOffer script catalog tables reference number from found
+offer_at script catalog tables reference number from found def ordinal None stands is of_table numbered there h = absurd cc
+offer_at script catalog tables reference number from found def ordinal (Some column) stands is of_table numbered there h =
+    let text = text_of_span script reference.column in
     let names = column_names def.columns in
-    let at = position-Some (bytes_eq text) names place [] numbered in
-    let within = slice_get_within def.columns place column there in
+    let at = position-Some (bytes_eq text) names ordinal [] numbered in
+    let within = slice_get_within def.columns ordinal column there in
     record {
       meant = record {
         stands = stands;
         def = def;
         is = is;
         of_table = may_not_else script reference.table def.name of_table;
-        place = place;
+        ordinal = ordinal;
         column = column;
         there = there;
-        named = sym ((bytes_eq-Decides text (get_or names place [])).0 at.1 ∙ name_there def.columns place column within ∙ ap (λ (c : Column). c.name) (get_or_from_slice_get def.columns place column column there));
+        named = sym ((bytes_eq-Decides text (get_or names ordinal [])).0 at.1 ∙ name_there def.columns ordinal column within ∙ ap (λ (c : Column). c.name) (get_or_from_slice_get def.columns ordinal column column there));
         first = λ k d below same.
-            let taken = length-take-le place def.columns (omega (arith, within)) in
-            let earlier : k < place = omega (arith, below, taken) in
-            let name = name_there def.columns k d (omega (arith, earlier, within)) ∙ ap (λ (c : Column). c.name) (sym (get_or-take place def.columns k d earlier)) ∙ same in
+            let taken = length-take-le ordinal def.columns (omega (arith, within)) in
+            let earlier : k < ordinal = omega (arith, below, taken) in
+            let name = name_there def.columns k d (omega (arith, earlier, within)) ∙ ap (λ (c : Column). c.name) (sym (get_or-take ordinal def.columns k d earlier)) ∙ same in
             false≢true (sym (at.2 k earlier) ∙ (bytes_eq-Decides text (get_or names k [])).1 (sym name));
       };
       is = cc;
     }
 
-offer_named : (script : List ℕ) (catalog : List TableDef) (tables : List ℕ) (reference : ColumnRef) (number from : ℕ) (found : Found) (def : TableDef) (place : Option ℕ)
-    → Contains tables number → table_at catalog number ≡ Some def → may_mean script reference.table def.name ≡ true → column_number def.columns (text_in script reference.column) ≡ place
-    → option_and_then (found_at number from def.columns) place ≡ Some found → IsOffer script catalog tables reference number from found
+offer_named : (script : List ℕ) (catalog : List TableDef) (tables : List ℕ) (reference : ColumnRef) (number from : ℕ) (found : Found) (def : TableDef) (ordinal : Option ℕ)
+    → Contains tables number → table_at catalog number ≡ Some def → may_mean script reference.table def.name ≡ true → column_number def.columns (text_of_span script reference.column) ≡ ordinal
+    → option_and_then (found_at number from def.columns) ordinal ≡ Some found → IsOffer script catalog tables reference number from found
 offer_named script catalog tables reference number from found def None stands is of_table numbered h = absurd cc
-offer_named script catalog tables reference number from found def (Some place) stands is of_table numbered h =
-    offer_at script catalog tables reference number from found def place (slice_get def.columns place) stands is of_table numbered refl h
+offer_named script catalog tables reference number from found def (Some ordinal) stands is of_table numbered h =
+    offer_at script catalog tables reference number from found def ordinal (slice_get def.columns ordinal) stands is of_table numbered refl h
 
 offer_of : (script : List ℕ) (catalog : List TableDef) (tables : List ℕ) (reference : ColumnRef) (number from : ℕ) (found : Found) (def : TableDef) (of_table : Bool)
     → Contains tables number → table_at catalog number ≡ Some def → may_mean script reference.table def.name ≡ of_table
-    → cond of_table (option_and_then (found_at number from def.columns) (column_number def.columns (text_in script reference.column))) None ≡ Some found → IsOffer script catalog tables reference number from found
+    → cond of_table (option_and_then (found_at number from def.columns) (column_number def.columns (text_of_span script reference.column))) None ≡ Some found → IsOffer script catalog tables reference number from found
 offer_of script catalog tables reference number from found def false stands is of_table h = absurd cc
 offer_of script catalog tables reference number from found def true stands is of_table h =
     offer_named script catalog tables reference number from found def _ stands is of_table refl h
@@ -136,7 +136,7 @@ among script catalog tables others reference number stands m = record {
   def = m.def;
   is = m.is;
   of_table = m.of_table;
-  place = m.place;
+  ordinal = m.ordinal;
   column = m.column;
   there = m.there;
   named = m.named;
@@ -170,7 +170,7 @@ more_alone script catalog seen reference number found means same = record {
 -- the first table that the reference may mean
 first_alone : (script : List ℕ) (catalog : List TableDef) (seen : List ℕ) (reference : ColumnRef) (number : ℕ) → ((table : ℕ) → MayMean (in_scope script catalog seen) reference table → ⊥)
     → (m : MayMean (in_scope script catalog (seen ++ number ∷ [])) reference number)
-    → Means (in_scope script catalog (seen ++ number ∷ [])) reference (place_found number (total_width catalog seen) m.place m.column)
+    → Means (in_scope script catalog (seen ++ number ∷ [])) reference (ordinal_found number (total_width catalog seen) m.ordinal m.column)
 first_alone script catalog seen reference number none m = record {
   meant = m;
   alone = λ other is.
@@ -223,7 +223,7 @@ again_or_two script catalog seen reference number found false is means m = recor
 -- a table more with the column
 one_more : (script : List ℕ) (catalog : List TableDef) (seen : List ℕ) (reference : ColumnRef) (number : ℕ) (before : Search) (m : MayMean (in_scope script catalog (seen ++ number ∷ [])) reference number)
     → Known (in_scope script catalog seen) reference before
-    → Known (in_scope script catalog (seen ++ number ∷ [])) reference (and_found before (Some (place_found number (total_width catalog seen) m.place m.column)))
+    → Known (in_scope script catalog (seen ++ number ∷ [])) reference (and_found before (Some (ordinal_found number (total_width catalog seen) m.ordinal m.column)))
 one_more script catalog seen reference number Nowhere m known = first_alone script catalog seen reference number known m
 one_more script catalog seen reference number (In found) m known = again_or_two script catalog seen reference number found _ refl known m
 one_more script catalog seen reference number Several m known = two_more script catalog seen reference number known
@@ -278,11 +278,11 @@ same_front t u (x ∷ before) (y ∷ front) behind back same lists h g =
     cc
 
 -- what is meant is the table's column with the name
-is_meant : (scope : Scope) (reference : ColumnRef) (found : Found) (means : Means scope reference found) → found ≡ place_found found.table (total_width scope.catalog means.before) means.meant.place means.meant.column
+is_meant : (scope : Scope) (reference : ColumnRef) (found : Found) (means : Means scope reference found) → found ≡ ordinal_found found.table (total_width scope.catalog means.before) means.meant.ordinal means.meant.column
 is_meant scope reference found means =
-    let number : found ≡ record { table = found.table; column = total_width scope.catalog means.before + means.meant.place; kind = found.kind } =
+    let number : found ≡ record { table = found.table; column = total_width scope.catalog means.before + means.meant.ordinal; kind = found.kind } =
     ap (λ (n : ℕ). record { table = found.table; column = n; kind = found.kind }) means.number in
-    number ∙ ap (λ (k : Kind). record { table = found.table; column = total_width scope.catalog means.before + means.meant.place; kind = k }) means.kind
+    number ∙ ap (λ (k : Kind). record { table = found.table; column = total_width scope.catalog means.before + means.meant.ordinal; kind = k }) means.kind
 
 -- a reference means one column at most
 means_once : (scope : Scope) (reference : ColumnRef) (found other : Found) → Means scope reference found → Means scope reference other → found ≡ other

@@ -10,7 +10,7 @@ use Rattle.hy_schema.specs.Names.{table_names, table_number, table_at}
 use Rattle.hy_bound.specs.declared.Shape.{Shape}
 use Rattle.hy_bound.specs.Records.{no_shape, shape_of}
 use Rattle.hy_bound.specs.Fits.{joined_width}
-use Rattle.hy_bind.specs.Literals.{text_in}
+use Rattle.hy_bind.specs.Literals.{text_of_span}
 use Rattle.hy_bind.specs.Scope.{width_of, width_at, total_width}
 use Rattle.hy_bind.specs.Shapes.{defined_shape, catalog_shapes}
 use Rattle.hy_bind.specs.Statements.{and_number, numbers_of, key_in, repeats}
@@ -59,7 +59,7 @@ total_is catalog (number ∷ tables) =
 
 -- a number is that of the table that is named there
 abbrev pub Names : List ℕ → List TableDef → Span → ℕ → Type 0
-Names script catalog span number = table_number catalog (text_in script span) ≡ Some number
+Names script catalog span number = table_number catalog (text_of_span script span) ≡ Some number
 
 -- one number more, and others
 record IsFirst (number : Option ℕ) (rest : Option (List ℕ)) (numbers : List ℕ) : Type 0 where
@@ -77,7 +77,7 @@ first_number (Some n) (Some ns) numbers h = record { one = n; others = ns; is_on
 pub all_named : (script : List ℕ) (catalog : List TableDef) (spans : List Span) (numbers : List ℕ) → numbers_of script catalog spans ≡ Some numbers → AllZip (Names script catalog) spans numbers
 all_named script catalog [] numbers h = let e : numbers ≡ [] = cc in subst (AllZip (Names script catalog) []) (sym e) tt
 all_named script catalog (span ∷ spans) numbers h =
-    let parts = first_number (table_number catalog (text_in script span)) (numbers_of script catalog spans) numbers h in
+    let parts = first_number (table_number catalog (text_of_span script span)) (numbers_of script catalog spans) numbers h in
     subst (AllZip (Names script catalog) (span ∷ spans)) (sym parts.all) (parts.is_one, all_named script catalog spans parts.others parts.are_others)
 
 -- there are as many as are named
@@ -93,24 +93,24 @@ all_there script catalog [] [] h = All-nil (λ (n : ℕ). n < length (catalog_sh
 all_there script catalog [] (n ∷ ns) h = absurd h
 all_there script catalog (span ∷ spans) [] h = absurd h
 all_there script catalog (span ∷ spans) (n ∷ ns) h =
-    let within = number_within (table_names catalog) (text_in script span) n h.0 in
+    let within = number_within (table_names catalog) (text_of_span script span) n h.0 in
     let names = length-map catalog (λ (table : TableDef). table.name) in
     let shapes = length-map catalog defined_shape in
     All-cons (λ (m : ℕ). m < length (catalog_shapes catalog)) n ns (omega (arith, within, names, shapes)) (all_there script catalog spans ns h.1)
 
-their_names : (script : List ℕ) (catalog : List TableDef) (spans : List Span) (numbers : List ℕ) → AllZip (Names script catalog) spans numbers → map (name_at (table_names catalog)) numbers ≡ map (text_in script) spans
+their_names : (script : List ℕ) (catalog : List TableDef) (spans : List Span) (numbers : List ℕ) → AllZip (Names script catalog) spans numbers → map (name_at (table_names catalog)) numbers ≡ map (text_of_span script) spans
 their_names script catalog [] [] h = refl
 their_names script catalog [] (n ∷ ns) h = absurd h
 their_names script catalog (span ∷ spans) [] h = absurd h
 their_names script catalog (span ∷ spans) (n ∷ ns) h =
-    let one = number_names (table_names catalog) (text_in script span) n h.0 in
+    let one = number_names (table_names catalog) (text_of_span script span) n h.0 in
     let rest = their_names script catalog spans ns h.1 in
     cc
 
 -- where no name repeats they differ
-pub all_differ : (script : List ℕ) (catalog : List TableDef) (spans : List Span) (numbers : List ℕ) → AllZip (Names script catalog) spans numbers → repeats (map (text_in script) spans) ≡ false
+pub all_differ : (script : List ℕ) (catalog : List TableDef) (spans : List Span) (numbers : List ℕ) → AllZip (Names script catalog) spans numbers → repeats (map (text_of_span script) spans) ≡ false
     → AllPairs (λ one other. one ≢ other) numbers
 all_differ script catalog spans numbers h once i j d before within same =
     pictures_differ (name_at (table_names catalog)) numbers
-    (subst (λ (names : List (List ℕ)). AllPairs (λ one other. one ≢ other) names) (sym (their_names script catalog spans numbers h)) (names_differ (map (text_in script) spans) once))
+    (subst (λ (names : List (List ℕ)). AllPairs (λ one other. one ≢ other) names) (sym (their_names script catalog spans numbers h)) (names_differ (map (text_of_span script) spans) once))
     i j d before within (ap (name_at (table_names catalog)) same)

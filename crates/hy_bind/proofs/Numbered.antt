@@ -38,14 +38,14 @@ there : {A : Type 0} (b : Bool) (x : A) → is_some (cond b (Some x) None) ≡ b
 there true x = refl
 there false x = refl
 
-place_or_not : (b : Bool) (n l : ℕ) (r : Bool) → is_some (cond (nat_lt n l) (Some n) None) ≡ r → is_some (cond (nat_lt (cond (not b) (1 + n) 0) (suc l)) (Some (cond (not b) (1 + n) 0)) None) ≡ (b || r)
-place_or_not true n l r h = there (nat_lt 0 (suc l)) 0 ∙ lt-ltb 0 (suc l) (omega arith)
-place_or_not false n l r h = there (nat_lt (1 + n) (suc l)) (1 + n) ∙ suc_lt n l ∙ sym (there (nat_lt n l) n) ∙ h
+ordinal_or_not : (b : Bool) (n l : ℕ) (r : Bool) → is_some (cond (nat_lt n l) (Some n) None) ≡ r → is_some (cond (nat_lt (cond (not b) (1 + n) 0) (suc l)) (Some (cond (not b) (1 + n) 0)) None) ≡ (b || r)
+ordinal_or_not true n l r h = there (nat_lt 0 (suc l)) 0 ∙ lt-ltb 0 (suc l) (omega arith)
+ordinal_or_not false n l r h = there (nat_lt (1 + n) (suc l)) (1 + n) ∙ suc_lt n l ∙ sym (there (nat_lt n l) n) ∙ h
 
--- what has a place is somewhere
-has_place : {A : Type 0} (test : A → Bool) (xs : List A) → is_some (position test xs) ≡ list_any test xs
-has_place test [] = refl
-has_place test (x ∷ xs) = place_or_not (test x) (prefix_len (λ y. not (test y)) xs) (length xs) (list_any test xs) (has_place test xs)
+-- what has an ordinal is somewhere
+has_ordinal : {A : Type 0} (test : A → Bool) (xs : List A) → is_some (position test xs) ≡ list_any test xs
+has_ordinal test [] = refl
+has_ordinal test (x ∷ xs) = ordinal_or_not (test x) (prefix_len (λ y. not (test y)) xs) (length xs) (list_any test xs) (has_ordinal test xs)
 
 -- ---- names that come once
 
@@ -66,7 +66,7 @@ once before [] h = (All-nil (IsNew before), λ i j d earlier within. absurd (ome
 once before (name ∷ names) h =
     let parts = or_parts (is_some (number_of before name)) (comes_again (before ++ name ∷ []) names) h in
     let rest = once (before ++ name ∷ []) names parts.1 in (
-      All-cons (IsNew before) name names (sym (has_place (bytes_eq name) before) ∙ parts.0) (All-weaker (IsNew (before ++ name ∷ [])) (IsNew before) (λ other new. (not_before before other name new).0) names rest.0),
+      All-cons (IsNew before) name names (sym (has_ordinal (bytes_eq name) before) ∙ parts.0) (All-weaker (IsNew (before ++ name ∷ [])) (IsNew before) (λ other new. (not_before before other name new).0) names rest.0),
       AllPairs-cons (λ one other. one ≢ other) name names (All-weaker (IsNew (before ++ name ∷ [])) (λ other. name ≢ other) (λ other new. (not_before before other name new).1) names rest.0) rest.1,
     )
 

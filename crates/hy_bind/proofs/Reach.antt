@@ -11,7 +11,7 @@ use Rattle.hy_ast.specs.declared.Operand.{Operand}
 use Rattle.hy_ast.specs.declared.Operand.TheVariants as operands
 use Rattle.hy_ast.specs.declared.Operator.{Operator}
 use Rattle.hy_ast.specs.declared.Operator.TheVariants as operator
-use Rattle.hy_ast.specs.Trees.{Test, Formula, Setting}
+use Rattle.hy_ast.specs.Trees.{Test, Formula, SetClause}
 use Rattle.hy_ast.specs.Trees as tree
 use Rattle.hy_bound.specs.Expression.{Expression}
 use Rattle.hy_bound.specs.Records.{columns_of, columns_read, side_columns}
@@ -20,7 +20,7 @@ use Rattle.hy_bind.specs.declared.refusals.BindFault.TheVariants.{UnknownColumn}
 use Rattle.hy_bind.specs.declared.scope.Found.{Found}
 use Rattle.hy_bind.specs.declared.scope.Search.{Search}
 use Rattle.hy_bind.specs.declared.scope.Search.TheVariants.{Nowhere, In, Several}
-use Rattle.hy_bind.specs.Literals.{text_in}
+use Rattle.hy_bind.specs.Literals.{text_of_span}
 use Rattle.hy_bind.specs.Refusals.{fault_if}
 use Rattle.hy_bind.specs.Scope.{Scope, width_of, width_at, total_width, may_mean, found_at, found_in, and_found, searched, only, column_of, column_fault, operand_fault, operand_side}
 use Rattle.hy_bind.specs.Conditions.{test_fault, test_bound, null_bound, where_fault, where_bound}
@@ -41,9 +41,9 @@ SearchIsBelow limit (In found) = found.column < limit
 SearchIsBelow limit Several = Unit {0}
 
 -- the number of a column is below how many there are
-pub place_within : (columns : List Column) (name : List ℕ) (place : ℕ) → column_number columns name ≡ Some place → place < length columns
-place_within columns name place is =
-    let within = number_within (column_names columns) name place is in
+pub ordinal_within : (columns : List Column) (name : List ℕ) (ordinal : ℕ) → column_number columns name ≡ Some ordinal → ordinal < length columns
+ordinal_within columns name ordinal is =
+    let within = number_within (column_names columns) name ordinal is in
     let many = length-map columns (λ (column : Column). column.name) in
     omega (arith, within, many)
 
@@ -51,11 +51,11 @@ at_below : (number column limit : ℕ) (found : Option Column) → column < limi
 at_below number column limit None h = tt
 at_below number column limit (Some c) h = h
 
-number_below : (number from limit : ℕ) (columns : List Column) (name : List ℕ) (place : Option ℕ) → column_number columns name ≡ place → from + length columns ≤ limit → IsBelow limit (option_and_then (found_at number from columns) place)
+number_below : (number from limit : ℕ) (columns : List Column) (name : List ℕ) (ordinal : Option ℕ) → column_number columns name ≡ ordinal → from + length columns ≤ limit → IsBelow limit (option_and_then (found_at number from columns) ordinal)
 number_below number from limit columns name None is room = tt
-number_below number from limit columns name (Some place) is room =
-    let within = place_within columns name place is in
-    at_below number (from + place) limit (slice_get columns place) (omega (arith, within, room))
+number_below number from limit columns name (Some ordinal) is room =
+    let within = ordinal_within columns name ordinal is in
+    at_below number (from + ordinal) limit (slice_get columns ordinal) (omega (arith, within, room))
 
 if_below : (may : Bool) (limit : ℕ) (found : Option Found) → IsBelow limit found → IsBelow limit (cond may found None)
 if_below true limit found h = h
@@ -64,7 +64,7 @@ if_below false limit found h = tt
 found_below : (script : List ℕ) (reference : ColumnRef) (number from limit : ℕ) (def : Option TableDef) → from + width_of def ≤ limit → IsBelow limit (option_and_then (found_in script reference number from) def)
 found_below script reference number from limit None room = tt
 found_below script reference number from limit (Some def) room =
-    if_below (may_mean script reference.table def.name) limit _ (number_below number from limit def.columns (text_in script reference.column) _ refl room)
+    if_below (may_mean script reference.table def.name) limit _ (number_below number from limit def.columns (text_of_span script reference.column) _ refl room)
 
 first_below : (same : Bool) (limit : ℕ) (before : Found) → before.column < limit → SearchIsBelow limit (cond same (In before) Several)
 first_below true limit before h = h

@@ -12,9 +12,9 @@ use Rattle.hy_bind.specs.declared.refusals.BindFault.{BindFault}
 use Rattle.hy_bind.specs.declared.refusals.BindFault.TheVariants as fault
 use Rattle.hy_bind.specs.Refusals.{fault_if}
 
--- what a script has in a place
-abbrev pub text_in : List ℕ → Span → List ℕ
-text_in script span = slice_range script span.start span.end
+-- what a script has in a span
+abbrev pub text_of_span : List ℕ → Span → List ℕ
+text_of_span script span = slice_range script span.start span.end
 
 -- the number of these digits after others, whose number is n; 48 is the digit 0
 abbrev pub number_after : ℕ → List ℕ → ℕ
@@ -64,8 +64,8 @@ literal_kind (Text span) = Some kinds.Str
 -- why a literal is refused: its text has over 255 bytes, or its number is outside 64 bits
 abbrev pub literal_fault : List ℕ → Literal → Option BindFault
 literal_fault script (Null span) = None
-literal_fault script (Integer minus digits) = fault_if (is_none (integer_of (is_some minus) (number_of (text_in script digits)))) fault.TooBig
-literal_fault script (Text span) = fault_if (nat_lt 255 (length (unquoted (text_in script span)))) fault.Limit
+literal_fault script (Integer minus digits) = fault_if (is_none (integer_of (is_some minus) (number_of (text_of_span script digits)))) fault.TooBig
+literal_fault script (Text span) = fault_if (nat_lt 255 (length (unquoted (text_of_span script span)))) fault.Limit
 
 -- the value of an integer; of one that is refused it doesn't matter
 abbrev pub integer_value : Option ℤ → Value
@@ -75,5 +75,5 @@ integer_value (Some n) = values.Int n
 -- the value of a literal; of a text that is refused it doesn't matter
 abbrev pub literal_value : List ℕ → Literal → Value
 literal_value script (Null span) = values.Null
-literal_value script (Integer minus digits) = integer_value (integer_of (is_some minus) (number_of (text_in script digits)))
-literal_value script (Text span) = values.Text (text_of (unquoted (text_in script span)))
+literal_value script (Integer minus digits) = integer_value (integer_of (is_some minus) (number_of (text_of_span script digits)))
+literal_value script (Text span) = values.Text (text_of (unquoted (text_of_span script span)))

@@ -6,7 +6,7 @@ use Rattle.hy_schema.specs.declared.TableDef.{TableDef}
 use Rattle.hy_schema.specs.Names.{table_at}
 use Rattle.hy_ast.specs.declared.ColumnRef.{ColumnRef}
 use Rattle.hy_bind.specs.declared.scope.Found.{Found}
-use Rattle.hy_bind.specs.Literals.{text_in}
+use Rattle.hy_bind.specs.Literals.{text_of_span}
 use Rattle.hy_bind.specs.Scope.{Scope, total_width}
 
 -- a table of the statement has the column that a reference names, and is the table that it names, if it names
@@ -15,12 +15,12 @@ pub record MayMean (scope : Scope) (reference : ColumnRef) (table : ℕ) : Type 
   pub stands : Contains scope.tables table
   pub def : TableDef
   pub is : table_at scope.catalog table ≡ Some def
-  pub of_table : IfSome reference.table (λ name. text_in scope.script name ≡ def.name)
-  pub place : ℕ
+  pub of_table : IfSome reference.table (λ name. text_of_span scope.script name ≡ def.name)
+  pub ordinal : ℕ
   pub column : Column
-  pub there : slice_get def.columns place ≡ Some column
-  pub named : column.name ≡ text_in scope.script reference.column
-  pub first : All (λ (earlier : Column). earlier.name ≢ text_in scope.script reference.column) (take place def.columns)
+  pub there : slice_get def.columns ordinal ≡ Some column
+  pub named : column.name ≡ text_of_span scope.script reference.column
+  pub first : All (λ (earlier : Column). earlier.name ≢ text_of_span scope.script reference.column) (take ordinal def.columns)
 
 -- a reference means the column of the one table of the statement that has it; in the joined row the column
 -- stands behind those of the tables before that one
@@ -31,7 +31,7 @@ pub record Means (scope : Scope) (reference : ColumnRef) (found : Found) : Type 
   pub behind : List ℕ
   pub tables : scope.tables ≡ before ++ found.table ∷ behind
   pub first : All (λ other. other ≢ found.table) before
-  pub number : found.column ≡ total_width scope.catalog before + meant.place
+  pub number : found.column ≡ total_width scope.catalog before + meant.ordinal
   pub kind : found.kind ≡ meant.column.kind
 
 -- two tables of the statement have the column that a reference names

@@ -18,7 +18,7 @@ use Rattle.hy_bind.specs.declared.scope.Search.{Search}
 use Rattle.hy_bind.specs.declared.scope.Search.TheVariants.{Nowhere, In, Several}
 use Rattle.hy_bind.specs.declared.refusals.BindFault.{BindFault}
 use Rattle.hy_bind.specs.declared.refusals.BindFault.TheVariants as fault
-use Rattle.hy_bind.specs.Literals.{text_in, literal_kind, literal_fault, literal_value}
+use Rattle.hy_bind.specs.Literals.{text_of_span, literal_kind, literal_fault, literal_value}
 use Rattle.hy_bind.specs.Refusals.{fault_if}
 
 -- a script and its tables, and the tables of a statement in FROM order, by number
@@ -47,17 +47,17 @@ total_width catalog (number ∷ numbers) = width_at catalog number + total_width
 -- whether a reference may mean a column of a table of this name
 abbrev pub may_mean : List ℕ → Option Span → List ℕ → Bool
 may_mean script None name = true
-may_mean script (Some table) name = bytes_eq (text_in script table) name
+may_mean script (Some table) name = bytes_eq (text_of_span script table) name
 
 -- a column of a table: its number in the joined row, where the table's first has the number `from`
 abbrev pub found_at : ℕ → ℕ → List Column → ℕ → Option Found
-found_at number from columns place = option_map (λ column. record { table = number; column = from + place; kind = column.kind }) (slice_get columns place)
+found_at number from columns ordinal = option_map (λ column. record { table = number; column = from + ordinal; kind = column.kind }) (slice_get columns ordinal)
 
 -- the column of a table that a reference means
 abbrev pub found_in : List ℕ → ColumnRef → ℕ → ℕ → TableDef → Option Found
 found_in script reference number from def =
     if may_mean script reference.table def.name
-    then option_and_then (found_at number from def.columns) (column_number def.columns (text_in script reference.column))
+    then option_and_then (found_at number from def.columns) (column_number def.columns (text_of_span script reference.column))
     else None
 
 -- what was found so far, and a column more: those of one table are one, the first

@@ -15,7 +15,7 @@ use Rattle.hy_ast.specs.declared.Listed.{Listed}
 use Rattle.hy_ast.specs.declared.Listed.TheVariants as listing
 use Rattle.hy_ast.specs.declared.Total.{Total}
 use Rattle.hy_ast.specs.declared.Total.TheVariants as totals
-use Rattle.hy_ast.specs.Trees.{Test, Setting, Selection, Statement}
+use Rattle.hy_ast.specs.Trees.{Test, SetClause, Selection, Statement}
 use Rattle.hy_ast.specs.Trees as tree
 use Rattle.hy_bound.specs.declared.On.{On}
 use Rattle.hy_bound.specs.declared.Assign.{Assign}
@@ -29,11 +29,12 @@ use Rattle.hy_bind.specs.declared.refusals.BindError.{BindError}
 use Rattle.hy_bind.specs.declared.refusals.BindError.TheVariants as error
 use Rattle.hy_bind.specs.declared.refusals.BindFault.{BindFault}
 use Rattle.hy_bind.specs.declared.refusals.BindFault.TheVariants as fault
-use Rattle.hy_bind.specs.Literals.{text_in, literal_fault, literal_kind, literal_value}
+use Rattle.hy_bind.specs.Literals.{text_of_span, literal_fault, literal_kind, literal_value}
 use Rattle.hy_bind.specs.Refusals.{first_of, fault_if, agree}
 use Rattle.hy_bind.specs.Scope.{Scope, total_width, column_fault, column_kind, column_of}
 use Rattle.hy_bind.specs.Conditions.{where_fault, where_bound}
 use Rattle.hy_bind.specs.Expressions.{formula_fault, formula_kind, formula_bound, is_number}
+use Rattle.hy_limits.specs.declared.TheConstants.{MOST_JOINED}
 
 -- ---- lists
 
@@ -61,7 +62,7 @@ and_number (Some number) (Some numbers) = Some (number ∷ numbers)
 -- the numbers of tables, if they are all there
 abbrev pub numbers_of : List ℕ → List TableDef → List Span → Option (List ℕ)
 numbers_of script catalog [] = Some []
-numbers_of script catalog (table ∷ tables) = and_number (table_number catalog (text_in script table)) (numbers_of script catalog tables)
+numbers_of script catalog (table ∷ tables) = and_number (table_number catalog (text_of_span script table)) (numbers_of script catalog tables)
 
 -- the tables that a statement names, in order
 abbrev pub tables_of : Statement → List Span
@@ -134,31 +135,31 @@ is_key None column = false
 is_key (Some key) column = key == column
 
 abbrev pub kind_at : List Column → ℕ → Option Kind
-kind_at columns place = option_map_or (λ column. Some column.kind) (slice_get columns place) None
+kind_at columns ordinal = option_map_or (λ column. Some column.kind) (slice_get columns ordinal) None
 
 -- an assignment to a column of this number, or to none that is there: both sides have one type, and the
 -- column is not the key
-abbrev pub set_fault : Scope → Setting → Option ℕ → Option BindFault
+abbrev pub set_fault : Scope → SetClause → Option ℕ → Option BindFault
 set_fault scope set None = Some fault.UnknownColumn
-set_fault scope set (Some place) =
+set_fault scope set (Some ordinal) =
     first_of (formula_fault scope set.value)
-    (first_of (fault_if (not (agree (formula_kind scope set.value) (kind_at (columns_of scope) place))) fault.WrongType)
-    (fault_if (is_key (key_of scope) place) fault.KeySet))
+    (first_of (fault_if (not (agree (formula_kind scope set.value) (kind_at (columns_of scope) ordinal))) fault.WrongType)
+    (fault_if (is_key (key_of scope) ordinal) fault.KeySet))
 
 -- the number of the column on the left
-abbrev pub set_column : Scope → Setting → Option ℕ
-set_column scope set = column_number (columns_of scope) (text_in scope.script set.column)
+abbrev pub set_column : Scope → SetClause → Option ℕ
+set_column scope set = column_number (columns_of scope) (text_of_span scope.script set.column)
 
-abbrev pub sets_fault : Scope → List Setting → Option BindFault
+abbrev pub sets_fault : Scope → List SetClause → Option BindFault
 sets_fault scope sets = first_of_all (λ set. set_fault scope set (set_column scope set)) sets
 
-abbrev pub update_fault : Scope → List Setting → Option Test → Option BindFault
+abbrev pub update_fault : Scope → List SetClause → Option Test → Option BindFault
 update_fault scope sets test =
     first_of (sets_fault scope sets)
-    (first_of (fault_if (repeats (map (text_in scope.script) (map (λ set. set.column) sets))) fault.Twice) (where_fault scope test))
+    (first_of (fault_if (repeats (map (text_of_span scope.script) (map (λ set. set.column) sets))) fault.Twice) (where_fault scope test))
 
-abbrev pub set_bound : Scope → Setting → Assign
-set_bound scope set = record { column = option_map_or (λ place. place) (set_column scope set) 0; value = formula_bound scope set.value }
+abbrev pub set_bound : Scope → SetClause → Assign
+set_bound scope set = record { column = option_map_or (λ ordinal. ordinal) (set_column scope set) 0; value = formula_bound scope set.value }
 
 -- ---- SELECT
 
@@ -203,7 +204,7 @@ items_bound scope (listing.Columns references) = items.Columns (map (column_of s
 
 -- no table comes twice, and there are at most four
 abbrev pub from_fault : Scope → List Span → Option BindFault
-from_fault scope tables = first_of (fault_if (repeats (map (text_in scope.script) tables)) fault.Twice) (fault_if (nat_lt 4 (length tables)) fault.Limit)
+from_fault scope tables = first_of (fault_if (repeats (map (text_of_span scope.script) tables)) fault.Twice) (fault_if (nat_lt MOST_JOINED (length tables)) fault.Limit)
 
 abbrev pub rows_fault : Scope → List Span → Listed → List Join → Option Test → Option BindFault
 rows_fault scope tables listed joins test =

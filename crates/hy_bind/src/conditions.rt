@@ -9,13 +9,13 @@ ghost use Rattle.hy_bind.specs.Conditions.{compare_fault, test_fault, test_bound
 
 use crate::refusals::{BindFault, agree, fault_if, first_of};
 use crate::scope::{Scope, column, column_fault, column_kind, operand_fault, operand_kind, side};
-use hy_ast::{ColumnRef, Condition, Operand};
+use hy_ast::{ColumnRef, Operand, Test};
 use hy_bound::Pred;
 use hy_value::Cmp;
 use std::alloc::{AllocError, Global};
 
 /// Why WHERE is refused.
-pub fn where_fault(scope: &Scope, condition: Option<&Condition>) -> Option<BindFault>
+pub fn where_fault(scope: &Scope, condition: Option<&Test>) -> Option<BindFault>
     ensures { result ≡ where_fault (scope_of scope.now) (option_map test_of (option_copied condition.entry)) }
 {
     match condition {
@@ -25,17 +25,17 @@ pub fn where_fault(scope: &Scope, condition: Option<&Condition>) -> Option<BindF
 }
 
 /// Why a condition is refused.
-fn condition_fault(scope: &Scope, condition: &Condition) -> Option<BindFault>
+fn condition_fault(scope: &Scope, condition: &Test) -> Option<BindFault>
     ensures { result ≡ test_fault (scope_of scope.now) (test_of condition.now) }
 {
     match condition {
-        Condition::Compare { left, right, .. } => compare_fault(scope, left, right),
-        Condition::IsNull { column, .. } => column_fault(scope, column),
-        Condition::Not { condition, .. } => condition_fault(scope, condition),
-        Condition::And { left, right, .. } | Condition::Or { left, right, .. } => {
+        Test::Compare { left, right, .. } => compare_fault(scope, left, right),
+        Test::IsNull { column, .. } => column_fault(scope, column),
+        Test::Not { condition, .. } => condition_fault(scope, condition),
+        Test::And { left, right, .. } | Test::Or { left, right, .. } => {
             first_of(condition_fault(scope, left), condition_fault(scope, right))
         }
-        Condition::Nested(condition) => condition_fault(scope, condition),
+        Test::Nested(condition) => condition_fault(scope, condition),
     }
 }
 
@@ -49,11 +49,7 @@ fn compare_fault(scope: &Scope, left: &ColumnRef, right: &Operand) -> Option<Bin
 }
 
 /// WHERE as a predicate.
-pub fn predicate(
-    alloc: Global,
-    scope: &Scope,
-    condition: Option<&Condition>,
-) -> Result<Pred, AllocError>
+pub fn predicate(alloc: Global, scope: &Scope, condition: Option<&Test>) -> Result<Pred, AllocError>
     ensures { IfOk result (λ p. p ≡ where_bound (scope_of scope.now) (option_map test_of (option_copied condition.entry))) }
 {
     match condition {
@@ -63,37 +59,33 @@ pub fn predicate(
 }
 
 /// A condition as a predicate.
-fn condition_predicate(
-    alloc: Global,
-    scope: &Scope,
-    condition: &Condition,
-) -> Result<Pred, AllocError>
+fn condition_predicate(alloc: Global, scope: &Scope, condition: &Test) -> Result<Pred, AllocError>
     ensures { IfOk result (λ p. p ≡ test_bound (scope_of scope.now) (test_of condition.now)) }
 {
     match condition {
-        Condition::Compare {
+        Test::Compare {
             left,
             op,
             right,
             ..
         } => comparison(alloc, scope, left, *op, right),
-        Condition::IsNull {
+        Test::IsNull {
             column,
             negated,
             ..
         } => null_test(alloc, scope, column, *negated),
-        Condition::Not { condition, .. } => {
+        Test::Not { condition, .. } => {
             Pred::not(alloc, condition_predicate(alloc, scope, condition)?)
         }
-        Condition::And { left, right, .. } => {
+        Test::And { left, right, .. } => {
             let left = condition_predicate(alloc, scope, left)?;
             Pred::and(alloc, left, condition_predicate(alloc, scope, right)?)
         }
-        Condition::Or { left, right, .. } => {
+        Test::Or { left, right, .. } => {
             let left = condition_predicate(alloc, scope, left)?;
             Pred::or(alloc, left, condition_predicate(alloc, scope, right)?)
         }
-        Condition::Nested(condition) => condition_predicate(alloc, scope, condition),
+        Test::Nested(condition) => condition_predicate(alloc, scope, condition),
     }
 }
 

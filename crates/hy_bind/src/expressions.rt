@@ -8,19 +8,19 @@ ghost use Rattle.hy_bind.specs.Expressions.{formula_kind, formula_fault, formula
 use crate::literals::value;
 use crate::refusals::{BindFault, agree, fault_if, first_of};
 use crate::scope::{Scope, column, operand_fault, operand_kind};
-use hy_ast::{Expression, Operand, Operator};
+use hy_ast::{Formula, Operand, Operator};
 use hy_bound::SetExpr;
 use hy_value::Kind;
 use std::alloc::{AllocError, Global};
 
 /// The type of an expression: an operator makes a number.
-pub fn expression_kind(scope: &Scope, expression: &Expression) -> Option<Kind>
+pub fn expression_kind(scope: &Scope, expression: &Formula) -> Option<Kind>
     ensures { result ≡ formula_kind (scope_of scope.now) (formula_of expression.now) }
 {
     match expression {
-        Expression::Operand(operand) => operand_kind(scope, operand),
-        Expression::Binary { .. } => Some(Kind::Int),
-        Expression::Nested(expression) => expression_kind(scope, expression),
+        Formula::Plain(operand) => operand_kind(scope, operand),
+        Formula::Binary { .. } => Some(Kind::Int),
+        Formula::Bracket(expression) => expression_kind(scope, expression),
     }
 }
 
@@ -32,12 +32,12 @@ pub fn is_number(kind: Option<Kind>) -> bool
 }
 
 /// Why an expression is refused.
-pub fn expression_fault(scope: &Scope, expression: &Expression) -> Option<BindFault>
+pub fn expression_fault(scope: &Scope, expression: &Formula) -> Option<BindFault>
     ensures { result ≡ formula_fault (scope_of scope.now) (formula_of expression.now) }
 {
     match expression {
-        Expression::Operand(operand) => operand_fault(scope, operand),
-        Expression::Binary { left, right, .. } => {
+        Formula::Plain(operand) => operand_fault(scope, operand),
+        Formula::Binary { left, right, .. } => {
             let sides = first_of(
                 expression_fault(scope, left),
                 expression_fault(scope, right),
@@ -45,7 +45,7 @@ pub fn expression_fault(scope: &Scope, expression: &Expression) -> Option<BindFa
             let numbers = are_numbers(expression_kind(scope, left), expression_kind(scope, right));
             first_of(sides, fault_if(!numbers, BindFault::WrongType))
         }
-        Expression::Nested(expression) => expression_fault(scope, expression),
+        Formula::Bracket(expression) => expression_fault(scope, expression),
     }
 }
 
@@ -57,12 +57,12 @@ fn are_numbers(left: Option<Kind>, right: Option<Kind>) -> bool
 }
 
 /// An expression as the engine runs it.
-pub fn expression(alloc: Global, scope: &Scope, tree: &Expression) -> Result<SetExpr, AllocError>
+pub fn expression(alloc: Global, scope: &Scope, tree: &Formula) -> Result<SetExpr, AllocError>
     ensures { IfOk result (λ e. e ≡ formula_bound (scope_of scope.now) (formula_of tree.now)) }
 {
     match tree {
-        Expression::Operand(operand) => operand_expression(alloc, scope, operand),
-        Expression::Binary {
+        Formula::Plain(operand) => operand_expression(alloc, scope, operand),
+        Formula::Binary {
             left,
             op,
             right,
@@ -72,7 +72,7 @@ pub fn expression(alloc: Global, scope: &Scope, tree: &Expression) -> Result<Set
             let right = expression(alloc, scope, right)?;
             binary(alloc, *op, left, right)
         }
-        Expression::Nested(inner) => expression(alloc, scope, inner),
+        Formula::Bracket(inner) => expression(alloc, scope, inner),
     }
 }
 

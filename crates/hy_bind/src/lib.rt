@@ -18,7 +18,7 @@ mod scope;
 mod statements;
 mod tables;
 
-use hy_ast::Ast;
+use hy_ast::Statement;
 use hy_bound::Bound;
 use hy_schema::Catalog;
 pub use laws::{bound_statements_fit, names_mean_one_column};
@@ -28,8 +28,13 @@ use std::alloc::{AllocError, Global};
 pub use tables::repeats;
 
 /// The statement with its names resolved, or the first reason why it is refused. `script` is the bytes
-/// in which the tree's places lie.
-pub fn bind(alloc: Global, script: &[u8], catalog: &Catalog, ast: &Ast) -> Result<Bound, BindError>
+/// in which the tree's spans lie.
+pub fn bind(
+    alloc: Global,
+    script: &[u8],
+    catalog: &Catalog,
+    ast: &Statement,
+) -> Result<Bound, BindError>
     requires { NamesTables (statement_of ast.now) }
     ensures bound { IfOk result (λ bound. bound ≡ bound_of script.now catalog.now (statement_of ast.now)) }
     ensures accepts { OnOk result (bind_fault script.now catalog.now (statement_of ast.now) ≡ None) }
@@ -51,33 +56,40 @@ pub fn bind(alloc: Global, script: &[u8], catalog: &Catalog, ast: &Ast) -> Resul
 }
 
 /// Why a statement whose tables are there is refused.
-fn fault(alloc: Global, scope: &scope::Scope, ast: &Ast) -> Result<Option<BindFault>, AllocError>
+fn fault(
+    alloc: Global,
+    scope: &scope::Scope,
+    ast: &Statement,
+) -> Result<Option<BindFault>, AllocError>
     ensures { IfOk result (λ fault. fault ≡ fault_in (scope_of scope.now) (statement_of ast.now)) }
 {
     match ast {
-        Ast::Insert { values, .. } => Ok(statements::insert_fault(scope, values.as_slice())),
-        Ast::Update {
+        Statement::Insert { values, .. } => Ok(statements::insert_fault(scope, values.as_slice())),
+        Statement::Update {
             sets,
             condition,
             ..
         } => statements::update_fault(alloc, scope, sets.as_slice(), condition.as_ref()),
-        Ast::Delete { condition, .. } => Ok(conditions::where_fault(scope, condition.as_ref())),
-        Ast::Select(query) => queries::query_fault(alloc, scope, query),
+        Statement::Delete { condition, .. } => Ok(conditions::where_fault(
+            scope,
+            condition.as_ref(),
+        )),
+        Statement::Select(query) => queries::query_fault(alloc, scope, query),
         _ => Ok(None),
     }
 }
 
 /// A statement as the engine runs it.
-fn bound(alloc: Global, scope: &scope::Scope, ast: &Ast) -> Result<Bound, AllocError>
+fn bound(alloc: Global, scope: &scope::Scope, ast: &Statement) -> Result<Bound, AllocError>
     requires { NamesTables (statement_of ast.now) }
     ensures { IfOk result (λ bound. bound ≡ bound_in (scope_of scope.now) (statement_of ast.now)) }
 {
     match ast {
-        Ast::Insert { values, .. } => Ok(Bound::Insert {
+        Statement::Insert { values, .. } => Ok(Bound::Insert {
             table: statements::table(scope),
             row: statements::row(alloc, scope.script, values.as_slice())?,
         }),
-        Ast::Update {
+        Statement::Update {
             sets,
             condition,
             ..
@@ -86,11 +98,11 @@ fn bound(alloc: Global, scope: &scope::Scope, ast: &Ast) -> Result<Bound, AllocE
             sets: statements::assignments(alloc, scope, sets.as_slice())?,
             pred: conditions::predicate(alloc, scope, condition.as_ref())?,
         }),
-        Ast::Delete { condition, .. } => Ok(Bound::Delete {
+        Statement::Delete { condition, .. } => Ok(Bound::Delete {
             table: statements::table(scope),
             pred: conditions::predicate(alloc, scope, condition.as_ref())?,
         }),
-        Ast::Select(query) => queries::query(alloc, scope, query),
+        Statement::Select(query) => queries::query(alloc, scope, query),
         _ => unreachable!(),
     }
 }

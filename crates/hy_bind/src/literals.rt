@@ -2,7 +2,8 @@
 
 ghost use Rattle.std.specs.Prelude.{◌≡◌, ◌<◌, ◌≤◌, ◌∷◌, [], is_some, length, drop, IfOk, IfSome, IfNone};
 ghost use Rattle.hy_value.specs.TextBytes.{text_of};
-ghost use Rattle.hy_bind.specs.Literals.{text_in, number_of, in_reach, integer_of, unquoted, unquoted_rest, literal_kind, literal_fault, literal_value, integer_value};
+ghost use Rattle.hy_bind.specs.Literals.{text_of_span, number_of, in_reach, integer_of, unquoted, unquoted_rest, literal_kind, literal_fault};
+ghost use Rattle.hy_bind.specs.Literals.{literal_value, integer_value};
 
 use crate::refusals::{BindFault, fault_if};
 use hy_ast::Literal;
@@ -10,9 +11,9 @@ use hy_token::Span;
 use hy_value::{Kind, Text, Value};
 use std::alloc::{AllocError, Global};
 
-/// What a script has in a place: nothing beyond its end.
+/// What a script has in a span: nothing beyond its end.
 pub fn text_in(script: &[u8], span: Span) -> &[u8]
-    ensures { result.now ≡ text_in script.now span }
+    ensures { result.now ≡ text_of_span script.now span }
 {
     let end = span.end.min(script.len());
     &script[span.start.min(end)..end]
@@ -50,20 +51,20 @@ fn integer(minus: bool, digits: &[u8]) -> Option<i64>
     signed(minus, number(digits)?)
 }
 
-/// What a text says first, from a place on, and the place of what it says next; nothing where it is
+/// What a text says first, from an offset on, and the offset of what it says next; nothing where it is
 /// closed.
-fn unquoted_at(text: &[u8], place: usize) -> Option<(u8, usize)>
-    ensures closed { IfNone result (unquoted_rest (drop place text.now) ≡ []) }
-    ensures first { IfSome result (λ next. unquoted_rest (drop place text.now) ≡ next.0 ∷ unquoted_rest (drop next.1 text.now)) }
-    ensures moves { IfSome result (λ next. place < next.1) }
+fn unquoted_at(text: &[u8], offset: usize) -> Option<(u8, usize)>
+    ensures closed { IfNone result (unquoted_rest (drop offset text.now) ≡ []) }
+    ensures first { IfSome result (λ next. unquoted_rest (drop offset text.now) ≡ next.0 ∷ unquoted_rest (drop next.1 text.now)) }
+    ensures moves { IfSome result (λ next. offset < next.1) }
     ensures within { IfSome result (λ next. next.1 ≤ length text.now) }
 {
-    let byte = *text.get(place)?;
+    let byte = *text.get(offset)?;
     if byte != b'\'' {
-        return Some((byte, place + 1));
+        return Some((byte, offset + 1));
     }
-    match text.get(place + 1) {
-        Some(b'\'') => Some((byte, place + 2)),
+    match text.get(offset + 1) {
+        Some(b'\'') => Some((byte, offset + 2)),
         _ => None,
     }
 }
@@ -73,10 +74,10 @@ fn unquoted_len(text: &[u8]) -> usize
     ensures { result ≡ length (unquoted text.now) }
 {
     let mut length = 0;
-    let mut place = 1;
-    while let Some((_, next)) = unquoted_at(text, place) {
+    let mut offset = 1;
+    while let Some((_, next)) = unquoted_at(text, offset) {
         length += 1;
-        place = next;
+        offset = next;
     }
     length
 }
@@ -86,10 +87,10 @@ fn unquote(alloc: Global, text: &[u8]) -> Result<Vec<u8>, AllocError>
     ensures { IfOk result (λ bytes. bytes.items ≡ unquoted text.now) }
 {
     let mut bytes = Vec::new(alloc);
-    let mut place = 1;
-    while let Some((byte, next)) = unquoted_at(text, place) {
+    let mut offset = 1;
+    while let Some((byte, next)) = unquoted_at(text, offset) {
         bytes.push(byte)?;
-        place = next;
+        offset = next;
     }
     Ok(bytes)
 }

@@ -13,25 +13,23 @@ use crate::refusals::{BindFault, fault_if, first_of};
 use crate::scope::{Scope, column, column_fault, resolve};
 use crate::statements::table;
 use crate::tables::{joined_tables, repeats};
-use hy_ast::{ColumnRef, Condition, Query, Total};
+use hy_ast::{ColumnRef, Selection, Test, Total};
 use hy_bound::{Bound, Items};
+use hy_limits::MOST_JOINED;
 use hy_token::Span;
 use hy_value::Seq;
 use std::alloc::{AllocError, Global};
-
-/// How many tables FROM may have.
-const MOST_JOINED: usize = 4;
 
 /// Why a SELECT is refused.
 pub fn query_fault(
     alloc: Global,
     scope: &Scope,
-    query: &Query,
+    query: &Selection,
 ) -> Result<Option<BindFault>, AllocError>
     ensures { IfOk result (λ fault. fault ≡ selection_fault (scope_of scope.now) (selection_of query.now)) }
 {
     match query {
-        Query::Rows {
+        Selection::Rows {
             listed,
             table,
             joins,
@@ -44,8 +42,8 @@ pub fn query_fault(
             let shown = first_of(listed_fault(scope, listed), selected);
             Ok(first_of(joined, shown))
         }
-        Query::Count { condition, .. } => Ok(where_fault(scope, condition.as_ref())),
-        Query::Groups {
+        Selection::Count { condition, .. } => Ok(where_fault(scope, condition.as_ref())),
+        Selection::Groups {
             column,
             total,
             condition,
@@ -74,7 +72,7 @@ fn groups_fault(
     scope: &Scope,
     listed: &ColumnRef,
     total: &Total,
-    condition: Option<&Condition>,
+    condition: Option<&Test>,
     key: &ColumnRef,
 ) -> Option<BindFault>
     ensures { result ≡ groups_fault (scope_of scope.now) listed.now total.now (option_map test_of (option_copied condition.entry)) key.now }
@@ -103,11 +101,11 @@ fn number_of(scope: &Scope, reference: &ColumnRef) -> u128
 }
 
 /// A SELECT as the engine runs it.
-pub fn query(alloc: Global, scope: &Scope, tree: &Query) -> Result<Bound, AllocError>
+pub fn query(alloc: Global, scope: &Scope, tree: &Selection) -> Result<Bound, AllocError>
     ensures { IfOk result (λ bound. bound ≡ selection_bound (scope_of scope.now) (selection_of tree.now)) }
 {
     match tree {
-        Query::Rows {
+        Selection::Rows {
             listed,
             joins,
             condition,
@@ -118,13 +116,13 @@ pub fn query(alloc: Global, scope: &Scope, tree: &Query) -> Result<Bound, AllocE
             pred: predicate(alloc, scope, condition.as_ref())?,
             items: items(alloc, scope, listed)?,
         }),
-        Query::Count { condition, .. } => Ok(Bound::Select {
+        Selection::Count { condition, .. } => Ok(Bound::Select {
             tables: Seq::from_slice(alloc, scope.tables)?,
             ons: Seq::new(alloc),
             pred: predicate(alloc, scope, condition.as_ref())?,
             items: Items::Count,
         }),
-        Query::Groups {
+        Selection::Groups {
             total,
             condition,
             key,

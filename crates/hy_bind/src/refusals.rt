@@ -47,7 +47,7 @@ impl From<AllocError> for BindError {
     }
 }
 
-/// The place of a refusal in the order in which they are tested.
+/// The rank of a refusal in the order in which they are tested.
 fn rank(fault: BindFault) -> u8
     ensures { result ≡ rank fault }
 {

@@ -3,7 +3,8 @@
 ghost use Rattle.std.specs.Prelude.{◌≡◌, ◌<◌, ◌^◌, IfOk, map};
 ghost use Rattle.std.specs.Option.{option_and_then};
 ghost use Rattle.hy_schema.specs.Names.{column_number, table_at};
-ghost use Rattle.hy_bind.specs.Scope.{scope_of, width_at, may_mean, found_in, and_found, only, resolved, column_of, column_fault, column_kind, operand_fault, operand_kind, operand_side};
+ghost use Rattle.hy_bind.specs.Scope.{scope_of, width_at, may_mean, found_in, and_found, only, resolved, column_of, column_fault, column_kind};
+ghost use Rattle.hy_bind.specs.Scope.{operand_fault, operand_kind, operand_side};
 
 use crate::literals::{kind_of, literal_fault, text_in, value};
 use crate::refusals::{BindFault, fault_if};
@@ -116,11 +117,11 @@ fn found_in(
         return None;
     }
     let columns = def.columns.as_slice();
-    let place = column_place(columns, text_in(script, reference.column))?;
-    let column = columns.get(place)?;
+    let ordinal = column_ordinal(columns, text_in(script, reference.column))?;
+    let column = columns.get(ordinal)?;
     Some(Found {
         table,
-        column: from + place as u128,
+        column: from + ordinal as u128,
         kind: column.kind,
     })
 }
@@ -136,7 +137,7 @@ fn may_mean(script: &[u8], table: Option<Span>, name: &[u8]) -> bool
 }
 
 /// The number of a column in its table.
-pub fn column_place(columns: &[Column], name: &[u8]) -> Option<usize>
+pub fn column_ordinal(columns: &[Column], name: &[u8]) -> Option<usize>
     ensures { result ≡ column_number columns.now name.now }
 {
     columns

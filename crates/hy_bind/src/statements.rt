@@ -2,18 +2,19 @@
 
 ghost use Rattle.std.specs.Prelude.{◌≡◌, ◌∷◌, IfOk, None, Some, map, length};
 ghost use Rattle.std.specs.Option.{option_map, option_map_or, option_copied};
-ghost use Rattle.hy_ast.specs.Trees.{setting_of, test_of};
+ghost use Rattle.hy_ast.specs.Trees.{set_clause_of, test_of};
 ghost use Rattle.hy_bind.specs.Literals.{literal_value};
 ghost use Rattle.hy_bind.specs.Scope.{scope_of};
-ghost use Rattle.hy_bind.specs.Statements.{table_of, columns_of, key_of, value_fault, values_fault, is_null, key_fault, insert_fault, is_key, kind_at, set_fault, set_column, sets_fault, update_fault, set_bound};
+ghost use Rattle.hy_bind.specs.Statements.{table_of, columns_of, key_of, value_fault, values_fault, is_null, key_fault, insert_fault, is_key};
+ghost use Rattle.hy_bind.specs.Statements.{kind_at, set_fault, set_column, sets_fault, update_fault, set_bound};
 
 use crate::conditions::where_fault;
 use crate::expressions::{expression, expression_fault, expression_kind};
 use crate::literals::{kind_of, literal_fault, text_in, value};
 use crate::refusals::{BindFault, agree, fault_if, first_of};
-use crate::scope::{Scope, column_place};
+use crate::scope::{Scope, column_ordinal};
 use crate::tables::repeats;
-use hy_ast::{Assignment, Condition, Literal};
+use hy_ast::{Literal, SetClause, Test};
 use hy_bound::{Assign, Sets};
 use hy_schema::Column;
 use hy_token::Span;
@@ -113,10 +114,11 @@ pub fn row(alloc: Global, script: &[u8], literals: &[Literal]) -> Result<Row, Al
 pub fn update_fault(
     alloc: Global,
     scope: &Scope,
-    sets: &[Assignment],
-    condition: Option<&Condition>,
+    sets: &[SetClause],
+    condition: Option<&Test>,
 ) -> Result<Option<BindFault>, AllocError>
-    ensures { IfOk result (λ fault. fault ≡ update_fault (scope_of scope.now) (map setting_of sets.now) (option_map test_of (option_copied condition.entry))) }
+    ensures { IfOk result (λ fault. fault ≡ update_fault (scope_of scope.now) (map set_clause_of sets.now)
+        (option_map test_of (option_copied condition.entry))) }
 {
     let columns = columns_set(alloc, sets)?;
     let again = repeats(alloc, scope.script, columns.as_slice())?;
@@ -125,9 +127,9 @@ pub fn update_fault(
     Ok(first_of(sets_fault(scope, sets), rest))
 }
 
-/// The places of the columns on the left of SET.
-fn columns_set(alloc: Global, sets: &[Assignment]) -> Result<Vec<Span>, AllocError>
-    ensures { IfOk result (λ spans. spans.items ≡ map (λ set. set.column) (map setting_of sets.now)) }
+/// The spans of the columns on the left of SET.
+fn columns_set(alloc: Global, sets: &[SetClause]) -> Result<Vec<Span>, AllocError>
+    ensures { IfOk result (λ spans. spans.items ≡ map (λ set. set.column) (map set_clause_of sets.now)) }
 {
     let mut spans = Vec::new(alloc);
     for set in sets {
@@ -137,8 +139,8 @@ fn columns_set(alloc: Global, sets: &[Assignment]) -> Result<Vec<Span>, AllocErr
 }
 
 /// Why assignments are refused.
-fn sets_fault(scope: &Scope, sets: &[Assignment]) -> Option<BindFault>
-    ensures { result ≡ sets_fault (scope_of scope.now) (map setting_of sets.now) }
+fn sets_fault(scope: &Scope, sets: &[SetClause]) -> Option<BindFault>
+    ensures { result ≡ sets_fault (scope_of scope.now) (map set_clause_of sets.now) }
 {
     let mut fault = None;
     for set in sets {
@@ -148,15 +150,15 @@ fn sets_fault(scope: &Scope, sets: &[Assignment]) -> Option<BindFault>
 }
 
 /// The number of the column on the left.
-fn set_column(scope: &Scope, set: &Assignment) -> Option<usize>
-    ensures { result ≡ set_column (scope_of scope.now) (setting_of set.now) }
+fn set_column(scope: &Scope, set: &SetClause) -> Option<usize>
+    ensures { result ≡ set_column (scope_of scope.now) (set_clause_of set.now) }
 {
-    column_place(columns(scope), text_in(scope.script, set.column))
+    column_ordinal(columns(scope), text_in(scope.script, set.column))
 }
 
 /// Why an assignment to a column of this number, if there is one, is refused.
-fn set_fault(scope: &Scope, set: &Assignment, column: Option<usize>) -> Option<BindFault>
-    ensures { result ≡ set_fault (scope_of scope.now) (setting_of set.now) column }
+fn set_fault(scope: &Scope, set: &SetClause, column: Option<usize>) -> Option<BindFault>
+    ensures { result ≡ set_fault (scope_of scope.now) (set_clause_of set.now) column }
 {
     let Some(column) = column else {
         return Some(BindFault::UnknownColumn);
@@ -187,8 +189,8 @@ fn is_key(key: Option<u32>, column: usize) -> bool
 }
 
 /// The assignments as the engine runs them.
-pub fn assignments(alloc: Global, scope: &Scope, sets: &[Assignment]) -> Result<Sets, AllocError>
-    ensures { IfOk result (λ all. all ≡ map (set_bound (scope_of scope.now)) (map setting_of sets.now)) }
+pub fn assignments(alloc: Global, scope: &Scope, sets: &[SetClause]) -> Result<Sets, AllocError>
+    ensures { IfOk result (λ all. all ≡ map (set_bound (scope_of scope.now)) (map set_clause_of sets.now)) }
 {
     let mut all = Vec::new(alloc);
     for set in sets {
@@ -198,8 +200,8 @@ pub fn assignments(alloc: Global, scope: &Scope, sets: &[Assignment]) -> Result<
 }
 
 /// An assignment as the engine runs it.
-fn assignment(alloc: Global, scope: &Scope, set: &Assignment) -> Result<Assign, AllocError>
-    ensures { IfOk result (λ assign. assign ≡ set_bound (scope_of scope.now) (setting_of set.now)) }
+fn assignment(alloc: Global, scope: &Scope, set: &SetClause) -> Result<Assign, AllocError>
+    ensures { IfOk result (λ assign. assign ≡ set_bound (scope_of scope.now) (set_clause_of set.now)) }
 {
     let column = set_column(scope, set).unwrap_or(0);
     Ok(Assign {

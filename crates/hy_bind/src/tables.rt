@@ -3,42 +3,42 @@
 ghost use Rattle.std.specs.Prelude.{◌≡◌, [], ◌∷◌, Some, None, map, IfOk};
 ghost use Rattle.std.specs.Option.{option_map};
 ghost use Rattle.hy_ast.specs.Trees.{statement_of, selection_of};
-ghost use Rattle.hy_bind.specs.Literals.{text_in};
+ghost use Rattle.hy_bind.specs.Literals.{text_of_span};
 ghost use Rattle.hy_bind.specs.Statements.{repeats, numbers_of, tables_of};
 ghost use Rattle.hy_ast.specs.Trees as tree;
 
 use crate::literals::text_in;
-use hy_ast::{Ast, Join, Query};
+use hy_ast::{Join, Selection, Statement};
 use hy_schema::{Catalog, Names};
 use hy_token::Span;
 use std::alloc::{AllocError, Global};
 
-/// The places of the tables that a statement names, in order.
-pub fn tables(alloc: Global, ast: &Ast) -> Result<Vec<Span>, AllocError>
+/// The spans of the tables that a statement names, in order.
+pub fn tables(alloc: Global, ast: &Statement) -> Result<Vec<Span>, AllocError>
     ensures { IfOk result (λ tables. tables.items ≡ tables_of (statement_of ast.now)) }
 {
     match ast {
-        Ast::Insert { table, .. } | Ast::Update { table, .. } | Ast::Delete { table, .. } => {
-            Vec::from_slice(alloc, &[*table])
-        }
-        Ast::Select(query) => query_tables(alloc, query),
+        Statement::Insert { table, .. }
+        | Statement::Update { table, .. }
+        | Statement::Delete { table, .. } => { Vec::from_slice(alloc, &[*table]) }
+        Statement::Select(query) => query_tables(alloc, query),
         _ => Ok(Vec::new(alloc)),
     }
 }
 
-/// The places of the tables of a SELECT, in FROM order.
-fn query_tables(alloc: Global, query: &Query) -> Result<Vec<Span>, AllocError>
+/// The spans of the tables of a SELECT, in FROM order.
+fn query_tables(alloc: Global, query: &Selection) -> Result<Vec<Span>, AllocError>
     ensures { IfOk result (λ tables. tables.items ≡ tables_of (tree.Select (selection_of query.now))) }
 {
     match query {
-        Query::Rows { table, joins, .. } => joined_tables(alloc, *table, joins.as_slice()),
-        Query::Count { table, .. } | Query::Groups { table, .. } => {
+        Selection::Rows { table, joins, .. } => joined_tables(alloc, *table, joins.as_slice()),
+        Selection::Count { table, .. } | Selection::Groups { table, .. } => {
             Vec::from_slice(alloc, &[*table])
         }
     }
 }
 
-/// The places of a table and of those joined to it.
+/// The spans of a table and of those joined to it.
 pub fn joined_tables(alloc: Global, table: Span, joins: &[Join]) -> Result<Vec<Span>, AllocError>
     ensures { IfOk result (λ tables. tables.items ≡ table ∷ map (λ join. join.table) joins.now) }
 {
@@ -69,9 +69,9 @@ pub fn numbers(
     Ok(Some(numbers))
 }
 
-/// Whether a name comes twice among those in these places.
+/// Whether a name comes twice among those in these spans.
 pub fn repeats(alloc: Global, script: &[u8], spans: &[Span]) -> Result<bool, AllocError>
-    ensures { IfOk result (λ again. again ≡ repeats (map (text_in script.now) spans.now)) }
+    ensures { IfOk result (λ again. again ≡ repeats (map (text_of_span script.now) spans.now)) }
 {
     let mut names = Names::new(alloc);
     for span in spans {

@@ -12,18 +12,18 @@ use Rattle.hy_bound.specs.declared.Shape.{Shape}
 use Rattle.hy_bound.specs.declared.Bound.{Bound}
 use Rattle.hy_bound.specs.declared.Bound.TheVariants.{Select, Group, Insert, Update, Delete}
 use Rattle.hy_bound.specs.declared.Txn.{Txn}
-use Rattle.hy_bound.specs.declared.Item.{Item}
 use Rattle.hy_bound.specs.Condition.{Condition}
 use Rattle.hy_bound.specs.Predicate.{column_of}
 use Rattle.hy_bound.specs.Records.{columns_of, columns_shown, columns_summed, on_columns, set_columns, shape_of}
 use Rattle.hy_bound.specs.Agreement.{HasItsKey}
+use Rattle.hy_limits.specs.declared.TheConstants.{MOST_COLUMNS, MOST_SESSIONS, MOST_STATEMENTS, MOST_TABLES, MOST_TXNS}
 
 -- ---- tables and first rows
 
--- a table has 1 to 32 columns, and its key is one of them
+-- a table has at least one column and at most so many, and its key is one of them
 pub record FitsShape (shape : Shape) : Type 0 where
   pub some : 1 ≤ shape.width
-  pub few : shape.width ≤ 32
+  pub few : shape.width ≤ MOST_COLUMNS
   pub key : HasItsKey shape
 
 -- no row has NULL in its key, and no two have the same key
@@ -102,27 +102,22 @@ MayStand read_only (Delete table pred) = IsFalse read_only
 
 -- ---- transactions and scripts
 
--- a transaction has at most 256 statements; each fits, and may stand in it
+-- a transaction has at most so many statements; each fits, and may stand in it
 pub record FitsTxn (shapes : List Shape) (txn : Txn) : Type 0 where
-  pub few : length txn.statements ≤ 256
+  pub few : length txn.statements ≤ MOST_STATEMENTS
   pub fit : All (FitsStatement shapes) txn.statements
   pub stand : All (MayStand txn.read_only) txn.statements
 
--- a session has at most 65,535 transactions, each of which fits
+-- a session has at most so many transactions, each of which fits
 pub record FitsSession (shapes : List Shape) (txns : List Txn) : Type 0 where
-  pub few : length txns ≤ 65535
+  pub few : length txns ≤ MOST_TXNS
   pub fit : All (FitsTxn shapes) txns
 
--- a script as it is run fits: at most 16 tables, each with its first rows, for at most so many of which there
--- is room, and at most 64 sessions
+-- a script as it is run fits: its tables and sessions are at most as many as may be, and for the first rows of
+-- each table there is room
 pub record Fits (shapes : List Shape) (room : ℕ) (first : List (List (List Value))) (programs : List (List Txn)) : Type 0 where
-  pub few_tables : length shapes ≤ 16
+  pub few_tables : length shapes ≤ MOST_TABLES
   pub tables : All FitsShape shapes
   pub first_rows : AllZip (FitsRows room) shapes first
-  pub few_sessions : length programs ≤ 64
+  pub few_sessions : length programs ≤ MOST_SESSIONS
   pub sessions : All (FitsSession shapes) programs
-
--- a schedule has at most 1,000,000 items, each of one of these many sessions
-pub record FitsSchedule (sessions : ℕ) (schedule : List Item) : Type 0 where
-  pub few : length schedule ≤ 1000000
-  pub known : All (λ (item : Item). item.session < sessions) schedule

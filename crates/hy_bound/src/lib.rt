@@ -5,20 +5,20 @@
 ghost use Rattle.std.specs.Prelude.{◌≡◌, IfOk};
 ghost use Rattle.hy_bound.specs.Records.{shape_of};
 
-mod changes;
 mod conjuncts;
 mod expression;
 mod laws;
 mod predicate;
 mod projection;
+mod records;
 
-pub use changes::hits;
 pub use conjuncts::conditions;
 pub use expression::{ExprRoot, SetExpr, set_row, value};
 use hy_value::{ColMask, Row, Seq, Value};
 pub use laws::{only_named_columns_matter, projections_are_spread};
 pub use predicate::{Pred, Root, Side, SideView, cell, column_value, compare, is_null, truth};
 pub use projection::{mask_row, project_row};
+pub use records::hits;
 use std::alloc::{AllocError, Global};
 
 /// Column or table numbers.
@@ -257,15 +257,3 @@ pub enum Reply {
 
 /// The replies of a transaction.
 pub type Replies = Seq<Reply>;
-
-/// An item of a schedule: one step of a session, or its steps until it answers or can't go on.
-#[derive(Clone, Copy, Debug, PartialEq, Eq)]
-pub struct Item {
-    /// The session.
-    pub session: u32,
-    /// Whether it is the steps of a whole statement.
-    pub whole: bool,
-}
-
-/// The items of a schedule.
-pub type Schedule = Seq<Item>;

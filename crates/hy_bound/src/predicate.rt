@@ -2,8 +2,8 @@
 
 ghost use Rattle.std.specs.Prelude.{◌≡◌, ◌++◌, map, IfOk, OnOk, IfSome, IfNone};
 ghost use Rattle.hy_bound.specs.Condition.{True, Compare, IsNull, Not, And, Or};
-ghost use Rattle.hy_bound.specs.Predicate.{truth_of, sense as sense_of, opposite as opposite_of, both as both_of, either as either_of, compared, side_of, column_of, is_null as is_null_value};
-ghost use Rattle.hy_bound.specs.Records.{conjuncts, and_also as and_also_of};
+ghost use Rattle.hy_bound.specs.Predicate.{truth_of, sense_of, opposite_of, both_of, either_of, compared, side_of, column_of, is_null_value};
+ghost use Rattle.hy_bound.specs.Records.{conjuncts, conjoined};
 ghost use Rattle.hy_bound.specs.PredView.{operand_side, rooted};
 ghost use Rattle.hy_value.specs.declared.Value.{Value};
 ghost use Rattle.hy_value.specs.declared.Value.TheVariants.{Null, Int};
@@ -260,7 +260,7 @@ impl Pred {
 
     /// This condition and one more; a condition beside none stands for itself.
     pub fn and_also(self, alloc: Global, other: Pred) -> Result<Pred, AllocError>
-        ensures { IfOk result (λ p. p ≡ and_also_of self other) }
+        ensures { IfOk result (λ p. p ≡ conjoined self other) }
     {
         match self.node {
             PredNode::True => Ok(other),

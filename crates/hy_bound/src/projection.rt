@@ -1,7 +1,7 @@
 //! What is kept of rows.
 
 ghost use Rattle.std.specs.Prelude.{◌≡◌, ◌++◌, IfOk, OnOk};
-ghost use Rattle.hy_value.specs.Columns.{has as has_column};
+ghost use Rattle.hy_value.specs.Columns.{has_column};
 ghost use Rattle.hy_bound.specs.Projection.{masked, masked_from, projected, projected_from};
 
 use hy_value::{ColMask, Row, Seq, Value};

@@ -1,3 +1,4 @@
+-- A run of whole statements comes to an end, and to the state after it.
 use Rattle.std.proofs.Common.{◌≡◌, ◌≢◌, ℕ, zero, suc, ◌+◌, ◌-◌, ◌<◌, ◌≤◌, List, [], ◌∷◌, Bool, true, false, length, get_or, refl, ap, sym, ◌∙◌, subst, arith, lit≤, zero-add, add-zero}
 use Rattle.std.specs.Prelude.{if◌then◌else◌, ◌&&◌, ◌==◌}
 use Rattle.std.proofs.Math.Logic.{⊎_elim}
@@ -5,7 +6,7 @@ use Rattle.std.proofs.Math.ListN.{get_or-map}
 use Rattle.std.proofs.lemmas.List.{length-map}
 use Rattle.std.proofs.lemmas.Bool.{cases_eq, cases_lt}
 use Rattle.hy_bound.specs.declared.Txn.{Txn}
-use Rattle.hy_bound.specs.declared.Item.{Item}
+use Rattle.hy_schedule.specs.declared.Item.{Item}
 use Rattle.hy_machine.specs.declared.Setting.{Setting}
 use Rattle.hy_machine.specs.declared.Machine.{Machine}
 use Rattle.hy_machine.specs.declared.Session.{Session}

@@ -1,3 +1,4 @@
+-- What a whole statement of one session makes of the state between statements.
 use Rattle.std.proofs.Common.{◌≡◌, ◌≢◌, ℕ, zero, suc, ◌+◌, ◌-◌, ◌*◌, ◌<◌, ◌≤◌, List, [], ◌∷◌, ◌++◌, Option, None, Some, Bool, true, false, length, take, drop, get_or, map, replicate, refl, ap, sym, ◌∙◌, subst, arith, is_some}
 use Rattle.std.specs.Prelude.{if◌then◌else◌, slice_get, count_by}
 use Rattle.std.specs.List.{AllByRecursion}
@@ -18,7 +19,7 @@ use Rattle.hy_bound.specs.Condition.{Condition}
 use Rattle.hy_bound.specs.declared.On.{On}
 use Rattle.hy_bound.specs.declared.Items.{Items}
 use Rattle.hy_bound.specs.declared.Assign.{Assign}
-use Rattle.hy_meaning.specs.Statement.{Table, answer, mean}
+use Rattle.hy_meaning.specs.Statement.{Table, answer_of, mean}
 use Rattle.hy_meaning.specs.Serial.{alone_of}
 use Rattle.hy_stamp.specs.declared.Label.{Label}
 use Rattle.hy_render.specs.declared.Ending.TheVariants.{Committed, Read}
@@ -240,7 +241,7 @@ goes_select : (setting : Setting) (form : IsFirstForm setting) (machine : Machin
     → Goes setting form.writer machine number (whole (suc most) setting machine number)
 goes_select setting form machine b most number txn begun from ons pred items there is short e s next =
     let one_table : length from ≡ 1 = all_at HasOneTable txn.statements (length begun.replies) (Select from ons pred items) short.one_table next in
-    goes_answered setting form machine b most number txn begun begun.own (Select from ons pred items) (map (rows_seen (view setting machine begun)) from) (answer ons pred items (map (rows_seen (view setting machine begun)) from)) there is e s next
+    goes_answered setting form machine b most number txn begun begun.own (Select from ons pred items) (map (rows_seen (view setting machine begun)) from) (answer_of ons pred items (map (rows_seen (view setting machine begun)) from)) there is e s next
     (selects most setting machine number txn begun from ons pred items b.mark is e next form.one_chunk one_table)
     (select_is setting.shapes (view setting machine begun) from ons pred items one_table)
     s.places s.quiet

@@ -1,3 +1,4 @@
+-- The outcome of a run of the first form is lawful, clause by clause.
 use Rattle.std.proofs.Common.{◌≡◌, ℕ, zero, suc, ◌+◌, ◌-◌, ◌<◌, ◌≤◌, List, [], ◌∷◌, ◌++◌, Option, None, Some, Bool, true, false, not, length, take, get_or, map, refl, ap, sym, ◌∙◌, subst, arith, zero-add, add-zero, is_some}
 use Rattle.std.specs.Prelude.{if◌then◌else◌, slice_get, ◌||◌}
 use Rattle.std.specs.List.{AllByRecursion, list_any}
@@ -8,7 +9,7 @@ use Rattle.std.proofs.Math.Seq.{take-length}
 use Rattle.std.proofs.lemmas.List.{length-map, append-nil, length-append}
 use Rattle.std.proofs.lemmas.Bool.{cases_eq, cases_lt, cases_Bool}
 use Rattle.hy_bound.specs.declared.Txn.{Txn}
-use Rattle.hy_bound.specs.declared.Item.{Item}
+use Rattle.hy_schedule.specs.declared.Item.{Item}
 use Rattle.hy_bound.specs.declared.Bound.{Bound}
 use Rattle.hy_meaning.specs.Statement.{Database}
 use Rattle.hy_meaning.specs.Serial.{Alone, alone_of}
@@ -277,25 +278,25 @@ ends_done setting order writer number session d =
     (λ e. (closes, ap length (none_written 0 d.begun.own (not_true _ e))))
     (λ e. (closes, some_written 0 d.begun.own (not_false _ e)))
 
-at_first : {A : Type 0} (x : A) (place : ℕ) (y : A) → slice_get (x ∷ []) place ≡ Some y → (place ≡ 0) × (x ≡ y)
+at_first : {A : Type 0} (x : A) (rank : ℕ) (y : A) → slice_get (x ∷ []) rank ≡ Some y → (rank ≡ 0) × (x ≡ y)
 at_first x zero y e = (refl, let same : x ≡ y = cc in same)
-at_first x (suc place) y e = cc
+at_first x (suc rank) y e = cc
 
--- what stands at a place of the order
-stands_at : (setting : Setting) (writer : ℕ) (machine : Machine) (begun : Begun) → machine.order ≡ entry_of setting writer begun ∷ [] → (place : ℕ) (entry : Committing)
-    → slice_get (map committed_of machine.order) place ≡ Some entry → (place ≡ 0) × (committed_of (entry_of setting writer begun) ≡ entry)
-stands_at setting writer machine begun e place entry h =
-    at_first (committed_of (entry_of setting writer begun)) place entry (ap (λ (es : List Entry). slice_get (map committed_of es) place) (sym e) ∙ h)
+-- what stands at a rank of the order
+stands_at : (setting : Setting) (writer : ℕ) (machine : Machine) (begun : Begun) → machine.order ≡ entry_of setting writer begun ∷ [] → (rank : ℕ) (entry : Committing)
+    → slice_get (map committed_of machine.order) rank ≡ Some entry → (rank ≡ 0) × (committed_of (entry_of setting writer begun) ≡ entry)
+stands_at setting writer machine begun e rank entry h =
+    at_first (committed_of (entry_of setting writer begun)) rank entry (ap (λ (es : List Entry). slice_get (map committed_of es) rank) (sym e) ∙ h)
 
-nothing_at : (machine : Machine) → machine.order ≡ [] → (place : ℕ) (entry : Committing) → slice_get (map committed_of machine.order) place ≡ Some entry → ⊥
-nothing_at machine e place entry h = let never : None ≡ Some entry = ap (λ (es : List Entry). slice_get (map committed_of es) place) (sym e) ∙ h in cc
+nothing_at : (machine : Machine) → machine.order ≡ [] → (rank : ℕ) (entry : Committing) → slice_get (map committed_of machine.order) rank ≡ Some entry → ⊥
+nothing_at machine e rank entry h = let never : None ≡ Some entry = ap (λ (es : List Entry). slice_get (map committed_of es) rank) (sym e) ∙ h in cc
 
 committed_done : (setting : Setting) (writer : ℕ) (machine : Machine) → Order setting writer machine → AllDone setting machine.order writer 0 machine.sessions
-    → (place : ℕ) (entry : Committing) → slice_get (map committed_of machine.order) place ≡ Some entry
-    → HasCommitted (all_outcomes setting 0 machine.sessions) entry.label place
-committed_done setting writer machine (empty e) all place entry h = absurd (nothing_at machine e place entry h)
-committed_done setting writer machine (single d there w e) all place entry h =
-    let found : (place ≡ 0) × (committed_of (entry_of setting writer d.begun) ≡ entry) = stands_at setting writer machine d.begun e place entry h in
+    → (rank : ℕ) (entry : Committing) → slice_get (map committed_of machine.order) rank ≡ Some entry
+    → HasCommitted (all_outcomes setting 0 machine.sessions) entry.label rank
+committed_done setting writer machine (empty e) all rank entry h = absurd (nothing_at machine e rank entry h)
+committed_done setting writer machine (single d there w e) all rank entry h =
+    let found : (rank ≡ 0) × (committed_of (entry_of setting writer d.begun) ≡ entry) = stands_at setting writer machine d.begun e rank entry h in
     record {
       number = writer;
       txn = result_of setting writer d.begun;
@@ -304,11 +305,11 @@ committed_done setting writer machine (single d there w e) all place entry h =
       ending = ap (λ (q : Bool). if q then Read else Committed 0) w ∙ ap Committed (sym found.0);
     }
 
-once_done : (setting : Setting) (writer : ℕ) (machine : Machine) → Order setting writer machine → (place other : ℕ) (entry again : Committing)
-    → slice_get (map committed_of machine.order) place ≡ Some entry → slice_get (map committed_of machine.order) other ≡ Some again → place ≡ other
-once_done setting writer machine (empty e) place other entry again h k = absurd (nothing_at machine e place entry h)
-once_done setting writer machine (single d there w e) place other entry again h k =
-    let p : (place ≡ 0) × (committed_of (entry_of setting writer d.begun) ≡ entry) = stands_at setting writer machine d.begun e place entry h in
+once_done : (setting : Setting) (writer : ℕ) (machine : Machine) → Order setting writer machine → (rank other : ℕ) (entry again : Committing)
+    → slice_get (map committed_of machine.order) rank ≡ Some entry → slice_get (map committed_of machine.order) other ≡ Some again → rank ≡ other
+once_done setting writer machine (empty e) rank other entry again h k = absurd (nothing_at machine e rank entry h)
+once_done setting writer machine (single d there w e) rank other entry again h k =
+    let p : (rank ≡ 0) × (committed_of (entry_of setting writer d.begun) ≡ entry) = stands_at setting writer machine d.begun e rank entry h in
     let q : (other ≡ 0) × (committed_of (entry_of setting writer d.begun) ≡ again) = stands_at setting writer machine d.begun e other again k in
     p.0 ∙ sym q.0
 
@@ -326,7 +327,7 @@ lawful setting items form whole_ones =
       replies = each_done setting machine.order form.writer _ (replies_done setting form machine order) 0 machine.sessions all;
       replays = each_done setting machine.order form.writer _ (replays_done setting form machine order) 0 machine.sessions all;
       committed = committed_done setting form.writer machine order all;
-      once = λ place other entry again h k same. once_done setting form.writer machine order place other entry again h k;
+      once = λ rank other entry again h k same. once_done setting form.writer machine order rank other entry again h k;
       tables = sym (ap (database_at setting.shapes setting.first setting.programs (map committed_of machine.order)) (length-map machine.order committed_of)
           ∙ (databases setting form.writer machine order (length machine.order) (omega arith)
           ∙ ap (λ (es : List Entry). bag (history (opening_tables setting) es)) (take-length machine.order)));

@@ -1,3 +1,4 @@
+-- An UPDATE by the machine's visit, and by the serial meaning.
 use Rattle.std.proofs.Common.{◌≡◌, ℕ, suc, ◌+◌, List, [], ◌∷◌, ◌++◌, Option, None, Some, Ok, Bool, true, false, cond, length, get_or, map, refl, ap, sym, ◌∙◌, arith, is_some, ℤ, pos as integer, ◌+ℤ◌}
 use Rattle.std.proofs.Math.ListN.{set}
 use Rattle.std.specs.Prelude.{filter, count_by, if◌then◌else◌}
@@ -25,8 +26,8 @@ use Rattle.hy_bound.specs.declared.Reply.TheVariants.{Rows, Value as Total, Upda
 use Rattle.hy_bound.specs.declared.Items.TheVariants.{Columns, Sum, Count}
 use Rattle.hy_bound.specs.Predicate.{truth_of, column_of}
 use Rattle.hy_bound.specs.Assignment.{value_of, set_column, assigned_to, assigned}
-use Rattle.hy_meaning.specs.Statement.{Table, Database, rows_in, product, shown, columns_in, selects, answer, and_row, updated_rows, with_table, mean}
-use Rattle.hy_meaning.specs.Totals.{added, sum_of}
+use Rattle.hy_meaning.specs.Statement.{Table, Database, rows_in, product, shown, columns_in, selects, answer_of, and_row, updated_rows, with_table, mean}
+use Rattle.hy_meaning.specs.Totals.{added_of, sum_of}
 use Rattle.hy_meaning.specs.Serial.{Alone, and_then, goes_on, alone_from}
 use Rattle.hy_stamp.specs.declared.Label.{Label}
 use Rattle.hy_machine.specs.Cells.{Cell, Tables, Own, overlaid, over, rows_of}
@@ -193,12 +194,12 @@ filter_sorted p (row ∷ rows) = IsPermutation-trans _ (filter p (row ∷ sorted
 
 -- what a row adds to a sum, where it is one of those
 sum_if : (b : Bool) (column : ℕ) (row : Row) (rows : List Row)
-    → sum_of column (cond b (row ∷ rows) rows) ≡ (if b then added (column_of row column) else integer 0) +ℤ sum_of column rows
+    → sum_of column (cond b (row ∷ rows) rows) ≡ (if b then added_of (column_of row column) else integer 0) +ℤ sum_of column rows
 sum_if true column row rows = refl
 sum_if false column row rows = omega (arith, ints)
 
 sum_filter : (p : Row → Bool) (column : ℕ) (row : Row) (rows : List Row)
-    → sum_of column (filter p (row ∷ rows)) ≡ (if p row then added (column_of row column) else integer 0) +ℤ sum_of column (filter p rows)
+    → sum_of column (filter p (row ∷ rows)) ≡ (if p row then added_of (column_of row column) else integer 0) +ℤ sum_of column (filter p rows)
 sum_filter p column row rows = sum_if (p row) column row (filter p rows)
 
 three : (a b s : ℤ) → a +ℤ (b +ℤ s) ≡ b +ℤ (a +ℤ s)
@@ -208,7 +209,7 @@ sum_put_if : (b : Bool) (p : Row → Bool) (column : ℕ) (row first : Row) (row
     → sum_of column (filter p rest) ≡ sum_of column (filter p (row ∷ rows))
     → sum_of column (filter p (if b then first ∷ rest else row ∷ first ∷ rows)) ≡ sum_of column (filter p (row ∷ first ∷ rows))
 sum_put_if true p column row first rows rest h =
-    let one : Row → ℤ = λ r. if p r then added (column_of r column) else integer 0 in
+    let one : Row → ℤ = λ r. if p r then added_of (column_of r column) else integer 0 in
     sum_filter p column first rest
     ∙ (ap (λ (s : ℤ). one first +ℤ s) (h ∙ sum_filter p column row rows)
     ∙ (three (one first) (one row) (sum_of column (filter p rows))
@@ -223,7 +224,7 @@ sum_put p column row (first ∷ rows) = sum_put_if (is_lt (row_cmp first row)) p
 sum_sorted : (p : Row → Bool) (column : ℕ) (rows : List Row) → sum_of column (filter p rows) ≡ sum_of column (filter p (sorted rows))
 sum_sorted p column [] = refl
 sum_sorted p column (row ∷ rows) =
-    let one : ℤ = if p row then added (column_of row column) else integer 0 in
+    let one : ℤ = if p row then added_of (column_of row column) else integer 0 in
     sum_filter p column row rows
     ∙ (ap (λ (s : ℤ). one +ℤ s) (sum_sorted p column rows)
     ∙ (sym (sum_filter p column row (sorted rows)) ∙ sym (sum_put p column row (sorted rows))))
@@ -233,7 +234,7 @@ shown_sorted p (Columns columns) rows = ap Rows (sorted_from_permutation _ _ (Is
 shown_sorted p (Sum column) rows = ap Total (sum_sorted p column rows)
 shown_sorted p Count rows = ap (λ (n : ℕ). Total (integer n)) (sym (length_permutation _ _ (filter_sorted p rows)))
 
-answer_sorted : (ons : List On) (pred : Condition) (items : Items) (rows : Table) → answer ons pred items (rows ∷ []) ≡ answer ons pred items (sorted rows ∷ [])
+answer_sorted : (ons : List On) (pred : Condition) (items : Items) (rows : Table) → answer_of ons pred items (rows ∷ []) ≡ answer_of ons pred items (sorted rows ∷ [])
 answer_sorted ons pred items rows =
     ap (λ g. shown items (filter (selects ons pred) g)) (product_one rows)
     ∙ (shown_sorted (selects ons pred) items rows
@@ -241,10 +242,10 @@ answer_sorted ons pred items rows =
 
 -- the answer to a SELECT of one table over the view is that over the database
 pub select_is : (shapes : List Shape) (tables : Tables) (from : List ℕ) (ons : List On) (pred : Condition) (items : Items) → length from ≡ 1
-    → mean shapes (Select from ons pred items) (bag tables) ≡ Some (answer ons pred items (map (rows_seen tables) from), bag tables)
+    → mean shapes (Select from ons pred items) (bag tables) ≡ Some (answer_of ons pred items (map (rows_seen tables) from), bag tables)
 select_is shapes tables [] ons pred items one = absurd (omega arith)
 select_is shapes tables (table ∷ []) ons pred items one =
-    ap (λ a. Some (a, bag tables)) (ap (λ rows. answer ons pred items (rows ∷ [])) (bag_at tables table) ∙ sym (answer_sorted ons pred items (rows_seen tables table)))
+    ap (λ a. Some (a, bag tables)) (ap (λ rows. answer_of ons pred items (rows ∷ [])) (bag_at tables table) ∙ sym (answer_sorted ons pred items (rows_seen tables table)))
 select_is shapes tables (table ∷ next ∷ from) ons pred items one = absurd (omega arith)
 
 alone_is : (a : Alone) (db : Database) → a.database ≡ db → a.stop ≡ None → a ≡ record { replies = a.replies; database = db; stop = None }

@@ -1,3 +1,4 @@
+-- What single steps and whole statements of a session come to.
 use Rattle.std.proofs.Common.{◌≡◌, ℕ, zero, suc, ◌+◌, ◌-◌, ◌*◌, ◌<◌, ◌≤◌, List, [], ◌∷◌, ◌++◌, Option, None, Some, Ok, Bool, true, false, length, take, drop, get_or, map, refl, ap, sym, ◌∙◌, subst, arith, is_some, zero-add}
 use Rattle.std.specs.Prelude.{if◌then◌else◌, nat_lt, slice_get, count_by}
 use Rattle.std.proofs.Math.Logic.{⊎_elim}
@@ -15,7 +16,7 @@ use Rattle.hy_bound.specs.declared.On.{On}
 use Rattle.hy_bound.specs.declared.Items.{Items}
 use Rattle.hy_bound.specs.declared.Assign.{Assign}
 use Rattle.hy_value.specs.declared.Value.{Value}
-use Rattle.hy_meaning.specs.Statement.{answer}
+use Rattle.hy_meaning.specs.Statement.{answer_of}
 use Rattle.hy_render.specs.declared.Ending.{Ending}
 use Rattle.hy_render.specs.declared.Ending.TheVariants.{Committed, Read}
 use Rattle.hy_machine.specs.declared.Setting.{Setting}
@@ -139,11 +140,11 @@ pub selects : (most : ℕ) (setting : Setting) (machine : Machine) (number : ℕ
     → machine.mark ≡ None → program setting number ≡ txn ∷ [] → session_at machine number ≡ working txn begun
     → slice_get txn.statements (length begun.replies) ≡ Some (Select from ons pred items) → setting.chunks ≡ 1 → length from ≡ 1
     → whole (suc most) setting machine number
-    ≡ moved_to machine number (working txn (answered setting begun (Select from ons pred items) (map (rows_seen (view setting machine begun)) from) (answer ons pred items (map (rows_seen (view setting machine begun)) from)))) (machine.order ++ [])
+    ≡ moved_to machine number (working txn (answered setting begun (Select from ons pred items) (map (rows_seen (view setting machine begun)) from) (answer_of ons pred items (map (rows_seen (view setting machine begun)) from)))) (machine.order ++ [])
 selects most setting machine number txn begun from ons pred items free is e q chunk one =
     let session : Session = record { done = []; now = Some (record { begun = begun; phase = Reading 0 }) } in
     let visits : setting.chunks * length from ≡ 1 = ap (λ (c : ℕ). c * length from) chunk ∙ ap (λ (l : ℕ). 1 * l) one in
-    let reply : Reply = answer ons pred items (map (rows_seen (view setting machine begun)) from) in
+    let reply : Reply = answer_of ons pred items (map (rows_seen (view setting machine begun)) from) in
     whole_stops most setting machine number _ Answered
     (works_on setting machine number txn begun (Reading 0) is (at_phase machine number txn begun (Some (Select from ons pred items)) e q)
     ∙ (ap (reading_step setting machine number session txn begun 0) q

@@ -1,3 +1,4 @@
+-- The tables of the machine as bags of rows, before any commit and after one.
 use Rattle.std.proofs.Common.{◌≡◌, ℕ, zero, suc, ◌-◌, List, [], ◌∷◌, ◌++◌, Option, None, Some, length, get_or, replicate, map, refl, ap, sym, ◌∙◌, arith}
 use Rattle.std.proofs.Math.ListN.{set, get_or-map}
 use Rattle.std.proofs.lemmas.List.{map-set, append-nil}

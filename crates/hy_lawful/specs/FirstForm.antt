@@ -2,12 +2,13 @@
 use Rattle.std.specs.Prelude.{◌≡◌, ◌≢◌, ℕ, ◌≤◌, List, [], ◌∷◌, IsTrue, length, slice_index_or}
 use Rattle.std.specs.List.{AllByRecursion}
 use Rattle.hy_bound.specs.declared.Txn.{Txn}
-use Rattle.hy_bound.specs.declared.Item.{Item}
+use Rattle.hy_schedule.specs.declared.Item.{Item}
 use Rattle.hy_bound.specs.declared.Bound.{Bound}
 use Rattle.hy_bound.specs.declared.Bound.TheVariants.{Select, Group, Insert, Update, Delete}
 use Rattle.hy_bound.specs.declared.Assign.{Assign}
 use Rattle.hy_bound.specs.Expression.{Expression, Literal, Column, Add, Sub, Mul}
 use Rattle.hy_machine.specs.declared.Setting.{Setting}
+use Rattle.hy_limits.specs.declared.TheConstants.{MOST_STATEMENTS}
 
 -- a SELECT has one table; GROUP BY, INSERT and DELETE are not of the first form
 abbrev pub HasOneTable : Bound → Type 0
@@ -44,7 +45,7 @@ pub record IsShort (txn : Txn) : Type 0 where
   pub commits : IsTrue txn.commits
   pub one_table : AllByRecursion HasOneTable txn.statements
   pub values : AllByRecursion SetsValues txn.statements
-  pub few : length txn.statements ≤ 256
+  pub few : length txn.statements ≤ MOST_STATEMENTS
 
 -- a session of one transaction, which commits
 abbrev pub IsOneTransaction : List Txn → Type 0

@@ -48,8 +48,8 @@ abbrev pub labels_from : ℕ → Programs → List Label
 labels_from session [] = []
 labels_from session (txns ∷ programs) = labels_of session 1 txns ++ labels_from (suc session) programs
 
--- the serial databases: the one after the first `place` transactions of the commit order ran alone, one
+-- the serial databases: the one after the first `rank` transactions of the commit order ran alone, one
 -- after another, from the first rows on, for tables of these shapes
 abbrev pub database_at : List Shape → List Table → Programs → List Committed → ℕ → Database
-database_at shapes first programs order place =
-    serial shapes (map (λ entry. statements_of programs entry.label) (take place order)) (database_of first)
+database_at shapes first programs order rank =
+    serial shapes (map (λ entry. statements_of programs entry.label) (take rank order)) (database_of first)

@@ -3,7 +3,7 @@
 
 ghost use Rattle.std.specs.Prelude.{List};
 ghost use Rattle.hy_machine.specs.declared.Setting.{Setting};
-ghost use Rattle.hy_bound.specs.declared.Item.{Item};
+ghost use Rattle.hy_schedule.specs.declared.Item.{Item};
 ghost use Rattle.hy_machine.specs.Runs.{run};
 ghost use Rattle.hy_machine.specs.Outcomes.{outcome};
 ghost use Rattle.hy_lawful.specs.Lawful.{Lawful};

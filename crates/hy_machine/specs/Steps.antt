@@ -8,7 +8,7 @@ use Rattle.hy_bound.specs.declared.Reply.{Reply}
 use Rattle.hy_bound.specs.declared.Reply.TheVariants.{Updated}
 use Rattle.hy_plan.specs.Reads.{records_of}
 use Rattle.hy_value.specs.declared.Value.{Value}
-use Rattle.hy_meaning.specs.Statement.{answer, grouped}
+use Rattle.hy_meaning.specs.Statement.{answer_of, grouped}
 use Rattle.hy_stamp.specs.declared.Label.{Label}
 use Rattle.hy_render.specs.declared.Ending.{Ending}
 use Rattle.hy_render.specs.declared.Ending.TheVariants.{Committed, Read}
@@ -155,7 +155,7 @@ abbrev pub reading_step : Setting → Machine → ℕ → Session → Txn → Be
 reading_step setting machine number session txn begun visited None = (machine, Ended)
 reading_step setting machine number session txn begun visited (Some (Select tables ons pred items)) =
     read_step setting machine number session txn begun visited (Select tables ons pred items) (length tables)
-    (map (rows_seen (view setting machine begun)) tables) (answer ons pred items (map (rows_seen (view setting machine begun)) tables))
+    (map (rows_seen (view setting machine begun)) tables) (answer_of ons pred items (map (rows_seen (view setting machine begun)) tables))
 reading_step setting machine number session txn begun visited (Some (Group table pred key aggregate)) =
     read_step setting machine number session txn begun visited (Group table pred key aggregate) 1 []
     (grouped pred key aggregate (rows_seen (view setting machine begun) table))

@@ -141,8 +141,8 @@ pub fn stamp(
         set_phase(alloc, machine, session, Phase::Stamping { visited });
         return Ok(Stepped::Moved);
     }
-    let place = number(machine.order.len().saturating_sub(1))?;
-    finish(alloc, machine, session, Ending::Committed { place })?;
+    let rank = number(machine.order.len().saturating_sub(1))?;
+    finish(alloc, machine, session, Ending::Committed { rank })?;
     machine.mark = None;
     Ok(Stepped::Answered)
 }

@@ -7,7 +7,7 @@ use crate::lists::number;
 use crate::states::has_ended;
 use crate::stepping::step;
 use crate::{Machine, Session, Setting, Stepped};
-use hy_bound::Item;
+use hy_schedule::Item;
 use hy_value::Seq;
 use std::alloc::{AllocError, Global};
 

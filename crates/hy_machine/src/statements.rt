@@ -1,7 +1,7 @@
 //! The visits of a statement.
 
 ghost use Rattle.std.specs.Prelude.{◌≡◌, ◌+◌, ◌*◌, suc, [], nat_lt, length, IfOk, IfSome, OnOk, map, is_some, count_by, slice_index_or};
-ghost use Rattle.hy_meaning.specs.Statement.{answer as answer_of, grouped};
+ghost use Rattle.hy_meaning.specs.Statement.{answer_of, grouped};
 ghost use Rattle.hy_machine.specs.Cells.{chunk_of as part_of};
 ghost use Rattle.hy_machine.specs.Sessions.{session_at, view as view_of};
 ghost use Rattle.hy_machine.specs.Opponents.{opponent as opponent_of};

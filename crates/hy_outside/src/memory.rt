@@ -1,5 +1,6 @@
 //! A source and a sink over bytes in memory, of which single calls can be made to fail.
-ghost use Rattle.std.specs.Prelude.{◌≡◌, ℕ, ◌+◌, ◌-◌, ◌^◌, ◌<◌, ◌≤◌, ◌↔◌, ◌++◌, ◌⊎◌, List, [], min, length, take, drop, Some, None, Ok, IsOk, IsErr, IfOk, OnOk, OnErr, Contains};
+ghost use Rattle.std.specs.Prelude.{◌≡◌, ℕ, ◌+◌, ◌-◌, ◌^◌, ◌<◌, ◌≤◌, ◌↔◌, ◌++◌, ◌⊎◌, List, [], min, length, take, drop, Some, None, Ok, IsOk, IsErr};
+ghost use Rattle.std.specs.Prelude.{IfOk, OnOk, OnErr, Contains};
 ghost use Rattle.std.specs.Io.{ReadsAtMost};
 ghost use Rattle.hy_outside.specs.Faults.{one_more};
 ghost use Rattle.hy_outside.specs.Memory.{MemoryInput, MemoryOutput, IsFull};

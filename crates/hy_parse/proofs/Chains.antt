@@ -7,9 +7,9 @@ use Rattle.hy_token.specs.declared.Token.{Token}
 use Rattle.hy_token.specs.declared.Sign.TheVariants.{Comma}
 use Rattle.hy_parse.specs.declared.Piece.{Piece}
 use Rattle.hy_parse.specs.Grammar.{Mark, Any, At, Marks, separated, HasItem}
-use Rattle.hy_parse.specs.Reading.{Read, ◌>>=◌, same, sign, place_of, links_at, items_at}
-use Rattle.hy_parse.proofs.Laws.{Reads, Covers, HeadStops, token_of, then_read, recast}
-use Rattle.hy_parse.proofs.Choices.{place_sound, place_complete}
+use Rattle.hy_parse.specs.Reading.{Read, ◌>>=◌, same, sign, span_of, links_at, items_at}
+use Rattle.hy_parse.proofs.Readers.{Reads, Covers, HeadStops, token_of, then_read, recast}
+use Rattle.hy_parse.proofs.Choices.{span_sound, span_complete}
 use Rattle.hy_parse.proofs.Links.{Joins, linked, all_joined, AllFit, links_reads}
 
 -- ---- chains
@@ -105,23 +105,23 @@ module _ {X B C O G : Type 0} (sense : Piece → Option B) (join : List X → B 
 -- ---- joining tokens
 
 module _ (t : Token) where
-  no_place : (p : Piece) → same t p.token ≡ false → place_of t p ≡ None
-  no_place p is = rw is refl
+  no_span : (p : Piece) → same t p.token ≡ false → span_of t p ≡ None
+  no_span p is = rw is refl
 
-  -- a token whose place is kept
-  pub at_joins : {A C : Type 0} (join : A → Span → C → A) → Joins (place_of t) join (λ s. At t s) join (same t)
+  -- a token whose span is kept
+  pub at_joins : {A C : Type 0} (join : A → Span → C → A) → Joins (span_of t) join (λ s. At t s) join (same t)
   at_joins join = record {
-    sound = λ p b e. (let s = place_sound t p b e in (b, subst (λ (at : Span). Marks p (At t at)) (sym s.2) s.3, λ left c. refl));
-    complete = λ p s is. (s, place_complete t p s tt is, λ left c. refl);
-    others = no_place;
+    sound = λ p b e. (let s = span_sound t p b e in (b, subst (λ (at : Span). Marks p (At t at)) (sym s.2) s.3, λ left c. refl));
+    complete = λ p s is. (s, span_complete t p s tt is, λ left c. refl);
+    others = no_span;
   }
 
-  -- a token whose place is not
-  pub any_joins : {A C : Type 0} (join : A → C → A) → Joins {O = Unit {0}} (place_of t) (λ left at c. join left c) (λ u. Any t) (λ left u c. join left c) (same t)
+  -- a token whose span is not
+  pub any_joins : {A C : Type 0} (join : A → C → A) → Joins {O = Unit {0}} (span_of t) (λ left at c. join left c) (λ u. Any t) (λ left u c. join left c) (same t)
   any_joins join = record {
-    sound = λ p b e. (let s = place_sound t p b e in (tt, ap (λ (q : Piece). q.token) s.3, λ left c. refl));
-    complete = λ p u is. (p.span, ap (λ (token : Token). place_of t (record { token = token; span = p.span })) is ∙ place_complete t (record { token = t; span = p.span }) p.span tt refl, λ left c. refl);
-    others = no_place;
+    sound = λ p b e. (let s = span_sound t p b e in (tt, ap (λ (q : Piece). q.token) s.3, λ left c. refl));
+    complete = λ p u is. (p.span, ap (λ (token : Token). span_of t (record { token = token; span = p.span })) is ∙ span_complete t (record { token = t; span = p.span }) p.span tt refl, λ left c. refl);
+    others = no_span;
   }
 
 -- a list with commas between, behind other items
@@ -130,9 +130,9 @@ pub items_reads : {X : Type 0} {read : List Piece → Read X} {write : X → Lis
 unfolding items_at
 items_reads {X} {read} {write} {Fits} {goes_one} goes_on before one covers_one covers_comma apart =
     let comma = any_joins (sign Comma) (λ (items : List X) (item : X). items ++ item ∷ []) in
-    let others = λ (first : X). list_reads (place_of (sign Comma)) (λ items at item. items ++ item ∷ []) (λ (u : Unit {0}). Any (sign Comma)) (λ items u item. items ++ item ∷ []) (same (sign Comma)) comma read write (λ x. x) Fits goes_one goes_on one covers_one covers_comma (λ u. apart)
+    let others = λ (first : X). list_reads (span_of (sign Comma)) (λ items at item. items ++ item ∷ []) (λ (u : Unit {0}). Any (sign Comma)) (λ items u item. items ++ item ∷ []) (same (sign Comma)) comma read write (λ x. x) Fits goes_one goes_on one covers_one covers_comma (λ u. apart)
     (λ ux. ux.1) (λ x. (tt, x)) (λ xs ux. refl) (λ x. refl) (λ x. Any (sign Comma) ∷ write x) Fits (λ ux. refl) (λ ux fits. fits) (λ x fits. fits) (before ++ first ∷ []) in
     recast (separated write) (λ xs. before ++ xs) (λ xs. HasItem xs × AllByRecursion Fits xs)
-    (then_read (λ first. links_at (place_of (sign Comma)) (λ items at item. items ++ item ∷ []) read (before ++ first.0 ∷ []) first.1) one (λ x fits. others x) (λ x xs fx fxs. elim xs as (λ ys. HeadStops goes_one goes_on (flat_map (λ y. Any (sign Comma) ∷ write y) ys)) [ [] ↦ covers_one | y ∷ ys ↦ apart ]))
+    (then_read (λ first. links_at (span_of (sign Comma)) (λ items at item. items ++ item ∷ []) read (before ++ first.0 ∷ []) first.1) one (λ x fits. others x) (λ x xs fx fxs. elim xs as (λ ys. HeadStops goes_one goes_on (flat_map (λ y. Any (sign Comma) ∷ write y) ys)) [ [] ↦ covers_one | y ∷ ys ↦ apart ]))
     (λ f fits. (f.0 ∷ f.1, (tt, (fits.0, fits.1)), append_assoc before (f.0 ∷ []) f.1, refl))
     (elim [ [] ↦ λ fits. absurd fits.0 | x ∷ xs ↦ λ fits. ((x, xs), (fits.1.0, fits.1.1), append_assoc before (x ∷ []) xs, refl) ])

@@ -3,18 +3,18 @@ use Rattle.std.proofs.Common.{◌≡◌, ℕ, Bool, true, false, cond, List, [],
 use Rattle.std.specs.Str.{bytes_eq}
 use Rattle.std.proofs.lemmas.Option.{same_Some, cond_some}
 use Rattle.std.proofs.lemmas.Slice.Eq.{bytes_eq-Decides}
-use Rattle.hy_token.specs.Keyword.{keyword_of, spelling as word_spelling}
-use Rattle.hy_token.specs.Sign.{sign_of, spelling as sign_spelling}
+use Rattle.hy_token.specs.Keyword.{keyword_of, word_spelling}
+use Rattle.hy_token.specs.Sign.{sign_of, sign_spelling}
 use Rattle.hy_token.specs.declared.Keyword.{Keyword}
 use Rattle.hy_token.specs.declared.Sign.{Sign}
 use Rattle.hy_token.specs.declared.Span.{Span}
 use Rattle.hy_token.specs.declared.Token.{Token}
 use Rattle.hy_token.specs.declared.Token.TheVariants as token
-use Rattle.hy_token.proofs.Spellings.{word_found, sign_found}
+use Rattle.hy_token.specs.Spellings.{word_found, sign_found}
 use Rattle.hy_parse.specs.declared.Piece.{Piece}
 use Rattle.hy_parse.specs.Grammar.{Mark, Any, At, Marks, Match}
-use Rattle.hy_parse.specs.Reading.{Read, Done, Stuck, ◌>>=◌, same, begins, place_of, place_at, piece_at, after}
-use Rattle.hy_parse.proofs.Laws.{Reads, Takes, Breaks, IsLocal, Stops, Covers, HeadStops, Always, nothing, head_of, head_stops, marks_token, filled, filled_match, takes_instead, breaks_instead, Agrees, takes_behind, breaks_behind, then_read, recast, piece_reads}
+use Rattle.hy_parse.specs.Reading.{Read, Done, Stuck, ◌>>=◌, same, begins, span_of, span_at, piece_at, after}
+use Rattle.hy_parse.proofs.Readers.{Reads, Takes, Breaks, IsLocal, Stops, Covers, HeadStops, Always, nothing, head_of, head_stops, marks_token, filled, filled_match, takes_instead, breaks_instead, Agrees, takes_behind, breaks_behind, then_read, recast, piece_reads}
 
 -- ---- tokens
 
@@ -51,20 +51,20 @@ same_self token.Integer = refl
 same_self token.Text = refl
 same_self token.End = refl
 
--- ---- the place of a token
+-- ---- the span of a token
 
-pub place_sound : (t : Token) (p : Piece) (a : Span) → place_of t p ≡ Some a → (s : Span) × Unit {0} × (a ≡ s) × Marks p (At t s)
-place_sound t p a e =
+pub span_sound : (t : Token) (p : Piece) (a : Span) → span_of t p ≡ Some a → (s : Span) × Unit {0} × (a ≡ s) × Marks p (At t s)
+span_sound t p a e =
     let c = cond_some (same t p.token) p.span a e in
     let named : Token → Piece = λ token. record { token = token; span = p.span } in
     let placed : Span → Piece = λ span. record { token = t; span = span } in
     (a, tt, refl, ap named (sym (same_is t p.token c.0)) ∙ ap placed c.1)
 
-pub place_complete : (t : Token) (p : Piece) (s : Span) → Unit {0} → Marks p (At t s) → place_of t p ≡ Some s
-place_complete t p s fits is = ap (place_of t) is ∙ rw (same_self t) refl
+pub span_complete : (t : Token) (p : Piece) (s : Span) → Unit {0} → Marks p (At t s) → span_of t p ≡ Some s
+span_complete t p s fits is = ap (span_of t) is ∙ rw (same_self t) refl
 
-pub place_reads : (t : Token) → Reads (place_at t) (λ s. At t s ∷ []) (λ s. s) Always nothing
-place_reads t = piece_reads (place_of t) (λ s. At t s) (λ s. s) Always (place_sound t) (place_complete t) (record { start = 0; end = 0 }, tt)
+pub span_reads : (t : Token) → Reads (span_at t) (λ s. At t s ∷ []) (λ s. s) Always nothing
+span_reads t = piece_reads (span_of t) (λ s. At t s) (λ s. s) Always (span_sound t) (span_complete t) (record { start = 0; end = 0 }, tt)
 
 -- ---- fixed tokens
 

@@ -25,15 +25,15 @@ use Rattle.hy_ast.specs.declared.Total.{Total}
 use Rattle.hy_ast.specs.declared.Total.TheVariants as totals
 use Rattle.hy_ast.specs.declared.Listed.{Listed}
 use Rattle.hy_ast.specs.declared.Listed.TheVariants as listing
-use Rattle.hy_ast.specs.Trees.{Test, Formula, Setting, Selection, Statement}
+use Rattle.hy_ast.specs.Trees.{Test, Formula, SetClause, Selection, Statement}
 use Rattle.hy_ast.specs.Trees as tree
 use Rattle.hy_parse.specs.declared.Piece.{Piece}
 use Rattle.hy_parse.specs.declared.Ending.{Ending}
 use Rattle.hy_parse.specs.Pieces.{Pieces, ended, continued, pieces_within}
-use Rattle.hy_parse.specs.Grammar.{Mark, Any, At, Match, optional, separated, column, literal, operand, comparison, test, condition, operator_sign, formula, setting, kind, column_def, sum, listed, total, join, selection, turn, body, marks}
+use Rattle.hy_parse.specs.Grammar.{Mark, Any, At, Match, optional, separated, column, literal, operand, comparison, test, condition, operator_sign, formula, set_clause, kind, column_def, sum, listed, total, join, selection, turn, body, marks}
 use Rattle.hy_parse.specs.Reading.{same, sign, word}
 use Rattle.hy_parse.specs.Parsing.{IsClosed}
-use Rattle.hy_parse.proofs.Laws.{token_of, marks_token, match_parts}
+use Rattle.hy_parse.proofs.Readers.{token_of, marks_token, match_parts}
 use Rattle.hy_parse.proofs.Choices.{same_is, same_self}
 
 -- ---- the `;` of a sentence
@@ -138,7 +138,7 @@ of_body (tree.Begin only) = (refl, maybe only _ (refl, (refl, tt)))
 of_body tree.Commit = (refl, tt)
 of_body tree.Rollback = (refl, tt)
 of_body (tree.Select s) = (refl, of_selection s)
-of_body (tree.Update table sets t) = (refl, (refl, (refl, both (separated setting sets) _ (parted setting (λ set. (refl, (refl, of_formula set.value))) sets) (of_condition t))))
+of_body (tree.Update table sets t) = (refl, (refl, (refl, both (separated set_clause sets) _ (parted set_clause (λ set. (refl, (refl, of_formula set.value))) sets) (of_condition t))))
 of_body (tree.Delete table t) = (refl, (refl, (refl, of_condition t)))
 of_body (tree.Schedule turns) = (refl, each turn (λ t. (refl, maybe t.whole _ (refl, tt))) turns)
 of_body tree.End = (refl, tt)

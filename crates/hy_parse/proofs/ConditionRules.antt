@@ -13,11 +13,12 @@ use Rattle.hy_value.specs.declared.Cmp.TheVariants as cmp
 use Rattle.hy_ast.specs.Trees.{Test, Compare, IsNull, Not, And, Or, Nested}
 use Rattle.hy_parse.specs.declared.Piece.{Piece}
 use Rattle.hy_parse.specs.Grammar.{Mark, Any, At, Marks, column, comparison, optional, test, IsConjunction, IsUnit, IsGroupedTest, test_levels, condition, IsGroupedCondition, condition_levels}
-use Rattle.hy_parse.specs.Reading.{Read, same, sign, word, place_of, cmp_of, comparison_of, is_null_at, compared_at, comparison_at, unit_at, conjunction_by, test_by, test_at, condition_at}
-use Rattle.hy_parse.proofs.Laws.{Reads, Always, Covers, HeadStops, head_of, then_read, then_last, widen, recast, finish, piece_reads}
-use Rattle.hy_parse.proofs.Choices.{place_reads, then_one, then_fixed, choice_reads}
+use Rattle.hy_parse.specs.Reading.{Read, same, sign, word, span_of, cmp_of, comparison_of, is_null_at, compared_at, comparison_at, unit_at, conjunction_by, test_by, test_at, condition_at}
+use Rattle.hy_parse.proofs.Readers.{Reads, Always, Covers, HeadStops, head_of, then_read, then_last, widen, recast, finish, piece_reads}
+use Rattle.hy_parse.proofs.Choices.{span_reads, then_one, then_fixed, choice_reads}
 use Rattle.hy_parse.proofs.Chains.{Spine, spine_first, spine_step, at_joins, chain_reads}
 use Rattle.hy_parse.proofs.OperandRules.{anything, by_parts, flag_reads, dot, column_reads, column_head, operand_reads}
+use Rattle.hy_limits.specs.declared.TheConstants.{MOST_LEVELS}
 
 -- ---- comparisons
 
@@ -69,7 +70,7 @@ unfolding comparison_at is_null_at compared_at
 comparison_reads =
     recast test (λ t. t) IsComparison
     (then_read _ column_reads (λ c fits. choice_reads (word keyword.Is)
-    (widen dot (anything dot) (then_one _ (place_reads (word keyword.Is)) (λ at fits'. then_read _ (flag_reads (word keyword.Not) []) (λ negated fits''. then_fixed (word keyword.Null ∷ []) _ (finish (IsNull c at negated))) (λ negated u f g. refl))))
+    (widen dot (anything dot) (then_one _ (span_reads (word keyword.Is)) (λ at fits'. then_read _ (flag_reads (word keyword.Not) []) (λ negated fits''. then_fixed (word keyword.Null ∷ []) _ (finish (IsNull c at negated))) (λ negated u f g. refl))))
     (then_one _ (piece_reads comparison_of compared (λ f. f) Always compared_sound compared_complete ((cmp.Eq, record { start = 0; end = 0 }), tt)) (λ f fits'. then_last operand_reads (λ right. Compare c f.0 f.1 right)))
     (λ f fits'. refl) (λ g fits'. no_is g.0.0))
     (λ c. elim [ inl f ↦ λ fits fits'. refl | inr g ↦ λ fits fits'. no_dot g.0.0 ]))
@@ -147,13 +148,13 @@ module _ (levels : ℕ) where
     conjunction_reads : Reads (conjunction_by unit) test (λ t. t) (ConjunctionFits levels) goes_and
     unfolding conjunction_by
     conjunction_reads =
-        chain_reads (place_of (word keyword.And)) (λ left at right. And left at right) (λ s. At (word keyword.And) s) (λ left at right. And left at right) (same (word keyword.And)) (at_joins (word keyword.And) (λ left at right. And left at right))
+        chain_reads (span_of (word keyword.And)) (λ left at right. And left at right) (λ s. At (word keyword.And) s) (λ left at right. And left at right) (same (word keyword.And)) (at_joins (word keyword.And) (λ left at right. And left at right))
         unit test (UnitFits levels) (ConjunctionFits levels) dot goes_and unit_reads (λ t e. (either_stops _ _ e).1) (λ t e. (either_stops _ _ e).0) (λ s. refl) (λ left at right. refl) unit_grows and_grows and_spine
 
     test_reads_by : Reads (test_by unit) test (λ t. t) (TestFits levels) goes_or
     unfolding test_by
     test_reads_by =
-        chain_reads (place_of (word keyword.Or)) (λ left at right. Or left at right) (λ s. At (word keyword.Or) s) (λ left at right. Or left at right) (same (word keyword.Or)) (at_joins (word keyword.Or) (λ left at right. Or left at right))
+        chain_reads (span_of (word keyword.Or)) (λ left at right. Or left at right) (λ s. At (word keyword.Or) s) (λ left at right. Or left at right) (same (word keyword.Or)) (at_joins (word keyword.Or) (λ left at right. Or left at right))
         (conjunction_by unit) test (ConjunctionFits levels) (TestFits levels) goes_and goes_or conjunction_reads (λ t e. (either_stops _ _ e).1) (λ t e. (either_stops _ _ e).0) (λ s. refl) (λ left at right. refl) conjunction_grows or_grows or_spine
 
 -- ---- units
@@ -195,7 +196,7 @@ unit_reads zero = recast test (λ t. t) (UnitFits 0) comparison_reads (λ t fits
 unit_reads (suc levels) =
     recast test (λ t. t) (UnitFits (suc levels))
     (choice_reads (word keyword.Not)
-    (then_one _ (place_reads (word keyword.Not)) (λ at fits. then_last (unit_reads levels) (λ inner. Not at inner)))
+    (then_one _ (span_reads (word keyword.Not)) (λ at fits. then_last (unit_reads levels) (λ inner. Not at inner)))
     (choice_reads (sign LeftParen)
     (widen dot (anything dot) (then_fixed (sign LeftParen ∷ []) _ (then_read _ (test_reads_by levels (unit_at levels) (unit_reads levels)) (λ inner fits. then_fixed (sign RightParen ∷ []) _ (finish (Nested inner))) (λ inner u f g. refl))))
     comparison_reads (λ f fits. refl) (λ t fits. head_is (same (sign LeftParen)) dot (test t) token.Name (comparison_head t fits) refl))
@@ -224,12 +225,12 @@ goes_where t = same (word keyword.Where) t || goes_or t
 
 pub record ConditionFits (t : Option Test) : Type 0 where
   pub grouped : IsGroupedCondition t
-  pub within : condition_levels t ≤ 64
+  pub within : condition_levels t ≤ MOST_LEVELS
 
 pub condition_reads : Reads condition_at condition (λ t. t) ConditionFits goes_where
 unfolding condition_at
 condition_reads =
     recast condition (λ t. t) ConditionFits
-    (choice_reads (word keyword.Where) (widen goes_where (λ t e. (either_stops _ _ e).1) (then_fixed (word keyword.Where ∷ []) _ (then_last (test_reads 64) (λ t. Some t)))) (widen goes_where (anything goes_where) (finish None)) (λ f fits. refl) (λ u fits t e. (either_stops _ _ e).0))
+    (choice_reads (word keyword.Where) (widen goes_where (λ t e. (either_stops _ _ e).1) (then_fixed (word keyword.Where ∷ []) _ (then_last (test_reads MOST_LEVELS) (λ t. Some t)))) (widen goes_where (anything goes_where) (finish None)) (λ f fits. refl) (λ u fits t e. (either_stops _ _ e).0))
     (elim [ inl t ↦ λ fits. (Some t, record { grouped = fits.grouped; within = fits.within }, refl, refl) | inr u ↦ λ fits. (None, record { grouped = tt; within = omega arith }, refl, refl) ])
     (elim [ Some t ↦ λ fits. (inl t, record { grouped = fits.grouped; within = fits.within }, refl, refl) | None ↦ λ fits. (inr tt, tt, refl, refl) ])

@@ -11,16 +11,17 @@ use Rattle.hy_ast.specs.declared.Operand.TheVariants as operands
 use Rattle.hy_ast.specs.declared.Literal.TheVariants as literals
 use Rattle.hy_ast.specs.declared.Operator.{Operator}
 use Rattle.hy_ast.specs.declared.Operator.TheVariants as operator
-use Rattle.hy_ast.specs.Trees.{Formula, Plain, Binary, Bracket, Setting}
+use Rattle.hy_ast.specs.Trees.{Formula, Plain, Binary, Bracket, SetClause}
 use Rattle.hy_parse.specs.declared.Piece.{Piece}
-use Rattle.hy_parse.specs.Grammar.{Mark, At, operator_sign, formula, IsTerm, IsFactor, IsGroupedFormula, formula_levels, setting}
-use Rattle.hy_parse.specs.Reading.{Read, same, sign, place_of, addition_of, addition, plain_at, factor_at, term_by, formula_by, formula_at, setting_at}
-use Rattle.hy_parse.proofs.Laws.{Reads, HeadStops, then_read, then_last, widen, recast, finish}
+use Rattle.hy_parse.specs.Grammar.{Mark, At, operator_sign, formula, IsTerm, IsFactor, IsGroupedFormula, formula_levels, set_clause}
+use Rattle.hy_parse.specs.Reading.{Read, same, sign, span_of, addition_of, addition, plain_at, factor_at, term_by, formula_by, formula_at, set_clause_at}
+use Rattle.hy_parse.proofs.Readers.{Reads, HeadStops, then_read, then_last, widen, recast, finish}
 use Rattle.hy_parse.proofs.Choices.{then_one, then_fixed, choice_reads}
 use Rattle.hy_parse.proofs.Links.{Joins}
 use Rattle.hy_parse.proofs.Chains.{Spine, spine_first, spine_step, at_joins, chain_reads}
 use Rattle.hy_parse.proofs.OperandRules.{anything, by_parts, dot, name_reads, column_head, operand_reads}
 use Rattle.hy_parse.proofs.ConditionRules.{either_stops, head_is, option_map_some}
+use Rattle.hy_limits.specs.declared.TheConstants.{MOST_LEVELS}
 
 -- ---- `+` and `-`
 
@@ -133,7 +134,7 @@ module _ (levels : ℕ) where
     term_reads : Reads (term_by factor) formula (λ f. f) (TermFits levels) goes_times
     unfolding term_by
     term_reads =
-        chain_reads (place_of (sign Star)) (λ left at right. Binary left operator.Times at right) (λ s. At (sign Star) s) (λ left at right. Binary left operator.Times at right) (same (sign Star)) (at_joins (sign Star) (λ left at right. Binary left operator.Times at right))
+        chain_reads (span_of (sign Star)) (λ left at right. Binary left operator.Times at right) (λ s. At (sign Star) s) (λ left at right. Binary left operator.Times at right) (same (sign Star)) (at_joins (sign Star) (λ left at right. Binary left operator.Times at right))
         factor formula (FactorFits levels) (TermFits levels) dot goes_times factor_reads (λ t e. (either_stops _ _ e).1) (λ t e. (either_stops _ _ e).0) (λ s. refl) (λ left at right. refl) factor_grows times_grows times_spine
 
     formula_reads_by : Reads (formula_by factor) formula (λ f. f) (FormulaFits levels) goes_formula
@@ -196,13 +197,13 @@ formula_reads levels = formula_reads_by levels (factor_at levels) (factor_reads 
 
 -- ---- assignments
 
-abbrev pub SettingFits : Setting → Type 0
-SettingFits set = FormulaFits 64 set.value
+abbrev pub SetClauseFits : SetClause → Type 0
+SetClauseFits set = FormulaFits MOST_LEVELS set.value
 
-pub setting_reads : Reads setting_at setting (λ set. set) SettingFits goes_formula
-unfolding setting_at
-setting_reads =
-    recast setting (λ set. set) SettingFits
-    (then_one _ name_reads (λ column fits. then_fixed (sign Equal ∷ []) _ (then_last (formula_reads 64) (λ value. record { column = column; value = value }))))
+pub set_clause_reads : Reads set_clause_at set_clause (λ set. set) SetClauseFits goes_formula
+unfolding set_clause_at
+set_clause_reads =
+    recast set_clause (λ set. set) SetClauseFits
+    (then_one _ name_reads (λ column fits. then_fixed (sign Equal ∷ []) _ (then_last (formula_reads MOST_LEVELS) (λ value. record { column = column; value = value }))))
     (λ f fits. (record { column = f.0; value = f.1 }, fits.1, refl, refl))
     (λ set fits. ((set.column, set.value), (tt, fits), refl, refl))

@@ -1,6 +1,6 @@
 pub mod Loops
 pub mod Gathering
-pub mod Laws
+pub mod Readers
 pub mod Choices
 pub mod Links
 pub mod Chains
@@ -11,5 +11,5 @@ pub mod QueryRules
 pub mod StatementRules
 pub mod Sentences
 pub mod Closings
-pub mod Places
+pub mod Spans
 pub mod Scripts

@@ -7,7 +7,7 @@ use Rattle.hy_parse.specs.declared.Piece.{Piece}
 use Rattle.hy_parse.specs.Grammar.{Mark, Marks, Match}
 use Rattle.hy_parse.specs.Reading.{Read, Done, Stuck, ◌>>=◌, seen, links_within, links_at}
 use Rattle.hy_parse.proofs.Loops.{none}
-use Rattle.hy_parse.proofs.Laws.{Reads, Takes, Breaks, IsLocal, Stops, Covers, HeadStops, token_of, head_stops, takes_then, breaks_then, breaks_first, takes_behind, breaks_behind, then_done, then_stuck, match_parts}
+use Rattle.hy_parse.proofs.Readers.{Reads, Takes, Breaks, IsLocal, Stops, Covers, HeadStops, token_of, head_stops, takes_then, breaks_then, breaks_first, takes_behind, breaks_behind, then_done, then_stuck, match_parts}
 
 -- what is read from the front of pieces leaves no more than there were
 shrinks : {F A : Type 0} {read : List Piece → Read A} {write : F → List Mark} {view : F → A} {Fits : F → Type 0} {goes_on : Token → Bool} → Reads read write view Fits goes_on

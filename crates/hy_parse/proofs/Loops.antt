@@ -5,16 +5,16 @@ use Rattle.hy_token.specs.declared.Token.{Token}
 use Rattle.hy_parse.specs.declared.Piece.{Piece}
 use Rattle.hy_parse.specs.declared.cursor.Halt.{Halt}
 use Rattle.hy_parse.specs.declared.cursor.Halt.TheVariants as halt
-use Rattle.hy_parse.specs.Reading.{Read, Done, ◌>>=◌, Halts, seen, place_at, after, links_within}
+use Rattle.hy_parse.specs.Reading.{Read, Done, ◌>>=◌, Halts, seen, span_at, after, links_within}
 
 -- ---- these tokens, one after the other
 
-one_after : (tokens : List Token) (token : Token) (rest : List Piece) → after (token ∷ tokens) rest ≡ (place_at token rest >>= λ found. after tokens found.1)
+one_after : (tokens : List Token) (token : Token) (rest : List Piece) → after (token ∷ tokens) rest ≡ (span_at token rest >>= λ found. after tokens found.1)
 unfolding after
 one_after tokens token rest = refl
 
 -- the tokens from the next one on
-pub after_next : (tokens : List Token) (i : ℕ) (token : Token) (rest : List Piece) → i < length tokens → after (drop i tokens) rest ≡ (place_at (get_or tokens i token) rest >>= λ found. after (drop (i + 1) tokens) found.1)
+pub after_next : (tokens : List Token) (i : ℕ) (token : Token) (rest : List Piece) → i < length tokens → after (drop i tokens) rest ≡ (span_at (get_or tokens i token) rest >>= λ found. after (drop (i + 1) tokens) found.1)
 after_next tokens i token rest lt = at_drop_more (λ (left : List Token). after left rest) tokens i token lt ∙ one_after (drop (i + 1) tokens) (get_or tokens i token) rest
 
 pub after_done : (tokens : List Token) (i : ℕ) (rest : List Piece) → length tokens ≤ i → after (drop i tokens) rest ≡ Done tt rest

@@ -13,12 +13,12 @@ use Rattle.hy_ast.specs.declared.Literal.TheVariants as literals
 use Rattle.hy_ast.specs.declared.Operand.TheVariants as operands
 use Rattle.hy_parse.specs.declared.Piece.{Piece}
 use Rattle.hy_parse.specs.Grammar.{Mark, At, Marks, name, column, literal, operand, optional}
-use Rattle.hy_parse.specs.Reading.{Read, Done, Stuck, ◌>>=◌, same, sign, word, begins, after, place_at, flag_at, name_at, column_at, negative_at, literal_of, literal_at, operand_at}
-use Rattle.hy_parse.proofs.Laws.{Reads, Always, nothing, Covers, HeadStops, head_of, then_last, instead, widen, recast, finish, piece_reads}
-use Rattle.hy_parse.proofs.Choices.{same_is, place_reads, then_one, then_fixed, choice_reads, fixed}
+use Rattle.hy_parse.specs.Reading.{Read, Done, Stuck, ◌>>=◌, same, sign, word, begins, after, span_at, flag_at, name_at, column_at, negative_at, literal_of, literal_at, operand_at}
+use Rattle.hy_parse.proofs.Readers.{Reads, Always, nothing, Covers, HeadStops, head_of, then_last, instead, widen, recast, finish, piece_reads}
+use Rattle.hy_parse.proofs.Choices.{same_is, span_reads, then_one, then_fixed, choice_reads, fixed}
 
 pub name_reads : Reads name_at (λ s. name s ∷ []) (λ s. s) Always nothing
-name_reads = place_reads token.Name
+name_reads = span_reads token.Name
 
 -- whatever stops anything stops what goes on with nothing
 pub anything : (wider : Token → Bool) → Covers wider nothing
@@ -35,9 +35,9 @@ then_again (Done a rest) k l = refl
 then_again (Stuck rest) k l = refl
 
 flag_again : (first : Token) (others : List Token) (ps : List Piece) (b : Bool)
-    → cond b (after (first ∷ others) ps >>= λ rest. Done true rest.1) (Done false ps) ≡ cond b (place_at first ps >>= λ found. after others found.1 >>= λ rest. Done true rest.1) (Done false ps)
+    → cond b (after (first ∷ others) ps >>= λ rest. Done true rest.1) (Done false ps) ≡ cond b (span_at first ps >>= λ found. after others found.1 >>= λ rest. Done true rest.1) (Done false ps)
 unfolding after
-flag_again first others ps true = then_again (place_at first ps) (λ found. after others found.1) (λ rest. Done true rest.1)
+flag_again first others ps true = then_again (span_at first ps) (λ found. after others found.1) (λ rest. Done true rest.1)
 flag_again first others ps false = refl
 
 pub flag_reads : (first : Token) (others : List Token) → Reads (flag_at first others) (λ b. optional b (fixed (first ∷ others))) (λ b. b) Always (same first)
@@ -80,7 +80,7 @@ column_head c = head c.table c.column
 
 negative_reads : Reads negative_at (λ (f : Span × (Span × Unit {0})). literal (literals.Integer (Some f.0) f.1.0)) (λ f. literals.Integer (Some f.0) f.1.0) (λ f. Unit {0} × (Unit {0} × Unit {0})) nothing
 unfolding negative_at
-negative_reads = then_one _ (place_reads (sign Minus)) (λ m fits. then_one _ (place_reads token.Integer) (λ d fits'. finish (literals.Integer (Some m) d)))
+negative_reads = then_one _ (span_reads (sign Minus)) (λ m fits. then_one _ (span_reads token.Integer) (λ d fits'. finish (literals.Integer (Some m) d)))
 
 -- the literals of one piece
 abbrev IsShort : Literal → Type 0

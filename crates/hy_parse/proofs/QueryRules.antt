@@ -16,13 +16,14 @@ use Rattle.hy_ast.specs.declared.Listed.{Listed}
 use Rattle.hy_ast.specs.declared.Listed.TheVariants as listing
 use Rattle.hy_ast.specs.Trees.{Test, Selection, Rows, Count, Groups}
 use Rattle.hy_parse.specs.Grammar.{Mark, Any, name, column, condition, separated, HasItem, count, sum, listed, total, join, from, selection, IsGroupedSelection, selection_levels}
-use Rattle.hy_parse.specs.Reading.{Read, Done, Stuck, ◌>>=◌, same, sign, word, place_of, links_at, sum_at, from_at, joined_at, joins_at, rows_at, count_at, groups_at, second_at, columns_at, selection_at}
+use Rattle.hy_parse.specs.Reading.{Read, Done, Stuck, ◌>>=◌, same, sign, word, span_of, links_at, sum_at, from_at, joined_at, joins_at, rows_at, count_at, groups_at, second_at, columns_at, selection_at}
 use Rattle.hy_parse.specs.Reading as reading
-use Rattle.hy_parse.proofs.Laws.{Reads, Always, nothing, Covers, HeadStops, head_of, then_read, then_last, widen, recast, finish}
+use Rattle.hy_parse.proofs.Readers.{Reads, Always, nothing, Covers, HeadStops, head_of, then_read, then_last, widen, recast, finish}
 use Rattle.hy_parse.proofs.Choices.{same_is, then_one, then_fixed, choice_reads}
 use Rattle.hy_parse.proofs.Chains.{any_joins, list_reads, items_reads}
 use Rattle.hy_parse.proofs.OperandRules.{by_parts, dot, name_reads, column_reads, column_head}
 use Rattle.hy_parse.proofs.ConditionRules.{either_stops, head_append, head_is, ConditionFits, goes_where, condition_reads}
+use Rattle.hy_limits.specs.declared.TheConstants.{MOST_LEVELS}
 
 -- any token but the `;`
 abbrev pub but_end : Token → Bool
@@ -69,7 +70,7 @@ goes_join t = same (word keyword.Join) t || dot t
 
 joins_reads : Reads joins_at (flat_map join) (λ joins. joins) (AllByRecursion Always) goes_join
 joins_reads =
-    list_reads (place_of (word keyword.Join)) (λ joins at join. joins ++ join ∷ []) (λ (u : Unit {0}). Any (word keyword.Join)) (λ joins u join. joins ++ join ∷ []) (same (word keyword.Join)) (any_joins (word keyword.Join) (λ (joins : List JoinedTable) (join : JoinedTable). joins ++ join ∷ []))
+    list_reads (span_of (word keyword.Join)) (λ joins at join. joins ++ join ∷ []) (λ (u : Unit {0}). Any (word keyword.Join)) (λ joins u join. joins ++ join ∷ []) (same (word keyword.Join)) (any_joins (word keyword.Join) (λ (joins : List JoinedTable) (join : JoinedTable). joins ++ join ∷ []))
     joined_at joined (λ j. j) Always dot goes_join joined_reads (λ t e. (either_stops _ _ e).1) (λ t e. (either_stops _ _ e).0) (λ u. refl)
     (λ uj. uj.1) (λ j. (tt, j)) (λ joins uj. refl) (λ j. refl) join Always (λ uj. refl) (λ uj fits. tt) (λ j fits. tt) []
 
@@ -179,7 +180,7 @@ columns_reads =
 
 pub record SelectionFits (s : Selection) : Type 0 where
   pub grouped : IsGroupedSelection s
-  pub within : selection_levels s ≤ 64
+  pub within : selection_levels s ≤ MOST_LEVELS
 
 rows_written : (items : List Mark) (f : Tail) → items ++ tail f ≡ ((items ++ from f.0) ++ flat_map join f.1.0) ++ condition f.1.1
 rows_written items f = simp append_assoc

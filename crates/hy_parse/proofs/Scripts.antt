@@ -9,12 +9,12 @@ use Rattle.hy_parse.specs.declared.Ending.TheVariants.{Closed, Cut, Bad}
 use Rattle.hy_parse.specs.Pieces.{Pieces, pieces_of}
 use Rattle.hy_parse.specs.Grammar.{IsUnfit, Match, marks, IsWritten, Begins}
 use Rattle.hy_parse.specs.Reading.{Read, Done, Stuck, read_statement}
-use Rattle.hy_parse.specs.Parsing.{Fault, place_of, ending_fault, fault_of, judged, parsed, Parses, IsClosed, Breaks, place_in}
+use Rattle.hy_parse.specs.Parsing.{Fault, offset_of, ending_fault, fault_of, judged, parsed, Parses, IsClosed, Breaks, offset_in}
 use Rattle.hy_parse.proofs.Sentences.{sound, complete, stops_first}
 use Rattle.hy_parse.proofs.Closings.{Tidy, tidy, closes, closed_last, last_is, nothing_behind}
-use Rattle.hy_parse.proofs.Places.{StandsIn, StandIn, stand_in, stands_behind}
+use Rattle.hy_parse.proofs.Spans.{StandsIn, StandIn, TokensMove, stand_in, stands_behind}
 
-closed_is : (ending : Ending) → IsClosed ending → ending ≡ Closed (place_of ending)
+closed_is : (ending : Ending) → IsClosed ending → ending ≡ Closed (offset_of ending)
 closed_is (Closed at) closed = refl
 closed_is (Cut at) closed = absurd closed
 closed_is (Bad at) closed = absurd closed
@@ -24,9 +24,9 @@ pieces_tidy bytes at = tidy _ bytes at
 
 -- ---- what was judged
 
-judged_ok : (r : Read Statement) (ending : Ending) (s : Statement) (end : ℕ) → judged r ending ≡ Ok (s, end) → (rest : List Piece) × (r ≡ Done s rest) × (place_of ending ≡ end)
+judged_ok : (r : Read Statement) (ending : Ending) (s : Statement) (end : ℕ) → judged r ending ≡ Ok (s, end) → (rest : List Piece) × (r ≡ Done s rest) × (offset_of ending ≡ end)
 judged_ok (Done t rest) ending s end e =
-    let read : Statement × ℕ = (t, place_of ending) in
+    let read : Statement × ℕ = (t, offset_of ending) in
     let given : Statement × ℕ = (s, end) in
     let same : read ≡ given = cc in
     (rest, ap (λ (found : Statement × ℕ). Done found.0 rest) same, ap (λ (found : Statement × ℕ). found.1) same)
@@ -98,7 +98,7 @@ fault_breaks bytes at fault e =
           let all : ps.pieces ≡ t.0 = t.1 ∙ ap (λ (rest : List Piece). t.0 ++ rest) none ∙ append-nil t.0 in
           let stuck : read_statement t.0 ≡ Stuck [] = ap read_statement (sym all) ∙ j.1 ∙ ap (λ (rest : List Piece). Stuck rest) none in
           not_in_vain ps.ending t.0 (subst (λ (qs : List Piece). Tidy qs ps.ending) all (pieces_tidy bytes at)) t.2 stuck closed);
-      place = sym j.2;
+      offset = sym j.2;
     }
 
 -- what begins a sentence begins one shorter
@@ -144,10 +144,10 @@ no_longer front rest front' unfit begins l =
     let begun = subst (λ (qs : List Piece). Begins qs) (l.longer ∙ sym (append_assoc front (l.head ∷ []) l.middle)) begins in
     subst (IsUnfit front) l.is unfit (shorter (front ++ l.head ∷ []) l.middle begun)
 
--- pieces break at one place
+-- pieces break at one offset
 breaks_once : (bytes : List ℕ) (at : ℕ) (fault fault' : Fault) → Breaks bytes at fault → Breaks bytes at fault' → fault ≡ fault'
 breaks_once bytes at fault fault' one other =
-    one.place ∙ ap (λ (rest : List Piece). fault_of rest (pieces_of bytes at).ending) same ∙ sym other.place
+    one.offset ∙ ap (λ (rest : List Piece). fault_of rest (pieces_of bytes at).ending) same ∙ sym other.offset
   where
     same : one.rest ≡ other.rest
     same = elim (compared one.front one.rest other.front other.rest (sym one.parts ∙ other.parts)) [
@@ -179,29 +179,29 @@ breaks_fault bytes at fault breaks = by_result (parsed bytes at) refl
 pub faults_break : (bytes : List ℕ) (at : ℕ) (fault : Fault) → (parsed bytes at ≡ Err fault → Breaks bytes at fault) × (Breaks bytes at fault → parsed bytes at ≡ Err fault)
 faults_break bytes at fault = (fault_breaks bytes at fault, breaks_fault bytes at fault)
 
--- ---- places
+-- ---- offsets
 
 some_marks : (s : Statement) (ps : List Piece) → Match ps (marks s) → 0 < length ps
 some_marks s ps m = let last = last_is s ps m in omega (arith, ap length last.2, length-append last.0 (last.1 ∷ []))
 
-pub statement_moves : (bytes : List ℕ) (at : ℕ) (s : Statement) (end : ℕ) → at ≤ length bytes → parsed bytes at ≡ Ok (s, end) → (at < end) × (end ≤ length bytes)
-statement_moves bytes at s end le e =
+pub statement_moves : TokensMove → (bytes : List ℕ) (at : ℕ) (s : Statement) (end : ℕ) → at ≤ length bytes → parsed bytes at ≡ Ok (s, end) → (at < end) × (end ≤ length bytes)
+statement_moves law bytes at s end le e =
     let parses = parsed_sound bytes at s end e in
-    let stand = stand_in bytes at le in
-    let place = ap place_of parses.closed in
-    (omega (arith, place, stand.beyond (some_marks s _ parses.written.matches)), omega (arith, place, stand.within))
+    let stand = stand_in law bytes at le in
+    let offset = ap offset_of parses.closed in
+    (omega (arith, offset, stand.beyond (some_marks s _ parses.written.matches)), omega (arith, offset, stand.within))
 
-ending_place : (ending : Ending) → place_in (ending_fault ending) ≡ place_of ending
-ending_place (Closed at) = refl
-ending_place (Cut at) = refl
-ending_place (Bad at) = refl
+ending_offset : (ending : Ending) → offset_in (ending_fault ending) ≡ offset_of ending
+ending_offset (Closed at) = refl
+ending_offset (Cut at) = refl
+ending_offset (Bad at) = refl
 
-fault_place : (len at : ℕ) (ps : Pieces) (front rest : List Piece) → StandIn len at ps → ps.pieces ≡ front ++ rest → (at ≤ place_in (fault_of rest ps.ending)) × (place_in (fault_of rest ps.ending) ≤ len)
-fault_place len at ps front [] stand parts = (omega (arith, ending_place ps.ending, stand.after), omega (arith, ending_place ps.ending, stand.within))
-fault_place len at ps front (p ∷ rest) stand parts = stands_behind len at front p rest (subst (AllByRecursion (StandsIn len at)) parts stand.all)
+fault_offset : (len at : ℕ) (ps : Pieces) (front rest : List Piece) → StandIn len at ps → ps.pieces ≡ front ++ rest → (at ≤ offset_in (fault_of rest ps.ending)) × (offset_in (fault_of rest ps.ending) ≤ len)
+fault_offset len at ps front [] stand parts = (omega (arith, ending_offset ps.ending, stand.after), omega (arith, ending_offset ps.ending, stand.within))
+fault_offset len at ps front (p ∷ rest) stand parts = stands_behind len at front p rest (subst (AllByRecursion (StandsIn len at)) parts stand.all)
 
-pub fault_moves : (bytes : List ℕ) (at : ℕ) (fault : Fault) → at ≤ length bytes → parsed bytes at ≡ Err fault → (at ≤ place_in fault) × (place_in fault ≤ length bytes)
-fault_moves bytes at fault le e =
+pub fault_moves : TokensMove → (bytes : List ℕ) (at : ℕ) (fault : Fault) → at ≤ length bytes → parsed bytes at ≡ Err fault → (at ≤ offset_in fault) × (offset_in fault ≤ length bytes)
+fault_moves law bytes at fault le e =
     let breaks = fault_breaks bytes at fault e in
-    let known = fault_place (length bytes) at (pieces_of bytes at) breaks.front breaks.rest (stand_in bytes at le) breaks.parts in
-    subst (λ (f : Fault). (at ≤ place_in f) × (place_in f ≤ length bytes)) (sym breaks.place) known
+    let known = fault_offset (length bytes) at (pieces_of bytes at) breaks.front breaks.rest (stand_in law bytes at le) breaks.parts in
+    subst (λ (f : Fault). (at ≤ offset_in f) × (offset_in f ≤ length bytes)) (sym breaks.offset) known

@@ -5,22 +5,23 @@ use Rattle.hy_ast.specs.Trees.{Statement}
 use Rattle.hy_parse.specs.declared.Piece.{Piece}
 use Rattle.hy_parse.specs.Grammar.{levels, IsWritten, Begins, IsUnfit}
 use Rattle.hy_parse.specs.Reading.{Done, Stuck, read_statement}
-use Rattle.hy_parse.proofs.Laws.{IsLocal}
+use Rattle.hy_parse.proofs.Readers.{IsLocal}
 use Rattle.hy_parse.proofs.Choices.{stops_nothing}
 use Rattle.hy_parse.proofs.StatementRules.{statement_reads}
+use Rattle.hy_limits.specs.declared.TheConstants.{MOST_LEVELS}
 
 abbrev pub IsFront : List Piece → List Piece → Statement → Type 0
-IsFront ps rest s = (front : List Piece) × (ps ≡ front ++ rest) × IsWritten front s × (levels s ≤ 64)
+IsFront ps rest s = (front : List Piece) × (ps ≡ front ++ rest) × IsWritten front s × (levels s ≤ MOST_LEVELS)
 
 pub sound : (ps rest : List Piece) (s : Statement) → read_statement ps ≡ Done s rest → IsFront ps rest s
 sound ps rest s e =
     let t = statement_reads.done ps rest s e in
     subst (λ (tree : Statement). IsFront ps rest tree) (sym t.2) (t.3.front, t.3.parts, record { matches = t.3.matches; grouped = t.1.grouped }, t.1.within)
 
-pub complete : (front rest : List Piece) (s : Statement) → IsWritten front s → levels s ≤ 64 → read_statement (front ++ rest) ≡ Done s rest
+pub complete : (front rest : List Piece) (s : Statement) → IsWritten front s → levels s ≤ MOST_LEVELS → read_statement (front ++ rest) ≡ Done s rest
 complete front rest s written within = statement_reads.complete front rest s (record { grouped = written.grouped; within = within }) written.matches (stops_nothing rest)
 
-pub one : (ps : List Piece) (s t : Statement) → IsWritten ps s → levels s ≤ 64 → IsWritten ps t → levels t ≤ 64 → s ≡ t
+pub one : (ps : List Piece) (s t : Statement) → IsWritten ps s → levels s ≤ MOST_LEVELS → IsWritten ps t → levels t ≤ MOST_LEVELS → s ≡ t
 one ps s t written within written' within' = let same = sym (complete ps [] s written within) ∙ complete ps [] t written' within' in cc
 
 unfit : (front rest : List Piece) → IsLocal read_statement None front rest → IsUnfit front rest

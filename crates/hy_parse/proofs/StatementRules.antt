@@ -13,18 +13,19 @@ use Rattle.hy_value.specs.declared.Kind.TheVariants as kinds
 use Rattle.hy_ast.specs.declared.ColumnDef.{ColumnDef}
 use Rattle.hy_ast.specs.declared.Literal.{Literal}
 use Rattle.hy_ast.specs.declared.Turn.{Turn}
-use Rattle.hy_ast.specs.Trees.{Test, Setting, Selection, Statement}
+use Rattle.hy_ast.specs.Trees.{Test, SetClause, Selection, Statement}
 use Rattle.hy_ast.specs.Trees as tree
 use Rattle.hy_parse.specs.declared.Piece.{Piece}
-use Rattle.hy_parse.specs.Grammar.{Mark, Any, At, Marks, condition, HasItem, optional, kind, column_def, turn, body, marks, IsGroupedSetting, settings_levels, IsGrouped, levels}
-use Rattle.hy_parse.specs.Reading.{Read, same, sign, word, begins, place_of, flag_at, kind_of, column_def_at, create_at, insert_at, session_at, begin_at, alone_at, select_at, update_at, delete_at, turns_at, schedule_at, body_at, read_statement}
-use Rattle.hy_parse.proofs.Laws.{Reads, Always, nothing, HeadStops, head_of, then_read, then_last, widen, recast, finish, piece_reads}
+use Rattle.hy_parse.specs.Grammar.{Mark, Any, At, Marks, condition, HasItem, optional, kind, column_def, turn, body, marks, IsGroupedSetClause, set_clauses_levels, IsGrouped, levels}
+use Rattle.hy_parse.specs.Reading.{Read, same, sign, word, begins, span_of, flag_at, kind_of, column_def_at, create_at, insert_at, session_at, begin_at, alone_at, select_at, update_at, delete_at, turns_at, schedule_at, body_at, read_statement}
+use Rattle.hy_parse.proofs.Readers.{Reads, Always, nothing, HeadStops, head_of, then_read, then_last, widen, recast, finish, piece_reads}
 use Rattle.hy_parse.proofs.Choices.{same_is, same_self, of_sum, fits_sum, then_one, then_fixed, choice_reads}
 use Rattle.hy_parse.proofs.Chains.{at_joins, list_reads, items_reads}
 use Rattle.hy_parse.proofs.OperandRules.{anything, flag_reads, name_reads, literal_reads}
 use Rattle.hy_parse.proofs.ConditionRules.{either_stops, head_is, ConditionFits}
-use Rattle.hy_parse.proofs.ExpressionRules.{goes_formula, SettingFits, setting_reads}
+use Rattle.hy_parse.proofs.ExpressionRules.{goes_formula, SetClauseFits, set_clause_reads}
 use Rattle.hy_parse.proofs.QueryRules.{but_end, before_end, always, from_reads, whole_condition, SelectionFits, selection_reads}
+use Rattle.hy_limits.specs.declared.TheConstants.{MOST_LEVELS}
 
 -- ---- CREATE
 
@@ -111,17 +112,17 @@ no_set : (t : Option Test) → HeadStops goes_sets but_end (condition t)
 no_set None = before_end goes_sets refl
 no_set (Some t) = refl
 
-record UpdateFits (sets : List Setting) (t : Option Test) : Type 0 where
+record UpdateFits (sets : List SetClause) (t : Option Test) : Type 0 where
   some : HasItem sets
-  all : AllByRecursion SettingFits sets
+  all : AllByRecursion SetClauseFits sets
   condition : ConditionFits t
 
-update_reads : Reads update_at (λ (f : Span × (List Setting × Option Test)). body (tree.Update f.0 f.1.0 f.1.1)) (λ f. tree.Update f.0 f.1.0 f.1.1) (λ f. UpdateFits f.1.0 f.1.1) but_end
+update_reads : Reads update_at (λ (f : Span × (List SetClause × Option Test)). body (tree.Update f.0 f.1.0 f.1.1)) (λ f. tree.Update f.0 f.1.0 f.1.1) (λ f. UpdateFits f.1.0 f.1.1) but_end
 unfolding update_at
 update_reads =
     recast (λ f. body (tree.Update f.0 f.1.0 f.1.1)) (λ f. tree.Update f.0 f.1.0 f.1.1) (λ f. UpdateFits f.1.0 f.1.1)
     (then_fixed (word keyword.Update ∷ []) _ (then_one _ name_reads (λ table fits. then_fixed (word keyword.Set ∷ []) _
-    (then_read _ (items_reads goes_sets [] setting_reads (λ t e. (either_stops _ _ e).1) (λ t e. (either_stops _ _ e).0) refl) (λ sets fits'. then_last whole_condition (λ t. tree.Update table sets t)) (λ sets t f g. no_set t)))))
+    (then_read _ (items_reads goes_sets [] set_clause_reads (λ t e. (either_stops _ _ e).1) (λ t e. (either_stops _ _ e).0) refl) (λ sets fits'. then_last whole_condition (λ t. tree.Update table sets t)) (λ sets t f g. no_set t)))))
     (λ f fits. (f, record { some = fits.1.0.0; all = fits.1.0.1; condition = fits.1.1 }, refl, refl)) (λ f fits. (f, (tt, ((fits.some, fits.all), fits.condition)), refl, refl))
 
 delete_reads : Reads delete_at (λ (f : Span × Option Test). body (tree.Delete f.0 f.1)) (λ f. tree.Delete f.0 f.1) (λ f. ConditionFits f.1) but_end
@@ -139,7 +140,7 @@ goes_turns t = same token.Name t || same (sign Bang) t
 turns_reads : Reads turns_at (flat_map turn) (λ turns. turns) (AllByRecursion Always) goes_turns
 turns_reads =
     let more : List Turn → Span → Bool → List Turn = λ turns session whole. turns ++ record { session = session; whole = whole } ∷ [] in
-    list_reads (place_of token.Name) more (λ s. At token.Name s) more (same token.Name) (at_joins token.Name more)
+    list_reads (span_of token.Name) more (λ s. At token.Name s) more (same token.Name) (at_joins token.Name more)
     (flag_at (sign Bang) []) (λ b. optional b (Any (sign Bang) ∷ [])) (λ b. b) Always (same (sign Bang)) goes_turns (flag_reads (sign Bang) []) (λ t e. (either_stops _ _ e).1) (λ t e. (either_stops _ _ e).0) (λ s. refl)
     (λ sw. record { session = sw.0; whole = sw.1 }) (λ t. (t.session, t.whole)) (λ turns sw. refl) (λ t. refl) turn Always (λ sw. refl) (λ sw fits. tt) (λ t fits. tt) []
 
@@ -182,22 +183,22 @@ or_last t one opens = (one, record { head = λ f fits. (t, opens f, same_self t)
 
 pub record StatementFits (s : Statement) : Type 0 where
   pub grouped : IsGrouped s
-  pub within : levels s ≤ 64
+  pub within : levels s ≤ MOST_LEVELS
 
-sets_fit : (sets : List Setting) → AllByRecursion SettingFits sets → AllByRecursion IsGroupedSetting sets × (settings_levels sets ≤ 64)
+sets_fit : (sets : List SetClause) → AllByRecursion SetClauseFits sets → AllByRecursion IsGroupedSetClause sets × (set_clauses_levels sets ≤ MOST_LEVELS)
 sets_fit [] fit = (tt, omega arith)
 sets_fit (set ∷ sets) fit = let others = sets_fit sets fit.1 in ((fit.0.grouped, others.0), omega (arith, fit.0.within, others.1))
 
-fit_sets : (sets : List Setting) → AllByRecursion IsGroupedSetting sets → settings_levels sets ≤ 64 → AllByRecursion SettingFits sets
+fit_sets : (sets : List SetClause) → AllByRecursion IsGroupedSetClause sets → set_clauses_levels sets ≤ MOST_LEVELS → AllByRecursion SetClauseFits sets
 fit_sets [] grouped within = tt
 fit_sets (set ∷ sets) grouped within = (record { grouped = grouped.0; within = omega (arith, within) }, fit_sets sets grouped.1 (omega (arith, within)))
 
-update_fits : (table : Span) (sets : List Setting) (t : Option Test) → UpdateFits sets t → StatementFits (tree.Update table sets t)
+update_fits : (table : Span) (sets : List SetClause) (t : Option Test) → UpdateFits sets t → StatementFits (tree.Update table sets t)
 update_fits table sets t fits =
     let known = sets_fit sets fits.all in
     record { grouped = (fits.some, known.0, fits.condition.grouped); within = omega (arith, known.1, fits.condition.within) }
 
-fits_update : (table : Span) (sets : List Setting) (t : Option Test) → StatementFits (tree.Update table sets t) → UpdateFits sets t
+fits_update : (table : Span) (sets : List SetClause) (t : Option Test) → StatementFits (tree.Update table sets t) → UpdateFits sets t
 fits_update table sets t fits = record {
   some = fits.grouped.0;
   all = fit_sets sets fits.grouped.1 (omega (arith, fits.within));

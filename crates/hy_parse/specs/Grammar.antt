@@ -27,13 +27,14 @@ use Rattle.hy_ast.specs.declared.Total.{Total}
 use Rattle.hy_ast.specs.declared.Total.TheVariants as totals
 use Rattle.hy_ast.specs.declared.Listed.{Listed}
 use Rattle.hy_ast.specs.declared.Listed.TheVariants as listing
-use Rattle.hy_ast.specs.Trees.{Test, Formula, Setting, Selection, Statement}
+use Rattle.hy_ast.specs.Trees.{Test, Formula, SetClause, Selection, Statement}
 use Rattle.hy_ast.specs.Trees as tree
 use Rattle.hy_parse.specs.declared.Piece.{Piece}
+use Rattle.hy_limits.specs.declared.TheConstants.{MOST_LEVELS}
 
 -- ---- marks
 
--- what stands for one piece: a token at any place, or at this one
+-- what stands for one piece: a token with any span, or with this one
 pub data Mark : Type 0 where
   Any : (token : Token) → Mark
   At : (token : Token) (span : Span) → Mark
@@ -193,15 +194,15 @@ formula_levels (tree.Plain o) = 0
 formula_levels (tree.Binary left op at right) = max (formula_levels left) (formula_levels right)
 formula_levels (tree.Bracket inner) = formula_levels inner + 1
 
-abbrev pub setting : Setting → List Mark
-setting set = name set.column ∷ sign Equal ∷ formula set.value
+abbrev pub set_clause : SetClause → List Mark
+set_clause set = name set.column ∷ sign Equal ∷ formula set.value
 
-abbrev pub IsGroupedSetting : Setting → Type 0
-IsGroupedSetting set = IsGroupedFormula set.value
+abbrev pub IsGroupedSetClause : SetClause → Type 0
+IsGroupedSetClause set = IsGroupedFormula set.value
 
-abbrev pub settings_levels : List Setting → ℕ
-settings_levels [] = 0
-settings_levels (set ∷ sets) = max (formula_levels set.value) (settings_levels sets)
+abbrev pub set_clauses_levels : List SetClause → ℕ
+set_clauses_levels [] = 0
+set_clauses_levels (set ∷ sets) = max (formula_levels set.value) (set_clauses_levels sets)
 
 -- ---- statements
 
@@ -250,7 +251,7 @@ body (tree.Begin only) = word Begin ∷ optional only (word Read ∷ word Only �
 body tree.Commit = word Commit ∷ []
 body tree.Rollback = word Rollback ∷ []
 body (tree.Select s) = word Select ∷ selection s
-body (tree.Update table sets t) = word Update ∷ name table ∷ word Set ∷ separated setting sets ++ condition t
+body (tree.Update table sets t) = word Update ∷ name table ∷ word Set ∷ separated set_clause sets ++ condition t
 body (tree.Delete table t) = word Delete ∷ from table ++ condition t
 body (tree.Schedule turns) = word Schedule ∷ flat_map turn turns
 body tree.End = word End ∷ []
@@ -276,7 +277,7 @@ abbrev pub IsGrouped : Statement → Type 0
 IsGrouped (tree.Create table columns) = HasItem columns
 IsGrouped (tree.Insert table values) = HasItem values
 IsGrouped (tree.Select s) = IsGroupedSelection s
-IsGrouped (tree.Update table sets t) = HasItem sets × AllByRecursion IsGroupedSetting sets × IsGroupedCondition t
+IsGrouped (tree.Update table sets t) = HasItem sets × AllByRecursion IsGroupedSetClause sets × IsGroupedCondition t
 IsGrouped (tree.Delete table t) = IsGroupedCondition t
 IsGrouped _ = Unit {0}
 
@@ -288,7 +289,7 @@ selection_levels (tree.Groups c of table t by) = condition_levels t
 -- the most levels that are open at once
 abbrev pub levels : Statement → ℕ
 levels (tree.Select s) = selection_levels s
-levels (tree.Update table sets t) = max (settings_levels sets) (condition_levels t)
+levels (tree.Update table sets t) = max (set_clauses_levels sets) (condition_levels t)
 levels (tree.Delete table t) = condition_levels t
 levels _ = 0
 
@@ -305,7 +306,7 @@ pub record Begins (pieces : List Piece) : Type 0 where
   pub more : List Piece
   pub statement : Statement
   pub written : IsWritten (pieces ++ more) statement
-  pub within : levels statement ≤ 64
+  pub within : levels statement ≤ MOST_LEVELS
 
 -- with the first of these pieces no sentence goes on, if there is one
 abbrev pub IsUnfit : List Piece → List Piece → Type 0

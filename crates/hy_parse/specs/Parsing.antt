@@ -1,4 +1,4 @@
--- The statement that begins at a place of a script, or the place of the first token that does not fit.
+-- The statement that begins at an offset of a script, or the offset of the first token that does not fit.
 use Rattle.std.specs.Prelude.{◌≡◌, ℕ, ◌≤◌, List, [], ◌∷◌, ◌++◌, Result, Ok, Err}
 use Rattle.hy_ast.specs.Trees.{Statement}
 use Rattle.hy_parse.specs.Grammar.{IsWritten, Begins, IsUnfit, levels}
@@ -9,20 +9,21 @@ use Rattle.hy_parse.specs.declared.ParseError.{ParseError}
 use Rattle.hy_parse.specs.declared.ParseError.TheVariants as errors
 use Rattle.hy_parse.specs.Pieces.{Pieces, pieces_of}
 use Rattle.hy_parse.specs.Reading.{Read, Done, Stuck, read_statement}
+use Rattle.hy_limits.specs.declared.TheConstants.{MOST_LEVELS}
 
 pub data Fault : Type 0 where
   Syntax : (at : ℕ) → Fault
   BadToken : (at : ℕ) → Fault
 
-abbrev pub place_of : Ending → ℕ
-place_of (Closed at) = at
-place_of (Cut at) = at
-place_of (Bad at) = at
+abbrev pub offset_of : Ending → ℕ
+offset_of (Closed at) = at
+offset_of (Cut at) = at
+offset_of (Bad at) = at
 
 -- the fault where no piece is left that could go on
 abbrev pub ending_fault : Ending → Fault
 ending_fault (Bad at) = BadToken at
-ending_fault ending = Syntax (place_of ending)
+ending_fault ending = Syntax (offset_of ending)
 
 -- the fault where the first of these pieces does not fit
 abbrev pub fault_of : List Piece → Ending → Fault
@@ -31,13 +32,13 @@ fault_of (piece ∷ pieces) ending = Syntax piece.span.start
 
 -- What reading gives. A statement that was read took all the pieces, and so its end is theirs.
 abbrev pub judged : Read Statement → Ending → Result (Statement × ℕ) Fault
-judged (Done statement rest) ending = Ok (statement, place_of ending)
+judged (Done statement rest) ending = Ok (statement, offset_of ending)
 judged (Stuck rest) ending = Err (fault_of rest ending)
 
 abbrev pub parsed_pieces : Pieces → Result (Statement × ℕ) Fault
 parsed_pieces ps = judged (read_statement ps.pieces) ps.ending
 
--- the statement that begins at the first token from a place on, and the place right behind its `;`
+-- the statement that begins at the first token from an offset on, and the offset right behind its `;`
 unfoldable pub parsed : List ℕ → ℕ → Result (Statement × ℕ) Fault
 parsed bytes at = parsed_pieces (pieces_of bytes at)
 
@@ -49,7 +50,7 @@ error_of (BadToken at) = errors.BadToken at
 pub record Parses (bytes : List ℕ) (at : ℕ) (statement : Statement) (end : ℕ) : Type 0 where
   pub closed : (pieces_of bytes at).ending ≡ Closed end
   pub written : IsWritten (pieces_of bytes at).pieces statement
-  pub within : levels statement ≤ 64
+  pub within : levels statement ≤ MOST_LEVELS
 
 abbrev pub IsClosed : Ending → Type 0
 IsClosed (Closed at) = Unit {0}
@@ -64,11 +65,11 @@ pub record Breaks (bytes : List ℕ) (at : ℕ) (fault : Fault) : Type 0 where
   pub begins : Begins front
   pub unfit : IsUnfit front rest
   pub unclosed : rest ≡ [] → IsClosed (pieces_of bytes at).ending → ⊥
-  pub place : fault ≡ fault_of rest (pieces_of bytes at).ending
+  pub offset : fault ≡ fault_of rest (pieces_of bytes at).ending
 
-abbrev pub place_in : Fault → ℕ
-place_in (Syntax at) = at
-place_in (BadToken at) = at
+abbrev pub offset_in : Fault → ℕ
+offset_in (Syntax at) = at
+offset_in (BadToken at) = at
 
 -- What a function returned, seen by view, is what is parsed, unless memory ran out.
 abbrev pub Fails : {A : Type 0} → ParseError → Result A Fault → Type 0

@@ -10,6 +10,7 @@ use Rattle.hy_token.specs.declared.Token.TheVariants.{Reserved, Sign, End}
 use Rattle.hy_parse.specs.declared.Piece.{Piece}
 use Rattle.hy_parse.specs.declared.Ending.{Ending}
 use Rattle.hy_parse.specs.declared.Ending.TheVariants.{Closed, Cut, Bad as BadEnding}
+use Rattle.hy_limits.specs.declared.TheConstants.{MOST_TOKENS}
 
 pub record Pieces : Type 0 where
   pub pieces : List Piece
@@ -33,7 +34,7 @@ continued (Ok (End, span)) others = ended (Ok (End, span))
 continued (Ok (token, span)) others = preceded (piece_of token span) (others span.end)
 continued (Err bad) others = ended (Err bad)
 
--- the pieces from a place on, at most this many
+-- the pieces from an offset on, at most this many
 unfoldable pub pieces_within : ℕ → List ℕ → ℕ → Pieces
 pieces_within zero bytes at = ended (token_at bytes at)
 pieces_within (suc most) bytes at = continued (token_at bytes at) (λ next. pieces_within most bytes next)
@@ -41,8 +42,8 @@ pieces_within (suc most) bytes at = continued (token_at bytes at) (λ next. piec
 -- A statement has at most 4,096 tokens. Only a schedule has no limit: no script has more tokens than bytes.
 unfoldable pub most_pieces : ℕ → Result (Token × Span) Bad → ℕ
 most_pieces len (Ok (Reserved Schedule, span)) = len
-most_pieces len _ = 4096
+most_pieces len _ = MOST_TOKENS
 
--- the pieces of the statement that begins at the first token from a place on
+-- the pieces of the statement that begins at the first token from an offset on
 abbrev pub pieces_of : List ℕ → ℕ → Pieces
 pieces_of bytes at = pieces_within (most_pieces (length bytes) (token_at bytes at)) bytes at

@@ -3,8 +3,8 @@
 use Rattle.std.specs.Prelude.{◌≡◌, ℕ, Result, Ok, Err, zero, suc, Bool, true, false, if◌then◌else◌, Option, Some, None, List, [], ◌∷◌, ◌++◌, length}
 use Rattle.std.specs.Option.{option_map, option_map_or}
 use Rattle.std.specs.Str.{bytes_eq}
-use Rattle.hy_token.specs.Keyword.{spelling as word_spelling}
-use Rattle.hy_token.specs.Sign.{spelling as sign_spelling}
+use Rattle.hy_token.specs.Keyword.{word_spelling}
+use Rattle.hy_token.specs.Sign.{sign_spelling}
 use Rattle.hy_token.specs.declared.Keyword.{Keyword}
 use Rattle.hy_token.specs.declared.Keyword.TheVariants.{And, Begin, By, Commit, Count, Create, Delete, End, From, Group, Insert, Int, Into, Is, Join, Key, Not, Null, On, Only, Or, Primary, Rollback, Schedule, Select, Session, Set, Sum, Table, Update, Values, Where}
 use Rattle.hy_token.specs.declared.Keyword.TheVariants as keyword
@@ -31,11 +31,12 @@ use Rattle.hy_ast.specs.declared.Total.{Total}
 use Rattle.hy_ast.specs.declared.Total.TheVariants as totals
 use Rattle.hy_ast.specs.declared.Listed.{Listed}
 use Rattle.hy_ast.specs.declared.Listed.TheVariants as listing
-use Rattle.hy_ast.specs.Trees.{Test, Formula, Setting, Selection, Statement}
+use Rattle.hy_ast.specs.Trees.{Test, Formula, SetClause, Selection, Statement}
 use Rattle.hy_ast.specs.Trees as tree
 use Rattle.hy_parse.specs.declared.Piece.{Piece}
 use Rattle.hy_parse.specs.declared.cursor.Halt.{Halt}
 use Rattle.hy_parse.specs.declared.cursor.Halt.TheVariants as halt
+use Rattle.hy_limits.specs.declared.TheConstants.{MOST_LEVELS}
 
 pub data Read (A : Type 0) : Type 0 where
   Done : (value : A) (rest : List Piece) → Read A
@@ -82,9 +83,9 @@ abbrev pub seen : {A : Type 0} → (Piece → Option A) → List Piece → Optio
 seen sense [] = None
 seen sense (piece ∷ pieces) = option_map (λ value. (value, pieces)) (sense piece)
 
--- the place of a piece that is this token
-abbrev pub place_of : Token → Piece → Option Span
-place_of token piece = if same token piece.token then Some piece.span else None
+-- the span of a piece that is this token
+abbrev pub span_of : Token → Piece → Option Span
+span_of token piece = if same token piece.token then Some piece.span else None
 
 -- whether the next piece is this token
 abbrev pub begins : Token → List Piece → Bool
@@ -95,25 +96,25 @@ begins token (piece ∷ pieces) = same token piece.token
 unfoldable pub piece_at : {A : Type 0} → (Piece → Option A) → List Piece → Read A
 piece_at sense pieces = option_map_or (λ found. Done found.0 found.1) (seen sense pieces) (Stuck pieces)
 
--- the place of the next piece, which is this token
-abbrev pub place_at : Token → List Piece → Read Span
-place_at token pieces = piece_at (place_of token) pieces
+-- the span of the next piece, which is this token
+abbrev pub span_at : Token → List Piece → Read Span
+span_at token pieces = piece_at (span_of token) pieces
 
 abbrev pub name_at : List Piece → Read Span
-name_at pieces = place_at token.Name pieces
+name_at pieces = span_at token.Name pieces
 
 -- these tokens, one after the other
 unfoldable pub after : List Token → List Piece → Read (Unit {0})
 after [] pieces = Done tt pieces
 after (token ∷ tokens) pieces = do
-  found ← place_at token pieces
+  found ← span_at token pieces
   after tokens found.1
 
 -- whether these tokens stand there, as they must where the first of them does
 unfoldable pub flag_at : Token → List Token → List Piece → Read Bool
 flag_at first others pieces =
     if begins first pieces
-    then (place_at first pieces >>= λ found. after others found.1 >>= λ rest. Done true rest.1)
+    then (span_at first pieces >>= λ found. after others found.1 >>= λ rest. Done true rest.1)
     else Done false pieces
 
 -- ---- one after the other
@@ -132,7 +133,7 @@ links_at sense join one left pieces = links_within sense join one (length pieces
 unfoldable pub items_at : {A : Type 0} → List A → (List Piece → Read A) → List Piece → Read (List A)
 items_at before one pieces = do
   first ← one pieces
-  links_at (place_of (sign Comma)) (λ items _ item. items ++ item ∷ []) one (before ++ first.0 ∷ []) first.1
+  links_at (span_of (sign Comma)) (λ items _ item. items ++ item ∷ []) one (before ++ first.0 ∷ []) first.1
 
 -- ---- columns, literals and operands
 
@@ -145,8 +146,8 @@ column_at pieces = do
 
 unfoldable pub negative_at : List Piece → Read Literal
 negative_at pieces = do
-  minus ← place_at (sign Minus) pieces
-  digits ← place_at token.Integer minus.1
+  minus ← span_at (sign Minus) pieces
+  digits ← span_at token.Integer minus.1
   Done (literals.Integer (Some minus.0) digits.0) digits.1
 
 -- a literal of one piece
@@ -177,13 +178,13 @@ cmp_of (token.Sign Greater) = Some cmp.Gt
 cmp_of (token.Sign GreaterEqual) = Some cmp.Ge
 cmp_of _ = None
 
--- a comparison and its place
+-- a comparison and its span
 abbrev pub comparison_of : Piece → Option (Cmp × Span)
 comparison_of piece = option_map (λ op. (op, piece.span)) (cmp_of piece.token)
 
 unfoldable pub is_null_at : ColumnRef → List Piece → Read Test
 is_null_at column pieces = do
-  at ← place_at (word Is) pieces
+  at ← span_at (word Is) pieces
   negated ← flag_at (word Not) [] at.1
   rest ← after (word Null ∷ []) negated.1
   Done (tree.IsNull column at.0 negated.0) rest.1
@@ -203,12 +204,12 @@ comparison_at pieces = do
 unfoldable pub conjunction_by : (List Piece → Read Test) → List Piece → Read Test
 conjunction_by unit pieces = do
   first ← unit pieces
-  links_at (place_of (word And)) (λ left at right. tree.And left at right) unit first.0 first.1
+  links_at (span_of (word And)) (λ left at right. tree.And left at right) unit first.0 first.1
 
 unfoldable pub test_by : (List Piece → Read Test) → List Piece → Read Test
 test_by unit pieces = do
   first ← conjunction_by unit pieces
-  links_at (place_of (word Or)) (λ left at right. tree.Or left at right) (conjunction_by unit) first.0 first.1
+  links_at (span_of (word Or)) (λ left at right. tree.Or left at right) (conjunction_by unit) first.0 first.1
 
 -- A unit that opens at most this many levels at once. Where it may open none it is a comparison, which
 -- begins with neither NOT nor a parenthesis.
@@ -216,7 +217,7 @@ unfoldable pub unit_at : ℕ → List Piece → Read Test
 unit_at zero pieces = comparison_at pieces
 unit_at (suc levels) pieces =
     if begins (word Not) pieces
-    then (place_at (word Not) pieces >>= λ at. unit_at levels at.1 >>= λ inner. Done (tree.Not at.0 inner.0) inner.1)
+    then (span_at (word Not) pieces >>= λ at. unit_at levels at.1 >>= λ inner. Done (tree.Not at.0 inner.0) inner.1)
     else (if begins (sign LeftParen) pieces
     then (after (sign LeftParen ∷ []) pieces >>= λ opened. test_by (unit_at levels) opened.1 >>= λ inner. after (sign RightParen ∷ []) inner.1 >>= λ closed. Done (tree.Nested inner.0) closed.1)
     else comparison_at pieces)
@@ -228,7 +229,7 @@ test_at levels pieces = test_by (unit_at levels) pieces
 unfoldable pub condition_at : List Piece → Read (Option Test)
 condition_at pieces =
     if begins (word Where) pieces
-    then (after (word Where ∷ []) pieces >>= λ rest. test_at 64 rest.1 >>= λ test. Done (Some test.0) test.1)
+    then (after (word Where ∷ []) pieces >>= λ rest. test_at MOST_LEVELS rest.1 >>= λ test. Done (Some test.0) test.1)
     else Done None pieces
 
 -- ---- expressions
@@ -238,7 +239,7 @@ addition_of (token.Sign Plus) = Some operator.Plus
 addition_of (token.Sign Minus) = Some operator.Minus
 addition_of _ = None
 
--- `+` or `-` and its place
+-- `+` or `-` and its span
 abbrev pub addition : Piece → Option (Operator × Span)
 addition piece = option_map (λ op. (op, piece.span)) (addition_of piece.token)
 
@@ -246,7 +247,7 @@ addition piece = option_map (λ op. (op, piece.span)) (addition_of piece.token)
 unfoldable pub term_by : (List Piece → Read Formula) → List Piece → Read Formula
 term_by factor pieces = do
   first ← factor pieces
-  links_at (place_of (sign Star)) (λ left at right. tree.Binary left operator.Times at right) factor first.0 first.1
+  links_at (span_of (sign Star)) (λ left at right. tree.Binary left operator.Times at right) factor first.0 first.1
 
 unfoldable pub formula_by : (List Piece → Read Formula) → List Piece → Read Formula
 formula_by factor pieces = do
@@ -269,11 +270,11 @@ factor_at (suc levels) pieces =
 abbrev pub formula_at : ℕ → List Piece → Read Formula
 formula_at levels pieces = formula_by (factor_at levels) pieces
 
-unfoldable pub setting_at : List Piece → Read Setting
-setting_at pieces = do
+unfoldable pub set_clause_at : List Piece → Read SetClause
+set_clause_at pieces = do
   column ← name_at pieces
   equal ← after (sign Equal ∷ []) column.1
-  value ← formula_at 64 equal.1
+  value ← formula_at MOST_LEVELS equal.1
   Done (record { column = column.0; value = value.0 }) value.1
 
 -- ---- SELECT
@@ -305,7 +306,7 @@ joined_at pieces = do
   Done (record { table = table.0; left = left.0; right = right.0 }) right.1
 
 abbrev pub joins_at : List Piece → Read (List JoinedTable)
-joins_at pieces = links_at (place_of (word Join)) (λ joins _ join. joins ++ join ∷ []) joined_at [] pieces
+joins_at pieces = links_at (span_of (word Join)) (λ joins _ join. joins ++ join ∷ []) joined_at [] pieces
 
 -- what follows the items of a SELECT of rows
 unfoldable pub rows_at : Listed → List Piece → Read Selection
@@ -420,7 +421,7 @@ update_at pieces = do
   begun ← after (word Update ∷ []) pieces
   table ← name_at begun.1
   set ← after (word Set ∷ []) table.1
-  sets ← items_at [] setting_at set.1
+  sets ← items_at [] set_clause_at set.1
   test ← condition_at sets.1
   Done (tree.Update table.0 sets.0 test.0) test.1
 
@@ -433,7 +434,7 @@ delete_at pieces = do
 
 -- a session's turn, with `!` behind it or without
 abbrev pub turns_at : List Piece → Read (List Turn)
-turns_at pieces = links_at (place_of token.Name) (λ turns session whole. turns ++ record { session = session; whole = whole } ∷ []) (flag_at (sign Bang) []) [] pieces
+turns_at pieces = links_at (span_of token.Name) (λ turns session whole. turns ++ record { session = session; whole = whole } ∷ []) (flag_at (sign Bang) []) [] pieces
 
 unfoldable pub schedule_at : List Piece → Read Statement
 schedule_at pieces = do

@@ -7,15 +7,13 @@ ghost use Rattle.hy_ast.specs.Trees.{test_of, And, Or};
 ghost use Rattle.hy_parse.specs.Reading.{Gives, cmp_of, comparison_of, is_null_at, compared_at, comparison_at, unit_at, conjunction_by, test_at, condition_at};
 
 use crate::Piece;
-use crate::cursor::{Halt, begins, expect, flag, next_place, place};
+use crate::cursor::{Halt, begins, expect, flag, next_span, spanned};
 use crate::operands::{column, operand};
-use hy_ast::{ColumnRef, Condition};
+use hy_ast::{ColumnRef, Test};
+use hy_limits::MOST_LEVELS;
 use hy_token::{Keyword, Sign, Span, Token};
 use hy_value::Cmp;
 use std::alloc::{AllocError, Global};
-
-/// A condition or an expression opens at most this many levels at once.
-pub const MOST_LEVELS: u32 = 64;
 
 const AND: Token = Token::Reserved(Keyword::And);
 
@@ -40,13 +38,13 @@ fn cmp_of(token: Token) -> Option<Cmp>
 
 /// IS NULL or IS NOT NULL behind a column.
 #[tactic(auto, unfolding(crate::specs::Reading::is_null_at))]
-fn is_null<'a>(column: ColumnRef, pieces: &'a [Piece]) -> Result<(Condition, &'a [Piece]), Halt<'a>>
+fn is_null<'a>(column: ColumnRef, pieces: &'a [Piece]) -> Result<(Test, &'a [Piece]), Halt<'a>>
     ensures { Gives (λ x. (test_of x.0, x.1.now)) result (is_null_at column pieces.now) }
 {
-    let (at, rest) = place(pieces, Token::Reserved(Keyword::Is))?;
+    let (at, rest) = spanned(pieces, Token::Reserved(Keyword::Is))?;
     let (negated, rest) = flag(rest, NOT, &[])?;
     let rest = expect(rest, &[Token::Reserved(Keyword::Null)])?;
-    let condition = Condition::IsNull {
+    let condition = Test::IsNull {
         column,
         at,
         negated,
@@ -56,7 +54,7 @@ fn is_null<'a>(column: ColumnRef, pieces: &'a [Piece]) -> Result<(Condition, &'a
 
 /// A comparison and its right side behind a column.
 #[tactic(auto, unfolding(crate::specs::Reading::compared_at, crate::specs::Reading::piece_at))]
-fn compared<'a>(left: ColumnRef, pieces: &'a [Piece]) -> Result<(Condition, &'a [Piece]), Halt<'a>>
+fn compared<'a>(left: ColumnRef, pieces: &'a [Piece]) -> Result<(Test, &'a [Piece]), Halt<'a>>
     ensures { Gives (λ x. (test_of x.0, x.1.now)) result (compared_at left pieces.now) }
 {
     let [piece, rest @ ..] = pieces else {
@@ -66,7 +64,7 @@ fn compared<'a>(left: ColumnRef, pieces: &'a [Piece]) -> Result<(Condition, &'a 
         return Err(Halt::Stuck(pieces));
     };
     let (right, rest) = operand(rest)?;
-    let condition = Condition::Compare {
+    let condition = Test::Compare {
         left,
         op,
         at: piece.span,
@@ -77,7 +75,7 @@ fn compared<'a>(left: ColumnRef, pieces: &'a [Piece]) -> Result<(Condition, &'a 
 
 /// A column compared with a column or a literal, or tested for NULL.
 #[tactic(auto, unfolding(crate::specs::Reading::comparison_at))]
-fn comparison(pieces: &[Piece]) -> Result<(Condition, &[Piece]), Halt>
+fn comparison(pieces: &[Piece]) -> Result<(Test, &[Piece]), Halt>
     ensures { Gives (λ x. (test_of x.0, x.1.now)) result (comparison_at pieces.now) }
 {
     let (column, rest) = column(pieces)?;
@@ -89,32 +87,32 @@ fn comparison(pieces: &[Piece]) -> Result<(Condition, &[Piece]), Halt>
 }
 
 /// Two conditions with AND between.
-fn and(alloc: Global, left: Condition, at: Span, right: Condition) -> Result<Condition, AllocError>
+fn and(alloc: Global, left: Test, at: Span, right: Test) -> Result<Test, AllocError>
     ensures { IfOk result (λ whole. test_of whole ≡ And (test_of left) at (test_of right)) }
 {
     let left = Box::new(alloc, left)?;
     let right = Box::new(alloc, right)?;
-    Ok(Condition::And { left, at, right })
+    Ok(Test::And { left, at, right })
 }
 
 /// Two conditions with OR between.
-fn or(alloc: Global, left: Condition, at: Span, right: Condition) -> Result<Condition, AllocError>
+fn or(alloc: Global, left: Test, at: Span, right: Test) -> Result<Test, AllocError>
     ensures { IfOk result (λ whole. test_of whole ≡ Or (test_of left) at (test_of right)) }
 {
     let left = Box::new(alloc, left)?;
     let right = Box::new(alloc, right)?;
-    Ok(Condition::Or { left, at, right })
+    Ok(Test::Or { left, at, right })
 }
 
 /// A chain of AND.
 #[cycle(condition)]
 #[tactic(auto, unfolding(crate::specs::Reading::conjunction_by))]
-fn conjunction(alloc: Global, levels: u32, pieces: &[Piece]) -> Result<(Condition, &[Piece]), Halt>
+fn conjunction(alloc: Global, levels: u32, pieces: &[Piece]) -> Result<(Test, &[Piece]), Halt>
     ensures { Gives (λ x. (test_of x.0, x.1.now)) result (conjunction_by (unit_at levels) pieces.now) }
 {
     let (mut left, mut rest) = unit(alloc, levels, pieces)?;
     for _ in 0..rest.len() {
-        let Some((at, behind)) = next_place(rest, AND) else {
+        let Some((at, behind)) = next_span(rest, AND) else {
             return Ok((left, rest));
         };
         let (right, behind) = unit(alloc, levels, behind)?;
@@ -127,12 +125,12 @@ fn conjunction(alloc: Global, levels: u32, pieces: &[Piece]) -> Result<(Conditio
 /// A condition that opens at most this many levels at once: a chain of OR.
 #[cycle(condition)]
 #[tactic(auto, unfolding(crate::specs::Reading::test_by))]
-fn condition(alloc: Global, levels: u32, pieces: &[Piece]) -> Result<(Condition, &[Piece]), Halt>
+fn condition(alloc: Global, levels: u32, pieces: &[Piece]) -> Result<(Test, &[Piece]), Halt>
     ensures { Gives (λ x. (test_of x.0, x.1.now)) result (test_at levels pieces.now) }
 {
     let (mut left, mut rest) = conjunction(alloc, levels, pieces)?;
     for _ in 0..rest.len() {
-        let Some((at, behind)) = next_place(rest, OR) else {
+        let Some((at, behind)) = next_span(rest, OR) else {
             return Ok((left, rest));
         };
         let (right, behind) = conjunction(alloc, levels, behind)?;
@@ -145,30 +143,30 @@ fn condition(alloc: Global, levels: u32, pieces: &[Piece]) -> Result<(Condition,
 /// NOT with its unit, a condition in parentheses, or a comparison. The first two open a level.
 #[cycle(condition)]
 #[tactic(auto, unfolding(crate::specs::Reading::unit_at))]
-fn unit(alloc: Global, levels: u32, pieces: &[Piece]) -> Result<(Condition, &[Piece]), Halt>
+fn unit(alloc: Global, levels: u32, pieces: &[Piece]) -> Result<(Test, &[Piece]), Halt>
     ensures { Gives (λ x. (test_of x.0, x.1.now)) result (unit_at levels pieces.now) }
 {
     if levels == 0 {
         return comparison(pieces);
     }
     if begins(pieces, NOT) {
-        let (at, rest) = place(pieces, NOT)?;
+        let (at, rest) = spanned(pieces, NOT)?;
         let (inner, rest) = unit(alloc, levels - 1, rest)?;
         let condition = Box::new(alloc, inner)?;
-        return Ok((Condition::Not { at, condition }, rest));
+        return Ok((Test::Not { at, condition }, rest));
     }
     if begins(pieces, Token::Sign(Sign::LeftParen)) {
         let rest = expect(pieces, &[Token::Sign(Sign::LeftParen)])?;
         let (inner, rest) = condition(alloc, levels - 1, rest)?;
         let rest = expect(rest, &[Token::Sign(Sign::RightParen)])?;
-        return Ok((Condition::Nested(Box::new(alloc, inner)?), rest));
+        return Ok((Test::Nested(Box::new(alloc, inner)?), rest));
     }
     comparison(pieces)
 }
 
 /// WHERE and its condition, if it comes first.
 #[tactic(auto, unfolding(crate::specs::Reading::condition_at))]
-pub fn where_clause(alloc: Global, pieces: &[Piece]) -> Result<(Option<Condition>, &[Piece]), Halt>
+pub fn where_clause(alloc: Global, pieces: &[Piece]) -> Result<(Option<Test>, &[Piece]), Halt>
     ensures { Gives (λ x. (option_map test_of x.0, x.1.now)) result (condition_at pieces.now) }
 {
     if !begins(pieces, Token::Reserved(Keyword::Where)) {

@@ -1,7 +1,7 @@
 // The next pieces. Each function gives what it read and the pieces behind it.
 
 ghost use Rattle.std.specs.Prelude.{◌≡◌, Option, Some, None};
-ghost use Rattle.hy_parse.specs.Reading.{Gives, Sees, seen, begins, after, flag_at, same, place_of, place_at, name_at};
+ghost use Rattle.hy_parse.specs.Reading.{Gives, Sees, seen, begins, after, flag_at, same, span_of, span_at, name_at};
 ghost use Rattle.hy_parse.specs.declared.cursor.Halt.TheVariants.{OutOfMemory};
 
 use crate::Piece;
@@ -59,9 +59,9 @@ pub fn begins(pieces: &[Piece], token: Token) -> bool
     }
 }
 
-/// The place of the next piece, if it is this token, and the pieces behind it.
-pub fn next_place(pieces: &[Piece], token: Token) -> Option<(Span, &[Piece])>
-    ensures { Sees (λ x. (x.0, x.1.now)) result (seen (place_of token) pieces.now) }
+/// The span of the next piece, if it is this token, and the pieces behind it.
+pub fn next_span(pieces: &[Piece], token: Token) -> Option<(Span, &[Piece])>
+    ensures { Sees (λ x. (x.0, x.1.now)) result (seen (span_of token) pieces.now) }
 {
     match pieces {
         [piece, rest @ ..] if is_same(token, piece.token) => Some((piece.span, rest)),
@@ -69,12 +69,12 @@ pub fn next_place(pieces: &[Piece], token: Token) -> Option<(Span, &[Piece])>
     }
 }
 
-/// The place of the next piece, which is this token.
+/// The span of the next piece, which is this token.
 #[tactic(auto, unfolding(crate::specs::Reading::piece_at))]
-pub fn place(pieces: &[Piece], token: Token) -> Result<(Span, &[Piece]), Halt>
-    ensures { Gives (λ x. (x.0, x.1.now)) result (place_at token pieces.now) }
+pub fn spanned(pieces: &[Piece], token: Token) -> Result<(Span, &[Piece]), Halt>
+    ensures { Gives (λ x. (x.0, x.1.now)) result (span_at token pieces.now) }
 {
-    match next_place(pieces, token) {
+    match next_span(pieces, token) {
         Some(found) => Ok(found),
         None => Err(Halt::Stuck(pieces)),
     }
@@ -84,7 +84,7 @@ pub fn place(pieces: &[Piece], token: Token) -> Result<(Span, &[Piece]), Halt>
 pub fn name(pieces: &[Piece]) -> Result<(Span, &[Piece]), Halt>
     ensures { Gives (λ x. (x.0, x.1.now)) result (name_at pieces.now) }
 {
-    place(pieces, Token::Name)
+    spanned(pieces, Token::Name)
 }
 
 /// The pieces behind these tokens, which are to come first.
@@ -93,7 +93,7 @@ pub fn expect<'a>(pieces: &'a [Piece], tokens: &[Token]) -> Result<&'a [Piece], 
 {
     let mut rest = pieces;
     for token in tokens {
-        let (_, behind) = place(rest, *token)?;
+        let (_, behind) = spanned(rest, *token)?;
         rest = behind;
     }
     Ok(rest)
@@ -111,7 +111,7 @@ pub fn flag<'a>(
     if !begins(pieces, first) {
         return Ok((false, pieces));
     }
-    let (_, rest) = place(pieces, first)?;
+    let (_, rest) = spanned(pieces, first)?;
     let rest = expect(rest, others)?;
     Ok((true, rest))
 }

@@ -2,14 +2,14 @@
 // Each turn of a loop takes a piece, so that there are no more turns than pieces.
 
 ghost use Rattle.std.specs.Prelude.{◌≡◌, [], IfOk, map};
-ghost use Rattle.hy_ast.specs.Trees.{formula_of, Binary, setting_of};
-ghost use Rattle.hy_parse.specs.Reading.{Gives, Sees, seen, addition_of, addition, plain_at, factor_at, term_by, formula_at, setting_at, items_at};
+ghost use Rattle.hy_ast.specs.Trees.{formula_of, Binary, set_clause_of};
+ghost use Rattle.hy_parse.specs.Reading.{Gives, Sees, seen, addition_of, addition, plain_at, factor_at, term_by, formula_at, set_clause_at, items_at};
 
 use crate::Piece;
-use crate::conditions::MOST_LEVELS;
-use crate::cursor::{Halt, begins, expect, name, next_place};
+use crate::cursor::{Halt, begins, expect, name, next_span};
 use crate::operands::operand;
-use hy_ast::{Assignment, Expression, Operator};
+use hy_ast::{Formula, Operator, SetClause};
+use hy_limits::MOST_LEVELS;
 use hy_token::{Sign, Span, Token};
 use hy_value::Seq;
 use std::alloc::{AllocError, Global};
@@ -28,16 +28,16 @@ fn addition_of(token: Token) -> Option<Operator>
 /// Two expressions with an operator between.
 fn binary(
     alloc: Global,
-    left: Expression,
+    left: Formula,
     op: Operator,
     at: Span,
-    right: Expression,
-) -> Result<Expression, AllocError>
+    right: Formula,
+) -> Result<Formula, AllocError>
     ensures { IfOk result (λ whole. formula_of whole ≡ Binary (formula_of left) op at (formula_of right)) }
 {
     let left = Box::new(alloc, left)?;
     let right = Box::new(alloc, right)?;
-    Ok(Expression::Binary {
+    Ok(Formula::Binary {
         left,
         op,
         at,
@@ -47,11 +47,11 @@ fn binary(
 
 /// A column or a literal.
 #[tactic(auto, unfolding(crate::specs::Reading::plain_at))]
-fn plain(pieces: &[Piece]) -> Result<(Expression, &[Piece]), Halt>
+fn plain(pieces: &[Piece]) -> Result<(Formula, &[Piece]), Halt>
     ensures { Gives (λ x. (formula_of x.0, x.1.now)) result (plain_at pieces.now) }
 {
     let (operand, rest) = operand(pieces)?;
-    Ok((Expression::Operand(operand), rest))
+    Ok((Formula::Plain(operand), rest))
 }
 
 /// The next piece if it is `+` or `-`, and the pieces behind it.
@@ -68,12 +68,12 @@ fn next_addition(pieces: &[Piece]) -> Option<(Operator, Span, &[Piece])>
 /// A chain of `*`.
 #[cycle(expression)]
 #[tactic(auto, unfolding(crate::specs::Reading::term_by))]
-fn term(alloc: Global, levels: u32, pieces: &[Piece]) -> Result<(Expression, &[Piece]), Halt>
+fn term(alloc: Global, levels: u32, pieces: &[Piece]) -> Result<(Formula, &[Piece]), Halt>
     ensures { Gives (λ x. (formula_of x.0, x.1.now)) result (term_by (factor_at levels) pieces.now) }
 {
     let (mut left, mut rest) = factor(alloc, levels, pieces)?;
     for _ in 0..rest.len() {
-        let Some((at, behind)) = next_place(rest, Token::Sign(Sign::Star)) else {
+        let Some((at, behind)) = next_span(rest, Token::Sign(Sign::Star)) else {
             return Ok((left, rest));
         };
         let (right, behind) = factor(alloc, levels, behind)?;
@@ -86,7 +86,7 @@ fn term(alloc: Global, levels: u32, pieces: &[Piece]) -> Result<(Expression, &[P
 /// An expression that opens at most this many levels at once: a chain of `+` and `-`.
 #[cycle(expression)]
 #[tactic(auto, unfolding(crate::specs::Reading::formula_by))]
-fn expression(alloc: Global, levels: u32, pieces: &[Piece]) -> Result<(Expression, &[Piece]), Halt>
+fn expression(alloc: Global, levels: u32, pieces: &[Piece]) -> Result<(Formula, &[Piece]), Halt>
     ensures { Gives (λ x. (formula_of x.0, x.1.now)) result (formula_at levels pieces.now) }
 {
     let (mut left, mut rest) = term(alloc, levels, pieces)?;
@@ -104,7 +104,7 @@ fn expression(alloc: Global, levels: u32, pieces: &[Piece]) -> Result<(Expressio
 /// An expression in parentheses, which opens a level, a column or a literal.
 #[cycle(expression)]
 #[tactic(auto, unfolding(crate::specs::Reading::factor_at))]
-fn factor(alloc: Global, levels: u32, pieces: &[Piece]) -> Result<(Expression, &[Piece]), Halt>
+fn factor(alloc: Global, levels: u32, pieces: &[Piece]) -> Result<(Formula, &[Piece]), Halt>
     ensures { Gives (λ x. (formula_of x.0, x.1.now)) result (factor_at levels pieces.now) }
 {
     if levels == 0 || !begins(pieces, Token::Sign(Sign::LeftParen)) {
@@ -113,30 +113,30 @@ fn factor(alloc: Global, levels: u32, pieces: &[Piece]) -> Result<(Expression, &
     let rest = expect(pieces, &[Token::Sign(Sign::LeftParen)])?;
     let (inner, rest) = expression(alloc, levels - 1, rest)?;
     let rest = expect(rest, &[Token::Sign(Sign::RightParen)])?;
-    Ok((Expression::Nested(Box::new(alloc, inner)?), rest))
+    Ok((Formula::Bracket(Box::new(alloc, inner)?), rest))
 }
 
 /// An assignment.
-#[tactic(auto, unfolding(crate::specs::Reading::setting_at))]
-fn assignment(alloc: Global, pieces: &[Piece]) -> Result<(Assignment, &[Piece]), Halt>
-    ensures { Gives (λ x. (setting_of x.0, x.1.now)) result (setting_at pieces.now) }
+#[tactic(auto, unfolding(crate::specs::Reading::set_clause_at))]
+fn assignment(alloc: Global, pieces: &[Piece]) -> Result<(SetClause, &[Piece]), Halt>
+    ensures { Gives (λ x. (set_clause_of x.0, x.1.now)) result (set_clause_at pieces.now) }
 {
     let (column, rest) = name(pieces)?;
     let rest = expect(rest, &[Token::Sign(Sign::Equal)])?;
     let (value, rest) = expression(alloc, MOST_LEVELS, rest)?;
-    Ok((Assignment { column, value }, rest))
+    Ok((SetClause { column, value }, rest))
 }
 
 /// Assignments with commas between.
 #[tactic(auto, unfolding(crate::specs::Reading::items_at))]
-pub fn assignments(alloc: Global, pieces: &[Piece]) -> Result<(Seq<Assignment>, &[Piece]), Halt>
-    ensures { Gives (λ x. (map setting_of x.0, x.1.now)) result (items_at [] setting_at pieces.now) }
+pub fn assignments(alloc: Global, pieces: &[Piece]) -> Result<(Seq<SetClause>, &[Piece]), Halt>
+    ensures { Gives (λ x. (map set_clause_of x.0, x.1.now)) result (items_at [] set_clause_at pieces.now) }
 {
     let (first, mut rest) = assignment(alloc, pieces)?;
     let mut sets = Seq::new(alloc);
     sets.push(first)?;
     for _ in 0..rest.len() {
-        let Some((_, behind)) = next_place(rest, Token::Sign(Sign::Comma)) else {
+        let Some((_, behind)) = next_span(rest, Token::Sign(Sign::Comma)) else {
             return Ok((sets, rest));
         };
         let (set, behind) = assignment(alloc, behind)?;

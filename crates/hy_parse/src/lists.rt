@@ -6,7 +6,7 @@ ghost use Rattle.hy_parse.specs.declared.Piece.{Piece};
 ghost use Rattle.hy_parse.specs.Reading.{Read, Gives, items_at};
 
 use crate::Piece;
-use crate::cursor::{Halt, next_place};
+use crate::cursor::{Halt, next_span};
 use hy_token::{Sign, Token};
 use hy_value::Seq;
 use std::alloc::Global;
@@ -31,7 +31,7 @@ pub fn items<'a, T: Item>(
     let (first, mut rest) = T::read(pieces)?;
     items.push(first)?;
     for _ in 0..rest.len() {
-        let Some((_, behind)) = next_place(rest, Token::Sign(Sign::Comma)) else {
+        let Some((_, behind)) = next_span(rest, Token::Sign(Sign::Comma)) else {
             return Ok((items, rest));
         };
         let (item, behind) = T::read(behind)?;

@@ -4,7 +4,7 @@ ghost use Rattle.std.specs.Prelude.{◌≡◌};
 ghost use Rattle.hy_parse.specs.Reading.{Gives, column_at, literal_at, negative_at, literal_of, operand_at};
 
 use crate::Piece;
-use crate::cursor::{Halt, begins, expect, name, place};
+use crate::cursor::{Halt, begins, expect, name, spanned};
 use crate::lists::Item;
 use hy_ast::{ColumnRef, Literal, Operand};
 use hy_token::{Keyword, Sign, Token};
@@ -36,8 +36,8 @@ pub fn column(pieces: &[Piece]) -> Result<(ColumnRef, &[Piece]), Halt>
 fn negative(pieces: &[Piece]) -> Result<(Literal, &[Piece]), Halt>
     ensures { Gives (λ x. (x.0, x.1.now)) result (negative_at pieces.now) }
 {
-    let (minus, rest) = place(pieces, Token::Sign(Sign::Minus))?;
-    let (digits, rest) = place(rest, Token::Integer)?;
+    let (minus, rest) = spanned(pieces, Token::Sign(Sign::Minus))?;
+    let (digits, rest) = spanned(rest, Token::Integer)?;
     let literal = Literal::Integer {
         minus: Some(minus),
         digits,

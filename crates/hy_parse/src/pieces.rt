@@ -6,11 +6,9 @@ ghost use Rattle.hy_parse.specs.Pieces.{most_pieces, ended, pieces_of};
 
 use crate::cursor::is_same;
 use crate::{Ending, Piece};
+use hy_limits::MOST_TOKENS;
 use hy_token::{Keyword, Sign, Token, next};
 use std::alloc::{AllocError, Global};
-
-/// A statement other than SCHEDULE has at most this many tokens.
-const MOST_TOKENS: usize = 4096;
 
 /// The most pieces that the statement may have that begins at the first token from `at` on. No script
 /// has more tokens than bytes.

@@ -6,10 +6,10 @@ ghost use Rattle.hy_parse.specs.Reading.{Gives, sum_at, from_at, joined_at, join
 
 use crate::Piece;
 use crate::conditions::where_clause;
-use crate::cursor::{Halt, begins, expect, name, next_place};
+use crate::cursor::{Halt, begins, expect, name, next_span};
 use crate::lists::items;
 use crate::operands::column;
-use hy_ast::{ColumnRef, Join, Listed, Query, Total};
+use hy_ast::{ColumnRef, Join, Listed, Selection, Total};
 use hy_token::{Keyword, Sign, Span, Token};
 use hy_value::Seq;
 use std::alloc::Global;
@@ -67,7 +67,7 @@ fn joins(alloc: Global, pieces: &[Piece]) -> Result<(Seq<Join>, &[Piece]), Halt>
     let mut rest = pieces;
     // Each turn takes a piece.
     for _ in 0..pieces.len() {
-        let Some((_, behind)) = next_place(rest, Token::Reserved(Keyword::Join)) else {
+        let Some((_, behind)) = next_span(rest, Token::Reserved(Keyword::Join)) else {
             return Ok((joins, rest));
         };
         let (join, behind) = joined(behind)?;
@@ -79,13 +79,13 @@ fn joins(alloc: Global, pieces: &[Piece]) -> Result<(Seq<Join>, &[Piece]), Halt>
 
 /// What follows the items of a SELECT of rows.
 #[tactic(auto, unfolding(crate::specs::Reading::rows_at))]
-fn rows(alloc: Global, listed: Listed, pieces: &[Piece]) -> Result<(Query, &[Piece]), Halt>
+fn rows(alloc: Global, listed: Listed, pieces: &[Piece]) -> Result<(Selection, &[Piece]), Halt>
     ensures { Gives (λ x. (selection_of x.0, x.1.now)) result (rows_at listed pieces.now) }
 {
     let (table, rest) = from_table(pieces)?;
     let (joins, rest) = joins(alloc, rest)?;
     let (condition, rest) = where_clause(alloc, rest)?;
-    let query = Query::Rows {
+    let query = Selection::Rows {
         listed,
         table,
         joins,
@@ -96,13 +96,13 @@ fn rows(alloc: Global, listed: Listed, pieces: &[Piece]) -> Result<(Query, &[Pie
 
 /// A count of the rows of a table.
 #[tactic(auto, unfolding(crate::specs::Reading::count_at))]
-fn count(alloc: Global, pieces: &[Piece]) -> Result<(Query, &[Piece]), Halt>
+fn count(alloc: Global, pieces: &[Piece]) -> Result<(Selection, &[Piece]), Halt>
     ensures { Gives (λ x. (selection_of x.0, x.1.now)) result (count_at pieces.now) }
 {
     let rest = expect(pieces, &COUNT_OF_ALL)?;
     let (table, rest) = from_table(rest)?;
     let (condition, rest) = where_clause(alloc, rest)?;
-    Ok((Query::Count { table, condition }, rest))
+    Ok((Selection::Count { table, condition }, rest))
 }
 
 /// What follows the items of a SELECT of groups.
@@ -112,7 +112,7 @@ fn groups(
     listed: ColumnRef,
     total: Total,
     pieces: &[Piece],
-) -> Result<(Query, &[Piece]), Halt>
+) -> Result<(Selection, &[Piece]), Halt>
     ensures { Gives (λ x. (selection_of x.0, x.1.now)) result (groups_at listed total pieces.now) }
 {
     let (table, rest) = from_table(pieces)?;
@@ -125,7 +125,7 @@ fn groups(
         ],
     )?;
     let (key, rest) = column(rest)?;
-    let query = Query::Groups {
+    let query = Selection::Groups {
         column: listed,
         total,
         table,
@@ -137,7 +137,7 @@ fn groups(
 
 /// What follows a first column and a comma.
 #[tactic(auto, unfolding(crate::specs::Reading::second_at))]
-fn second(alloc: Global, column: ColumnRef, pieces: &[Piece]) -> Result<(Query, &[Piece]), Halt>
+fn second(alloc: Global, column: ColumnRef, pieces: &[Piece]) -> Result<(Selection, &[Piece]), Halt>
     ensures { Gives (λ x. (selection_of x.0, x.1.now)) result (second_at column pieces.now) }
 {
     if begins(pieces, COUNT) {
@@ -155,7 +155,7 @@ fn second(alloc: Global, column: ColumnRef, pieces: &[Piece]) -> Result<(Query, 
 
 /// A SELECT that lists a column first.
 #[tactic(auto, unfolding(crate::specs::Reading::columns_at))]
-fn columns(alloc: Global, pieces: &[Piece]) -> Result<(Query, &[Piece]), Halt>
+fn columns(alloc: Global, pieces: &[Piece]) -> Result<(Selection, &[Piece]), Halt>
     ensures { Gives (λ x. (selection_of x.0, x.1.now)) result (columns_at pieces.now) }
 {
     let (column, rest) = column(pieces)?;
@@ -169,7 +169,7 @@ fn columns(alloc: Global, pieces: &[Piece]) -> Result<(Query, &[Piece]), Halt>
 
 /// What follows SELECT.
 #[tactic(auto, unfolding(crate::specs::Reading::selection_at))]
-pub fn query(alloc: Global, pieces: &[Piece]) -> Result<(Query, &[Piece]), Halt>
+pub fn query(alloc: Global, pieces: &[Piece]) -> Result<(Selection, &[Piece]), Halt>
     ensures { Gives (λ x. (selection_of x.0, x.1.now)) result (selection_at pieces.now) }
 {
     if begins(pieces, Token::Sign(Sign::Star)) {

@@ -2,15 +2,16 @@
 
 ghost use Rattle.std.specs.Prelude.{◌≡◌, [], ◌∷◌};
 ghost use Rattle.hy_ast.specs.Trees.{statement_of};
-ghost use Rattle.hy_parse.specs.Reading.{Gives, piece_at, kind_of, column_def_at, create_at, insert_at, session_at, begin_at, alone_at, select_at, update_at, delete_at, turns_at, schedule_at, body_at, read_statement};
+ghost use Rattle.hy_parse.specs.Reading.{Gives, piece_at, kind_of, column_def_at, create_at, insert_at, session_at, begin_at, alone_at, select_at};
+ghost use Rattle.hy_parse.specs.Reading.{update_at, delete_at, turns_at, schedule_at, body_at, read_statement};
 
 use crate::Piece;
 use crate::conditions::where_clause;
-use crate::cursor::{Halt, begins, expect, flag, name, next_place};
+use crate::cursor::{Halt, begins, expect, flag, name, next_span};
 use crate::expressions::assignments;
 use crate::lists::{Item, items};
 use crate::queries::{from_table, query};
-use hy_ast::{Ast, ColumnDef, Turn};
+use hy_ast::{ColumnDef, Statement, Turn};
 use hy_token::{Keyword, Sign, Token};
 use hy_value::{Kind, Seq};
 use std::alloc::Global;
@@ -85,7 +86,7 @@ impl Item for ColumnDef {
 
 /// CREATE TABLE.
 #[tactic(auto, unfolding(crate::specs::Reading::create_at))]
-fn create(alloc: Global, pieces: &[Piece]) -> Result<(Ast, &[Piece]), Halt>
+fn create(alloc: Global, pieces: &[Piece]) -> Result<(Statement, &[Piece]), Halt>
     ensures { Gives (λ x. (statement_of x.0, x.1.now)) result (create_at pieces.now) }
 {
     let rest = expect(pieces, &[CREATE, Token::Reserved(Keyword::Table)])?;
@@ -93,12 +94,12 @@ fn create(alloc: Global, pieces: &[Piece]) -> Result<(Ast, &[Piece]), Halt>
     let rest = expect(rest, &[LEFT_PAREN])?;
     let (columns, rest) = items(Seq::new(alloc), rest)?;
     let rest = expect(rest, &[RIGHT_PAREN])?;
-    Ok((Ast::Create { table, columns }, rest))
+    Ok((Statement::Create { table, columns }, rest))
 }
 
 /// INSERT INTO.
 #[tactic(auto, unfolding(crate::specs::Reading::insert_at))]
-fn insert(alloc: Global, pieces: &[Piece]) -> Result<(Ast, &[Piece]), Halt>
+fn insert(alloc: Global, pieces: &[Piece]) -> Result<(Statement, &[Piece]), Halt>
     ensures { Gives (λ x. (statement_of x.0, x.1.now)) result (insert_at pieces.now) }
 {
     let rest = expect(pieces, &[INSERT, Token::Reserved(Keyword::Into)])?;
@@ -106,22 +107,22 @@ fn insert(alloc: Global, pieces: &[Piece]) -> Result<(Ast, &[Piece]), Halt>
     let rest = expect(rest, &[Token::Reserved(Keyword::Values), LEFT_PAREN])?;
     let (values, rest) = items(Seq::new(alloc), rest)?;
     let rest = expect(rest, &[RIGHT_PAREN])?;
-    Ok((Ast::Insert { table, values }, rest))
+    Ok((Statement::Insert { table, values }, rest))
 }
 
 /// SESSION.
 #[tactic(auto, unfolding(crate::specs::Reading::session_at))]
-fn session(pieces: &[Piece]) -> Result<(Ast, &[Piece]), Halt>
+fn session(pieces: &[Piece]) -> Result<(Statement, &[Piece]), Halt>
     ensures { Gives (λ x. (statement_of x.0, x.1.now)) result (session_at pieces.now) }
 {
     let rest = expect(pieces, &[SESSION])?;
     let (name, rest) = name(rest)?;
-    Ok((Ast::Session { name }, rest))
+    Ok((Statement::Session { name }, rest))
 }
 
 /// BEGIN.
 #[tactic(auto, unfolding(crate::specs::Reading::begin_at))]
-fn begin(pieces: &[Piece]) -> Result<(Ast, &[Piece]), Halt>
+fn begin(pieces: &[Piece]) -> Result<(Statement, &[Piece]), Halt>
     ensures { Gives (λ x. (statement_of x.0, x.1.now)) result (begin_at pieces.now) }
 {
     let rest = expect(pieces, &[BEGIN])?;
@@ -130,16 +131,16 @@ fn begin(pieces: &[Piece]) -> Result<(Ast, &[Piece]), Halt>
         Token::Reserved(Keyword::Read),
         &[Token::Reserved(Keyword::Only)],
     )?;
-    Ok((Ast::Begin { read_only }, rest))
+    Ok((Statement::Begin { read_only }, rest))
 }
 
 /// A statement of one word.
 #[tactic(auto, unfolding(crate::specs::Reading::alone_at))]
 fn alone<'a>(
     word: Keyword,
-    statement: Ast,
+    statement: Statement,
     pieces: &'a [Piece],
-) -> Result<(Ast, &'a [Piece]), Halt<'a>>
+) -> Result<(Statement, &'a [Piece]), Halt<'a>>
     ensures { Gives (λ x. (statement_of x.0, x.1.now)) result (alone_at word (statement_of statement) pieces.now) }
 {
     let rest = expect(pieces, &[Token::Reserved(word)])?;
@@ -148,17 +149,17 @@ fn alone<'a>(
 
 /// SELECT.
 #[tactic(auto, unfolding(crate::specs::Reading::select_at))]
-fn select(alloc: Global, pieces: &[Piece]) -> Result<(Ast, &[Piece]), Halt>
+fn select(alloc: Global, pieces: &[Piece]) -> Result<(Statement, &[Piece]), Halt>
     ensures { Gives (λ x. (statement_of x.0, x.1.now)) result (select_at pieces.now) }
 {
     let rest = expect(pieces, &[SELECT])?;
     let (query, rest) = query(alloc, rest)?;
-    Ok((Ast::Select(query), rest))
+    Ok((Statement::Select(query), rest))
 }
 
 /// UPDATE.
 #[tactic(auto, unfolding(crate::specs::Reading::update_at))]
-fn update(alloc: Global, pieces: &[Piece]) -> Result<(Ast, &[Piece]), Halt>
+fn update(alloc: Global, pieces: &[Piece]) -> Result<(Statement, &[Piece]), Halt>
     ensures { Gives (λ x. (statement_of x.0, x.1.now)) result (update_at pieces.now) }
 {
     let rest = expect(pieces, &[UPDATE])?;
@@ -166,7 +167,7 @@ fn update(alloc: Global, pieces: &[Piece]) -> Result<(Ast, &[Piece]), Halt>
     let rest = expect(rest, &[Token::Reserved(Keyword::Set)])?;
     let (sets, rest) = assignments(alloc, rest)?;
     let (condition, rest) = where_clause(alloc, rest)?;
-    let statement = Ast::Update {
+    let statement = Statement::Update {
         table,
         sets,
         condition,
@@ -176,13 +177,13 @@ fn update(alloc: Global, pieces: &[Piece]) -> Result<(Ast, &[Piece]), Halt>
 
 /// DELETE FROM.
 #[tactic(auto, unfolding(crate::specs::Reading::delete_at))]
-fn delete(alloc: Global, pieces: &[Piece]) -> Result<(Ast, &[Piece]), Halt>
+fn delete(alloc: Global, pieces: &[Piece]) -> Result<(Statement, &[Piece]), Halt>
     ensures { Gives (λ x. (statement_of x.0, x.1.now)) result (delete_at pieces.now) }
 {
     let rest = expect(pieces, &[DELETE])?;
     let (table, rest) = from_table(rest)?;
     let (condition, rest) = where_clause(alloc, rest)?;
-    Ok((Ast::Delete { table, condition }, rest))
+    Ok((Statement::Delete { table, condition }, rest))
 }
 
 /// The turns of a schedule.
@@ -193,7 +194,7 @@ fn turns(alloc: Global, pieces: &[Piece]) -> Result<(Seq<Turn>, &[Piece]), Halt>
     let mut rest = pieces;
     // Each turn takes a piece.
     for _ in 0..pieces.len() {
-        let Some((session, behind)) = next_place(rest, Token::Name) else {
+        let Some((session, behind)) = next_span(rest, Token::Name) else {
             return Ok((turns, rest));
         };
         let (whole, behind) = flag(behind, Token::Sign(Sign::Bang), &[])?;
@@ -205,17 +206,17 @@ fn turns(alloc: Global, pieces: &[Piece]) -> Result<(Seq<Turn>, &[Piece]), Halt>
 
 /// SCHEDULE.
 #[tactic(auto, unfolding(crate::specs::Reading::schedule_at))]
-fn schedule(alloc: Global, pieces: &[Piece]) -> Result<(Ast, &[Piece]), Halt>
+fn schedule(alloc: Global, pieces: &[Piece]) -> Result<(Statement, &[Piece]), Halt>
     ensures { Gives (λ x. (statement_of x.0, x.1.now)) result (schedule_at pieces.now) }
 {
     let rest = expect(pieces, &[SCHEDULE])?;
     let (turns, rest) = turns(alloc, rest)?;
-    Ok((Ast::Schedule { turns }, rest))
+    Ok((Statement::Schedule { turns }, rest))
 }
 
 /// A statement up to its `;`.
 #[tactic(auto, unfolding(crate::specs::Reading::body_at))]
-fn body(alloc: Global, pieces: &[Piece]) -> Result<(Ast, &[Piece]), Halt>
+fn body(alloc: Global, pieces: &[Piece]) -> Result<(Statement, &[Piece]), Halt>
     ensures { Gives (λ x. (statement_of x.0, x.1.now)) result (body_at pieces.now) }
 {
     if begins(pieces, CREATE) {
@@ -227,9 +228,9 @@ fn body(alloc: Global, pieces: &[Piece]) -> Result<(Ast, &[Piece]), Halt>
     } else if begins(pieces, BEGIN) {
         begin(pieces)
     } else if begins(pieces, Token::Reserved(Keyword::Commit)) {
-        alone(Keyword::Commit, Ast::Commit, pieces)
+        alone(Keyword::Commit, Statement::Commit, pieces)
     } else if begins(pieces, Token::Reserved(Keyword::Rollback)) {
-        alone(Keyword::Rollback, Ast::Rollback, pieces)
+        alone(Keyword::Rollback, Statement::Rollback, pieces)
     } else if begins(pieces, SELECT) {
         select(alloc, pieces)
     } else if begins(pieces, UPDATE) {
@@ -239,13 +240,13 @@ fn body(alloc: Global, pieces: &[Piece]) -> Result<(Ast, &[Piece]), Halt>
     } else if begins(pieces, SCHEDULE) {
         schedule(alloc, pieces)
     } else {
-        alone(Keyword::End, Ast::End, pieces)
+        alone(Keyword::End, Statement::End, pieces)
     }
 }
 
 /// A statement with its `;`.
 #[tactic(auto, unfolding(crate::specs::Reading::read_statement))]
-pub fn statement(alloc: Global, pieces: &[Piece]) -> Result<(Ast, &[Piece]), Halt>
+pub fn statement(alloc: Global, pieces: &[Piece]) -> Result<(Statement, &[Piece]), Halt>
     ensures { Gives (λ x. (statement_of x.0, x.1.now)) result (read_statement pieces.now) }
 {
     let (statement, rest) = body(alloc, pieces)?;

@@ -5,16 +5,16 @@ use Rattle.std.specs.Prelude.{true, false, cond}
 use Rattle.hy_value.specs.declared.Value.{Value}
 use Rattle.hy_value.specs.declared.Value.TheVariants.{Null}
 use Rattle.hy_value.specs.declared.ColMask.{ColMask}
-use Rattle.hy_value.specs.Columns.{has}
+use Rattle.hy_value.specs.Columns.{has_column}
 use Rattle.hy_bound.specs.Projection.{spread_from}
 
 -- a column of the set has the next value
-has_next : (mask : ColMask) (column n : ℕ) (value : Value) (values : List Value) → has mask column ≡ true
+has_next : (mask : ColMask) (column n : ℕ) (value : Value) (values : List Value) → has_column mask column ≡ true
     → spread_from mask column (suc n) (value ∷ values) ≡ value ∷ spread_from mask (suc column) n values
 has_next mask column n value values is = ap (λ b. cond b (value ∷ spread_from mask (suc column) n values) (Null ∷ spread_from mask (suc column) n (value ∷ values))) is
 
 -- a column outside the set is NULL
-outside : (mask : ColMask) (column n : ℕ) (values : List Value) → has mask column ≡ false
+outside : (mask : ColMask) (column n : ℕ) (values : List Value) → has_column mask column ≡ false
     → spread_from mask column (suc n) values ≡ Null ∷ spread_from mask (suc column) n values
 outside mask column n [] is = refl
 outside mask column n (value ∷ values) is = ap (λ b. cond b (value ∷ spread_from mask (suc column) n values) (Null ∷ spread_from mask (suc column) n (value ∷ values))) is
@@ -39,7 +39,7 @@ after_one mask column width value values rest before after whole within step put
 
 -- a loop's step where the set has the column
 pub spread_value : (mask : ColMask) (column width used : ℕ) (value : Value) (values before after whole : List Value) → column < width → used < length values
-    → has mask column ≡ true → value ≡ get_or values used value → after ≡ before ++ value ∷ []
+    → has_column mask column ≡ true → value ≡ get_or values used value → after ≡ before ++ value ∷ []
     → before ++ spread_from mask column (width - column) (drop used values) ≡ whole
     → after ++ spread_from mask (column + 1) (width - (column + 1)) (drop (used + 1) values) ≡ whole
 spread_value mask column width used value values before after whole within in_values is at put so =
@@ -50,7 +50,7 @@ spread_value mask column width used value values before after whole within in_va
 
 -- a loop's step where the set doesn't have the column
 pub spread_outside : (mask : ColMask) (column width : ℕ) (values before after whole : List Value) → column < width
-    → has mask column ≡ false → after ≡ before ++ Null ∷ [] → before ++ spread_from mask column (width - column) values ≡ whole
+    → has_column mask column ≡ false → after ≡ before ++ Null ∷ [] → before ++ spread_from mask column (width - column) values ≡ whole
     → after ++ spread_from mask (column + 1) (width - (column + 1)) values ≡ whole
 spread_outside mask column width values before after whole within is put so =
     after_one mask column width Null values values before after whole within (λ n. outside mask column n values is) put so

@@ -79,7 +79,7 @@ pub record IsNamedPlace (names : Names) (table pos : ℕ) : Type 0 where
 
 -- the tables and sessions of an ending have names
 abbrev pub IsNamedEnding : Names → Ending → Type 0
-IsNamedEnding names (Committed place) = IsPrinted place
+IsNamedEnding names (Committed rank) = IsPrinted rank
 IsNamedEnding names Read = Unit {0}
 IsNamedEnding names RolledBack = Unit {0}
 IsNamedEnding names (Conflict table pos other) = IsNamedPlace names table pos × IsNamedLabel names other

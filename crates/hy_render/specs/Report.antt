@@ -54,7 +54,7 @@ reply_text (Updated count) = line (codes "updated " ++ decimal count)
 reply_text (Deleted count) = line (codes "deleted " ++ decimal count)
 
 abbrev pub ending_text : Names → Ending → List ℕ
-ending_text names (Committed place) = codes "committed " ++ decimal place
+ending_text names (Committed rank) = codes "committed " ++ decimal rank
 ending_text names Read = codes "read"
 ending_text names RolledBack = codes "rolledback"
 ending_text names (Conflict table pos other) = codes "conflict " ++ word (place_name names table pos) ++ label_name names other

@@ -6,7 +6,9 @@ ghost use Rattle.std.specs.List.{flat_map};
 ghost use Rattle.std.specs.Option.{option_copied};
 ghost use Rattle.std.specs.Fmt.{decimal, signed_decimal};
 ghost use Rattle.hy_value.specs.Print.{BeginsWith};
-ghost use Rattle.hy_render.specs.Report.{line, word, table_name, label_name, place_name, row_line, group_line, reply_text, ending_text, wrote_line, placed_line, placed_lines, start_line, txn_text, row_or_none, versions, change_line, entry_line, order_lines, table_line, table_lines, text};
+ghost use Rattle.hy_render.specs.Report.{line, word, table_name, label_name, place_name, row_line, group_line, reply_text, ending_text, wrote_line};
+ghost use Rattle.hy_render.specs.Report.{placed_line, placed_lines, start_line, txn_text, row_or_none, versions, change_line, entry_line};
+ghost use Rattle.hy_render.specs.Report.{order_lines, table_line, table_lines, text};
 
 mod laws;
 
@@ -32,10 +34,10 @@ pub struct Names {
 /// How a transaction ended.
 #[derive(Clone, Copy, Debug, PartialEq, Eq)]
 pub enum Ending {
-    /// Committed, at this place of the commit order.
+    /// Committed, at this rank of the commit order.
     Committed {
-        /// The place, from 0.
-        place: u32,
+        /// The rank, from 0.
+        rank: u32,
     },
     /// Committed, having written no position.
     Read,
@@ -362,9 +364,9 @@ fn print_ending(names: &Names, ending: &Ending, out: &mut Vec<u8>) -> Result<(),
     ensures begun { BeginsWith out.old.items out.new.items }
 {
     match ending {
-        Ending::Committed { place } => {
+        Ending::Committed { rank } => {
             put(b"committed ", out)?;
-            print_number(u64::from(*place), out)
+            print_number(u64::from(*rank), out)
         }
         Ending::Read => put(b"read", out),
         Ending::RolledBack => put(b"rolledback", out),

@@ -8,7 +8,7 @@ use Rattle.indexmap.specs.IndexMap.{insert_entry}
 use Rattle.indexmap.proofs.MapLemmas.{insert_entry-absent, Missing-position}
 use Rattle.hy_schema.specs.declared.TableDef.{TableDef}
 use Rattle.hy_schema.specs.Names.{number_of, table_names, table_number}
-use Rattle.hy_schema.proofs.Places.{position_map}
+use Rattle.hy_schema.specs.Indexes.{position_map}
 
 abbrev Key : Type 0
 Key = Vec ℕ Global
@@ -19,10 +19,10 @@ names_of entries = map (λ (entry : Key × TableDef). entry.0.items) entries
 abbrev defs_of : List (Key × TableDef) → List TableDef
 defs_of entries = map (λ (entry : Key × TableDef). entry.1) entries
 
--- the place of the key of a name is the table's number
-pub place_is_number : (entries : List (Key × TableDef)) (name : List ℕ) → names_of entries ≡ table_names (defs_of entries)
+-- the index of the key of a name is the table's number
+pub index_is_number : (entries : List (Key × TableDef)) (name : List ℕ) → names_of entries ≡ table_names (defs_of entries)
     → position (λ (key : Key). bytes_eq name key.items) (keys_of entries) ≡ table_number (defs_of entries) name
-place_is_number entries name named =
+index_is_number entries name named =
     position_map (λ (key : Key). bytes_eq name key.items) (λ (entry : Key × TableDef). entry.0) entries
     ∙ sym (position_map (bytes_eq name) (λ (entry : Key × TableDef). entry.0.items) entries)
     ∙ ap (λ (names : List (List ℕ)). number_of names name) named
@@ -31,7 +31,7 @@ place_is_number entries name named =
 pub comes_last : (entries : List (Key × TableDef)) (key : Key) (def : TableDef) → names_of entries ≡ table_names (defs_of entries) → table_number (defs_of entries) key.items ≡ None
     → insert_entry (λ (a b : Key). bytes_eq a.items b.items) entries key def ≡ entries ++ (key, def) ∷ []
 comes_last entries key def named free =
-    insert_entry-absent (λ (a b : Key). bytes_eq a.items b.items) key def entries (Missing-position (λ (other : Key). bytes_eq key.items other.items) entries (place_is_number entries key.items named ∙ free)).absent
+    insert_entry-absent (λ (a b : Key). bytes_eq a.items b.items) key def entries (Missing-position (λ (other : Key). bytes_eq key.items other.items) entries (index_is_number entries key.items named ∙ free)).absent
 
 -- and the names stay those of the tables
 pub named_last : (entries : List (Key × TableDef)) (key : Key) (def : TableDef) → names_of entries ≡ table_names (defs_of entries) → key.items ≡ def.name

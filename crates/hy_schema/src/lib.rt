@@ -1,16 +1,18 @@
 //! The catalog of tables, and names with their numbers.
 #![tactic(auto)]
 
-ghost use Rattle.std.specs.Prelude.{◌≡◌, ◌<◌, ◌≤◌, List, [], ◌∷◌, ◌++◌, ◌⊎◌, length, IfOk, IfErr, OnOk, OnErr, IfSome, Some, None, slice_index_or, slice_get, Ok, Err};
+ghost use Rattle.std.specs.Prelude.{◌≡◌, ◌<◌, ◌≤◌, List, [], ◌∷◌, ◌++◌, ◌⊎◌, length, IfOk, IfErr, OnOk, OnErr, IfSome, Some, None, slice_index_or};
+ghost use Rattle.std.specs.Prelude.{slice_get, Ok, Err};
 ghost use Rattle.std.specs.Option.{option_copied};
 ghost use Rattle.hy_schema.specs.Names.{number_of, table_number, table_at, refusal_of};
 
+use hy_limits::{MOST_COLUMNS, MOST_TABLES};
 use hy_value::{Kind, Seq, Text};
 use indexmap::{IndexMap, IndexSet};
 use std::alloc::{AllocError, AllocFailed, Global};
 use std::marker::Model;
 
-/// Names that differ, in the order in which they came. A name's number is its place in that order.
+/// Names that differ, in the order in which they came. A name's number is its index in that order.
 #[derive(Drop)]
 pub struct Names {
     names: IndexSet<Vec<u8>>,
@@ -83,18 +85,12 @@ pub struct TableDef {
     pub key: Option<u32>,
 }
 
-/// How many tables a catalog may have.
-pub const MOST_TABLES: usize = 16;
-
-/// How many columns a table may have.
-pub const MOST_COLUMNS: usize = 32;
-
 /// Why a table is not added.
 #[derive(Clone, Copy, Debug, PartialEq, Eq)]
 pub enum AddError {
     /// A table of that name is there.
     Duplicate,
-    /// It would be the 17th table, or it has over 32 columns.
+    /// There are as many tables as may be, or it has too many columns.
     Limit,
     /// There is no memory.
     OutOfMemory,
@@ -115,7 +111,8 @@ impl Model for Catalog {
 
     ghost view = { λ a. map (λ entry. entry.1) a.tables.entries };
 
-    ghost invariant = { λ a. (map (λ entry. entry.0.items) a.tables.entries ≡ table_names (map (λ entry. entry.1) a.tables.entries)) × (length a.tables.entries ≤ 16) };
+    ghost invariant = { λ a. (map (λ entry. entry.0.items) a.tables.entries ≡ table_names (map (λ entry. entry.1) a.tables.entries))
+        × (length a.tables.entries ≤ 16) };
 }
 
 impl Catalog {

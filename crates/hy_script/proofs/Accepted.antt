@@ -14,17 +14,18 @@ use Rattle.hy_bind.specs.Statements.{bind_fault}
 use Rattle.hy_script.specs.declared.Options.{Options}
 use Rattle.hy_script.specs.declared.NamedTxns.{NamedTxns}
 use Rattle.hy_script.specs.declared.codes.Code.{Code}
-use Rattle.hy_script.specs.declared.growing.OpenTxn.{OpenTxn}
-use Rattle.hy_script.specs.declared.growing.SoFar.{SoFar}
-use Rattle.hy_script.specs.Codes.{rank, first_of, code_if, code_of}
-use Rattle.hy_script.specs.Refusals.{refusal_of, refusal_in, create_code, first_row_code, session_code, begin_code, statement_code, schedule_code, any_unknown, stock_of, writes, groups}
-use Rattle.hy_script.specs.Stocks.{has_key}
+use Rattle.hy_script.specs.declared.sofar.OpenTxn.{OpenTxn}
+use Rattle.hy_script.specs.declared.sofar.SoFar.{SoFar}
+use Rattle.hy_script.specs.Codes.{rank, first_of_two, code_if_so, code_of}
+use Rattle.hy_script.specs.Refusals.{refusal_of, refusal_in, create_code, first_row_code, session_code, begin_code, statement_code, schedule_code, any_unknown_in, stock_of, writes_in, groups_in}
+use Rattle.hy_script.specs.Stocks.{key_there}
+use Rattle.hy_limits.specs.declared.TheConstants.{MOST_ITEMS, MOST_SESSIONS, MOST_STATEMENTS, MOST_TXNS}
 
 never : (b : Bool) (x y : Code) → cond b (Some x) (Some y) ≡ None → ⊥
 never true x y h = absurd cc
 never false x y h = absurd cc
 
-neither : (one other : Option Code) → first_of one other ≡ None → (one ≡ None) × (other ≡ None)
+neither : (one other : Option Code) → first_of_two one other ≡ None → (one ≡ None) × (other ≡ None)
 neither None other h = (refl, h)
 neither (Some x) None h = absurd cc
 neither (Some x) (Some y) h = absurd (never (nat_le (rank x) (rank y)) x y h)
@@ -33,7 +34,7 @@ unless : (so : Bool) (x : Code) (other : Option Code) → cond so (Some x) other
 unless true x other h = absurd cc
 unless false x other h = (refl, h)
 
-not_so : (so : Bool) (x : Code) → code_if so x ≡ None → so ≡ false
+not_so : (so : Bool) (x : Code) → code_if_so so x ≡ None → so ≡ false
 not_so so x h = (unless so x None h).0
 
 without_fault : (fault : Option BindFault) → option_map code_of fault ≡ None → fault ≡ None
@@ -54,7 +55,7 @@ table_taken script sofar table columns h =
 pub record IsFirstRow (script : List ℕ) (options : Options) (sofar : SoFar) (s : Statement) (table : Span) (values : List Literal) : Type 0 where
   pub bound : bind_fault script sofar.catalog s ≡ None
   pub room : length (stock_of script sofar table).rows < options.chunks * options.rows
-  pub own_key : has_key (stock_of script sofar table) (map (literal_value script) values) ≡ false
+  pub own_key : key_there (stock_of script sofar table) (map (literal_value script) values) ≡ false
 
 pub row_taken : (script : List ℕ) (options : Options) (sofar : SoFar) (s : Statement) (table : Span) (values : List Literal) → first_row_code script options sofar s table values ≡ None
     → IsFirstRow script options sofar s table values
@@ -68,19 +69,19 @@ row_taken script options sofar s table values h =
     }
 
 -- a session more
-pub session_taken : (script : List ℕ) (sofar : SoFar) (name : Span) → session_code script sofar name ≡ None → length sofar.names < 64
-session_taken script sofar name h = leb-false 64 (length sofar.names) (not_so _ _ (neither _ _ h).1)
+pub session_taken : (script : List ℕ) (sofar : SoFar) (name : Span) → session_code script sofar name ≡ None → length sofar.names < MOST_SESSIONS
+session_taken script sofar name h = leb-false MOST_SESSIONS (length sofar.names) (not_so _ _ (neither _ _ h).1)
 
 -- a transaction more
-pub begin_taken : (session : NamedTxns) → begin_code session ≡ None → length session.txns < 65535
-begin_taken session h = leb-false 65535 (length session.txns) (not_so _ _ h)
+pub begin_taken : (session : NamedTxns) → begin_code session ≡ None → length session.txns < MOST_TXNS
+begin_taken session h = leb-false MOST_TXNS (length session.txns) (not_so _ _ h)
 
 -- a statement of a transaction more
 pub record IsTaken (script : List ℕ) (sofar : SoFar) (txn : OpenTxn) (s : Statement) : Type 0 where
   pub bound : bind_fault script sofar.catalog s ≡ None
-  pub writes_there : (txn.read_only && writes s) ≡ false
-  pub groups_there : (not txn.read_only && groups s) ≡ false
-  pub room : length txn.statements < 256
+  pub writes_there : (txn.read_only && writes_in s) ≡ false
+  pub groups_there : (not txn.read_only && groups_in s) ≡ false
+  pub room : length txn.statements < MOST_STATEMENTS
 
 pub statement_taken : (script : List ℕ) (sofar : SoFar) (txn : OpenTxn) (s : Statement) → statement_code script sofar txn s ≡ None → IsTaken script sofar txn s
 statement_taken script sofar txn s h =
@@ -91,12 +92,12 @@ statement_taken script sofar txn s h =
       bound = without_fault (bind_fault script sofar.catalog s) parts.0;
       writes_there = not_so _ _ others.0;
       groups_there = not_so _ _ last.0;
-      room = leb-false 256 (length txn.statements) (not_so _ _ last.1);
+      room = leb-false MOST_STATEMENTS (length txn.statements) (not_so _ _ last.1);
     }
 
 -- a schedule
 pub schedule_taken : (script : List ℕ) (sofar : SoFar) (turns : List Turn) → schedule_code script sofar turns ≡ None
-    → (any_unknown script sofar.names turns ≡ false) × (length turns ≤ 1000000)
+    → (any_unknown_in script sofar.names turns ≡ false) × (length turns ≤ MOST_ITEMS)
 schedule_taken script sofar turns h =
     let parts = neither _ _ h in
-    (not_so _ _ parts.0, ltb-false 1000000 (length turns) (not_so _ _ parts.1))
+    (not_so _ _ parts.0, ltb-false MOST_ITEMS (length turns) (not_so _ _ parts.1))

@@ -3,10 +3,10 @@ use Rattle.std.proofs.Common.{◌≡◌, Bool, true, false, Some, refl}
 use Rattle.hy_bind.specs.declared.refusals.BindFault.{BindFault}
 use Rattle.hy_bind.specs.declared.refusals.BindFault.TheVariants as fault
 use Rattle.hy_script.specs.declared.codes.Code.TheVariants.{KeyTwice, Limit}
-use Rattle.hy_script.specs.Codes.{first_of, code_if, code_of}
+use Rattle.hy_script.specs.Codes.{first_of_two, code_if_so, code_of}
 
 -- a key that comes twice is the last cause
-pub key_last : (f : BindFault) (full twice : Bool) → first_of (Some (code_of f)) (first_of (code_if full Limit) (code_if twice KeyTwice)) ≡ first_of (Some (code_of f)) (code_if full Limit)
+pub key_last : (f : BindFault) (full twice : Bool) → first_of_two (Some (code_of f)) (first_of_two (code_if_so full Limit) (code_if_so twice KeyTwice)) ≡ first_of_two (Some (code_of f)) (code_if_so full Limit)
 key_last fault.UnknownTable true true = refl
 key_last fault.UnknownTable true false = refl
 key_last fault.UnknownTable false true = refl

@@ -6,7 +6,7 @@ use Rattle.hy_ast.specs.declared.ColumnDef.{ColumnDef}
 use Rattle.hy_parse.specs.Grammar.{HasItem}
 use Rattle.hy_bound.specs.Fits.{FitsShape}
 use Rattle.hy_bind.specs.Shapes.{defined_shape}
-use Rattle.hy_script.specs.Growing.{column_of, key_from, table_of}
+use Rattle.hy_script.specs.Growing.{column_def, key_from, table_def}
 
 key_step : (is_key : Bool) (number key many : ℕ) (rest : Option ℕ) → cond is_key (Some number) rest ≡ Some key → (rest ≡ Some key → key < suc number + many) → key < number + suc many
 key_step true number key many rest h more = let same : number ≡ key = cc in omega (arith, same)
@@ -21,9 +21,9 @@ some : (columns : List ColumnDef) → HasItem columns → 1 ≤ length columns
 some [] h = absurd h
 some (column ∷ columns) h = omega arith
 
-pub table_fits : (script : List ℕ) (table : Span) (columns : List ColumnDef) → HasItem columns → length columns ≤ 32 → FitsShape (defined_shape (table_of script table columns))
+pub table_fits : (script : List ℕ) (table : Span) (columns : List ColumnDef) → HasItem columns → length columns ≤ 32 → FitsShape (defined_shape (table_def script table columns))
 table_fits script table columns item few =
-    let many = length-map columns (column_of script) in
+    let many = length-map columns (column_def script) in
     let one = some columns item in
     record {
       some = omega (arith, many, one);

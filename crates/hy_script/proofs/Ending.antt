@@ -1,4 +1,4 @@
--- Reading comes to an answer: each statement that is read ends behind its place, within the script.
+-- Reading comes to an answer: each statement that is read ends behind its offset, within the script.
 use Rattle.std.specs.Prelude.{MatchResult}
 use Rattle.std.specs.Str.{IsUtf8, is_utf8}
 use Rattle.std.proofs.Common.{◌≡◌, ℕ, zero, suc, ◌+◌, ◌<◌, ◌≤◌, ◌⊎◌, inl, inr, List, Some, Result, Ok, Err, length, refl, sym, subst, ◌∙◌, arith}
@@ -9,31 +9,31 @@ use Rattle.hy_parse.specs.Parsing.{parsed}
 use Rattle.hy_script.specs.declared.Options.{Options}
 use Rattle.hy_script.specs.declared.Refused.{Refused}
 use Rattle.hy_script.specs.declared.Script.{Script}
-use Rattle.hy_script.specs.declared.growing.SoFar.{SoFar}
+use Rattle.hy_script.specs.declared.sofar.SoFar.{SoFar}
 use Rattle.hy_script.specs.declared.codes.Code.TheVariants as code
 use Rattle.hy_script.specs.Growing.{nothing, after, script_of}
 use Rattle.hy_script.specs.Reading.{Stop, Next, GoOn, next_at, answer_within, answered, IsRead, Reads, too_long, not_utf8, statements, most_bytes}
 use Rattle.hy_script.proofs.Steps.{Stands, Step, refuses, goes_on, ends, stepped}
 use Rattle.hy_token.specs.Token.{token_at, MovesOn}
 
--- tokens stand behind the place where they are looked for
+-- tokens stand behind the offset where they are looked for
 abbrev pub TokensMoveOn : Type 0
 TokensMoveOn = (bytes : List ℕ) (at : ℕ) → at ≤ length bytes → MatchResult (token_at bytes at) (λ found. MovesOn (length bytes) at found.0 found.1) (λ bad. (at ≤ bad.at) × (bad.at < length bytes))
 
--- statements end behind the place where they are looked for
+-- statements end behind the offset where they are looked for
 abbrev pub StatementsMoveOn : Type 0
 StatementsMoveOn = (bytes : List ℕ) (at : ℕ) (s : Statement) (end : ℕ) → at ≤ length bytes → parsed bytes at ≡ Ok (s, end) → (at < end) × (end ≤ length bytes)
 
 module _ (tokens : TokensMoveOn) (parsing : StatementsMoveOn) (script : List ℕ) (options : Options) where
-  -- a statement that is read ends behind the place, within the script
+  -- a statement that is read ends behind the offset, within the script
   moves : (sofar : SoFar) (at : ℕ) (statement : Statement) (end : ℕ) → at ≤ length script → Stands script options sofar at statement end → (at < end) × (end ≤ length script)
   moves sofar at statement end within stands =
-      let place : (at ≤ stands.span.start) × (stands.span.start < stands.span.end) × (stands.span.end ≤ length script) =
+      let section : (at ≤ stands.span.start) × (stands.span.start < stands.span.end) × (stands.span.end ≤ length script) =
       subst (λ found. MatchResult found (λ found. MovesOn (length script) at found.0 found.1) (λ bad. (at ≤ bad.at) × (bad.at < length script))) stands.begun (tokens script at within) in
-      let ends = parsing script stands.span.start statement end (omega (arith, place.1, place.2)) stands.parses in
-      (omega (arith, place.0, ends.0), ends.1)
+      let ends = parsing script stands.span.start statement end (omega (arith, section.1, section.2)) stands.parses in
+      (omega (arith, section.0, ends.0), ends.1)
 
-  -- as many statements are enough as there are bytes from the place on, and one
+  -- as many statements are enough as there are bytes from the offset on, and one
   answer_from : (most : ℕ) (sofar : SoFar) (at : ℕ) → at ≤ length script → length script < most + at → (found : Result Script Stop) × (answer_within most script options (GoOn sofar at) ≡ Some found)
   unfolding answer_within
   answer_from zero sofar at within enough = absurd (omega (arith, within, enough))

@@ -18,7 +18,7 @@ use Rattle.hy_value.specs.Distinct.{one_of_more}
 use Rattle.hy_bound.specs.declared.Shape.{Shape}
 use Rattle.hy_bound.specs.Fits.{HaveOwnKeys, FitsRows, FitsInsert}
 use Rattle.hy_script.specs.declared.stocks.Stock.{Stock}
-use Rattle.hy_script.specs.Stocks.{value_in, key_among, has_key, with_key, no_rows, with_row}
+use Rattle.hy_script.specs.Stocks.{value_in, key_among, key_there, with_key, no_rows, with_row}
 
 -- ---- values that differ
 
@@ -83,7 +83,7 @@ one_of_pushed values last value =
     or_last (is_eq (value_cmp value last)) (is_one_of values value) ∙ sym (list_any-append (λ other. is_eq (value_cmp value other)) values (last ∷ []))
 
 -- a row more, for which there is room and whose key no other has
-pub row_stocked : IsTotalOrder value_cmp → (room : ℕ) (shape : Shape) (stock : Stock) (row : List Value) → length stock.rows < room → has_key stock row ≡ false → FitsInsert shape row → IsStock room shape stock
+pub row_stocked : IsTotalOrder value_cmp → (room : ℕ) (shape : Shape) (stock : Stock) (row : List Value) → length stock.rows < room → key_there stock row ≡ false → FitsInsert shape row → IsStock room shape stock
     → IsStock room shape (with_row stock row)
 row_stocked total room shape stock row free new fits is =
     let many = length_push stock.rows row in

@@ -19,30 +19,32 @@ use Rattle.hy_ast.specs.Trees as tree
 use Rattle.hy_parse.specs.Grammar.{IsGrouped, HasItem}
 use Rattle.hy_parse.specs.Parsing.{parsed, Parses}
 use Rattle.hy_bound.specs.declared.Shape.{Shape}
-use Rattle.hy_bound.specs.declared.Item.{Item}
+use Rattle.hy_schedule.specs.declared.Item.{Item}
 use Rattle.hy_bound.specs.Agreement.{HasItsKey}
 use Rattle.hy_bound.specs.Records.{no_shape, shape_of}
-use Rattle.hy_bound.specs.Fits.{FitsShape, FitsRows, FitsInsert, FitsStatement, FitsSession, FitsSchedule, Fits}
-use Rattle.hy_bind.specs.Literals.{text_in, literal_value}
+use Rattle.hy_bound.specs.Fits.{FitsShape, FitsRows, FitsInsert, FitsStatement, FitsSession, Fits}
+use Rattle.hy_schedule.specs.Fitting.{FitsSchedule}
+use Rattle.hy_bind.specs.Literals.{text_of_span, literal_value}
 use Rattle.hy_bind.specs.Shapes.{defined_shape, catalog_shapes}
 use Rattle.hy_bind.specs.Statements.{NamesTables, and_number, numbers_or_none, in_scope, fault_of_numbered, bound_in, bind_fault, bound_of}
 use Rattle.hy_script.specs.declared.Options.{Options}
 use Rattle.hy_script.specs.declared.NamedTxns.{NamedTxns}
 use Rattle.hy_script.specs.declared.Script.{Script}
-use Rattle.hy_script.specs.declared.growing.Place.{Place}
-use Rattle.hy_script.specs.declared.growing.Place.TheVariants.{Defining, Between, Within, Scheduled}
-use Rattle.hy_script.specs.declared.growing.SoFar.{SoFar}
+use Rattle.hy_script.specs.declared.sofar.Section.{Section}
+use Rattle.hy_script.specs.declared.sofar.Section.TheVariants.{Defining, Between, Within, Scheduled}
+use Rattle.hy_script.specs.declared.sofar.SoFar.{SoFar}
 use Rattle.hy_script.specs.declared.stocks.Stock.{Stock}
-use Rattle.hy_script.specs.Stocks.{has_key, no_rows, with_row}
-use Rattle.hy_script.specs.Growing.{nothing, table_of, with_table, with_first_row, with_statement, with_insert, with_session, with_schedule, begun, closed, and_bound, all_sessions, after, script_of}
+use Rattle.hy_script.specs.Stocks.{key_there, no_rows, with_row}
+use Rattle.hy_script.specs.Growing.{nothing, table_def, with_table, with_first_row, with_statement, with_insert, with_session, with_schedule, begun, closed, and_bound, all_sessions, after, script_of}
 use Rattle.hy_script.specs.Refusals.{refusal_of, name_in, insert_code_at, first_row_code, stock_at, statement_code_at, create_code, session_code, schedule_code}
 use Rattle.hy_script.proofs.Accepted.{table_taken, row_taken, session_taken, schedule_taken}
 use Rattle.hy_script.proofs.Defined.{table_fits}
 use Rattle.hy_script.proofs.FirstRows.{IsStock, none_stocked, row_stocked}
 use Rattle.hy_script.proofs.MoreTables.{session_kept}
-use Rattle.hy_script.proofs.Standing.{IsPlace, IsSession, no_txns, place_kept, begun_place, bound_place, closed_place, sessions_fit, begun_many, bound_many, closed_many}
+use Rattle.hy_script.proofs.Standing.{IsSection, IsSession, no_txns, section_kept, begun_section, bound_section, closed_section, sessions_fit, begun_many, bound_many, closed_many}
 use Rattle.hy_script.proofs.Turns.{schedule_fits, schedule_kept}
 use Rattle.hy_script.proofs.Zips.{zip_push, zip_at, zip_set, zip_map, zip_weaker}
+use Rattle.hy_limits.specs.declared.TheConstants.{MOST_SESSIONS}
 
 -- the laws of the crates below on which this rests
 pub record Laws : Type 0 where
@@ -60,9 +62,9 @@ pub record FitsSoFar (options : Options) (shapes : List Shape) (sofar : SoFar) :
   pub tables : All FitsShape shapes
   pub stocks : AllZip (IsStock (options.chunks * options.rows)) shapes sofar.stocks
   pub sessions : All (IsSession shapes) sofar.sessions
-  pub place : IsPlace shapes sofar.place
-  pub few_sessions : length sofar.names ≤ 64
-  pub as_many : length (all_sessions sofar.sessions sofar.place) ≡ length sofar.names
+  pub section : IsSection shapes sofar.section
+  pub few_sessions : length sofar.names ≤ MOST_SESSIONS
+  pub as_many : length (all_sessions sofar.sessions sofar.section) ≡ length sofar.names
   pub schedule : FitsSchedule (length sofar.names) sofar.schedule
 
 abbrev pub IsGood : Options → SoFar → Type 0
@@ -74,7 +76,7 @@ nothing_good options = record {
   tables = All-nil FitsShape;
   stocks = tt;
   sessions = All-nil (IsSession []);
-  place = tt;
+  section = tt;
   few_sessions = omega arith;
   as_many = refl;
   schedule = record { few = omega arith; known = All-nil (λ (item : Item). item.session < 0) };
@@ -92,17 +94,17 @@ one_table_more options shapes sofar def few fits good =
       tables = All-push FitsShape shapes shape good.tables fits;
       stocks = zip_push (IsStock (room options)) shapes sofar.stocks shape (no_rows def.key) good.stocks (none_stocked (room options) shape);
       sessions = All-weaker (IsSession shapes) (IsSession (shapes ++ shape ∷ [])) (λ session is. session_kept shapes (shape ∷ []) session.txns is) sofar.sessions good.sessions;
-      place = place_kept shapes (shape ∷ []) sofar.place good.place;
+      section = section_kept shapes (shape ∷ []) sofar.section good.section;
       few_sessions = good.few_sessions;
       as_many = good.as_many;
       schedule = good.schedule;
     }
 
 create_kept : (script : List ℕ) (options : Options) (sofar : SoFar) (table : Span) (columns : List ColumnDef) → HasItem columns → create_code script sofar table columns ≡ None → IsGood options sofar
-    → IsGood options (with_table sofar (table_of script table columns))
+    → IsGood options (with_table sofar (table_def script table columns))
 create_kept script options sofar table columns item h good =
     let taken = table_taken script sofar table columns h in
-    let def : TableDef = table_of script table columns in
+    let def : TableDef = table_def script table columns in
     let many = length-map sofar.catalog defined_shape in
     subst (λ (shapes : List Shape). FitsSoFar options shapes (with_table sofar def)) (sym (map_push defined_shape sofar.catalog def))
     (one_table_more options (catalog_shapes sofar.catalog) sofar def (omega (arith, taken.0, many)) (table_fits script table columns item taken.1) good)
@@ -113,7 +115,7 @@ abbrev InScope : List ℕ → List TableDef → Option ℕ → Statement → Typ
 InScope script catalog number s = FitsStatement (catalog_shapes catalog) (bound_in (in_scope script catalog (numbers_or_none (and_number number (Some [])))) s)
 
 stocks_kept : (options : Options) (shapes : List Shape) (stocks : List Stock) (n : ℕ) (row : List Value) → IsTotalOrder value_cmp → n < length shapes → FitsInsert (shape_of shapes n) row
-    → length (slice_index_or stocks n (no_rows None)).rows < room options → has_key (slice_index_or stocks n (no_rows None)) row ≡ false
+    → length (slice_index_or stocks n (no_rows None)).rows < room options → key_there (slice_index_or stocks n (no_rows None)) row ≡ false
     → AllZip (IsStock (room options)) shapes stocks → AllZip (IsStock (room options)) shapes (slice_set stocks n (with_row (slice_index_or stocks n (no_rows None)) row))
 stocks_kept options shapes stocks n row total there fits free own all =
     zip_set (IsStock (room options)) shapes stocks n no_shape _ all
@@ -121,7 +123,7 @@ stocks_kept options shapes stocks n row total there fits free own all =
 
 numbered_kept : (script : List ℕ) (options : Options) (sofar : SoFar) (table : Span) (values : List Literal) (number : Option ℕ) → IsTotalOrder value_cmp
     → fault_of_numbered script sofar.catalog (and_number number (Some [])) (tree.Insert table values) ≡ None → InScope script sofar.catalog number (tree.Insert table values)
-    → length (stock_at number sofar.stocks).rows < room options → has_key (stock_at number sofar.stocks) (map (literal_value script) values) ≡ false → IsGood options sofar
+    → length (stock_at number sofar.stocks).rows < room options → key_there (stock_at number sofar.stocks) (map (literal_value script) values) ≡ false → IsGood options sofar
     → AllZip (IsStock (room options)) (catalog_shapes sofar.catalog) (slice_set sofar.stocks (option_map_or (λ n. n) number 0) (with_row (stock_at number sofar.stocks) (map (literal_value script) values)))
 numbered_kept script options sofar table values None total h fits free own good = absurd cc
 numbered_kept script options sofar table values (Some n) total h fits free own good =
@@ -138,39 +140,39 @@ row_kept laws script options sofar table values h good =
     record {
       few_tables = good.few_tables;
       tables = good.tables;
-      stocks = numbered_kept script options sofar table values (table_number sofar.catalog (text_in script table)) laws.order taken.bound fits taken.room taken.own_key good;
+      stocks = numbered_kept script options sofar table values (table_number sofar.catalog (text_of_span script table)) laws.order taken.bound fits taken.room taken.own_key good;
       sessions = good.sessions;
-      place = good.place;
+      section = good.section;
       few_sessions = good.few_sessions;
       as_many = good.as_many;
       schedule = good.schedule;
     }
 
--- ---- another place in the same sessions
+-- ---- another section in the same sessions
 
-at_place : (options : Options) (sofar : SoFar) (place : Place) → IsPlace (catalog_shapes sofar.catalog) place → length (all_sessions sofar.sessions place) ≡ length (all_sessions sofar.sessions sofar.place)
-    → IsGood options sofar → IsGood options (record sofar { place = place })
-at_place options sofar place is many good = record {
+at_section : (options : Options) (sofar : SoFar) (section : Section) → IsSection (catalog_shapes sofar.catalog) section → length (all_sessions sofar.sessions section) ≡ length (all_sessions sofar.sessions sofar.section)
+    → IsGood options sofar → IsGood options (record sofar { section = section })
+at_section options sofar section is many good = record {
   few_tables = good.few_tables;
   tables = good.tables;
   stocks = good.stocks;
   sessions = good.sessions;
-  place = is;
+  section = is;
   few_sessions = good.few_sessions;
   as_many = many ∙ good.as_many;
   schedule = good.schedule;
 }
 
-statement_kept : Laws → (script : List ℕ) (options : Options) (sofar : SoFar) (s : Statement) (place : Place) → sofar.place ≡ place → NamesTables s → statement_code_at script sofar place s ≡ None → IsGood options sofar
+statement_kept : Laws → (script : List ℕ) (options : Options) (sofar : SoFar) (s : Statement) (section : Section) → sofar.section ≡ section → NamesTables s → statement_code_at script sofar section s ≡ None → IsGood options sofar
     → IsGood options (with_statement script sofar s)
-statement_kept laws script options sofar s place is names h good =
-    let code : statement_code_at script sofar sofar.place s ≡ None = subst (λ (p : Place). statement_code_at script sofar p s ≡ None) (sym is) h in
-    at_place options sofar (and_bound sofar.place script sofar.catalog s)
-    (bound_place (catalog_shapes sofar.catalog) script sofar s sofar.place names (laws.binding script sofar.catalog s names (keys_there options sofar good)) code good.place)
-    (bound_many sofar.sessions script sofar.catalog s sofar.place) good
+statement_kept laws script options sofar s section is names h good =
+    let code : statement_code_at script sofar sofar.section s ≡ None = subst (λ (p : Section). statement_code_at script sofar p s ≡ None) (sym is) h in
+    at_section options sofar (and_bound sofar.section script sofar.catalog s)
+    (bound_section (catalog_shapes sofar.catalog) script sofar s sofar.section names (laws.binding script sofar.catalog s names (keys_there options sofar good)) code good.section)
+    (bound_many sofar.sessions script sofar.catalog s sofar.section) good
 
-insert_kept : Laws → (script : List ℕ) (options : Options) (sofar : SoFar) (place : Place) (table : Span) (values : List Literal) → sofar.place ≡ place
-    → insert_code_at script options sofar place (tree.Insert table values) table values ≡ None → IsGood options sofar → IsGood options (with_insert script sofar place (tree.Insert table values) table values)
+insert_kept : Laws → (script : List ℕ) (options : Options) (sofar : SoFar) (section : Section) (table : Span) (values : List Literal) → sofar.section ≡ section
+    → insert_code_at script options sofar section (tree.Insert table values) table values ≡ None → IsGood options sofar → IsGood options (with_insert script sofar section (tree.Insert table values) table values)
 insert_kept laws script options sofar Defining table values is h good = row_kept laws script options sofar table values h good
 insert_kept laws script options sofar (Between session) table values is h good = row_kept laws script options sofar table values h good
 insert_kept laws script options sofar (Within session txn) table values is h good = statement_kept laws script options sofar (tree.Insert table values) (Within session txn) is tt h good
@@ -181,19 +183,19 @@ insert_kept laws script options sofar Scheduled table values is h good = row_kep
 session_more : (script : List ℕ) (options : Options) (sofar : SoFar) (name : Span) → session_code script sofar name ≡ None → IsGood options sofar → IsGood options (with_session script sofar name)
 session_more script options sofar name h good =
     let free = session_taken script sofar name h in
-    let names = length_push sofar.names (text_in script name) in
-    let before : List NamedTxns = all_sessions sofar.sessions sofar.place in
+    let names = length_push sofar.names (text_of_span script name) in
+    let before : List NamedTxns = all_sessions sofar.sessions sofar.section in
     let sessions = length_push before (record { name = name_in script name; txns = [] }) in
     let many = good.as_many in
     record {
       few_tables = good.few_tables;
       tables = good.tables;
       stocks = good.stocks;
-      sessions = sessions_fit (catalog_shapes sofar.catalog) sofar.sessions sofar.place good.sessions good.place;
-      place = no_txns (catalog_shapes sofar.catalog);
+      sessions = sessions_fit (catalog_shapes sofar.catalog) sofar.sessions sofar.section good.sessions good.section;
+      section = no_txns (catalog_shapes sofar.catalog);
       few_sessions = omega (arith, free, names);
       as_many = omega (arith, many, sessions, names);
-      schedule = schedule_kept (length sofar.names) (length (sofar.names ++ text_in script name ∷ [])) sofar.schedule (omega (arith, names)) good.schedule;
+      schedule = schedule_kept (length sofar.names) (length (sofar.names ++ text_of_span script name ∷ [])) sofar.schedule (omega (arith, names)) good.schedule;
     }
 
 schedule_more : (script : List ℕ) (options : Options) (sofar : SoFar) (turns : List Turn) → schedule_code script sofar turns ≡ None → IsGood options sofar → IsGood options (with_schedule script sofar turns)
@@ -203,8 +205,8 @@ schedule_more script options sofar turns h good =
       few_tables = good.few_tables;
       tables = good.tables;
       stocks = good.stocks;
-      sessions = sessions_fit (catalog_shapes sofar.catalog) sofar.sessions sofar.place good.sessions good.place;
-      place = tt;
+      sessions = sessions_fit (catalog_shapes sofar.catalog) sofar.sessions sofar.section good.sessions good.section;
+      section = tt;
       few_sessions = good.few_sessions;
       as_many = good.as_many;
       schedule = schedule_fits script sofar.names turns taken.0 taken.1;
@@ -213,17 +215,17 @@ schedule_more script options sofar turns h good =
 -- what is read stays good with a statement that is taken
 pub kept : Laws → (script : List ℕ) (options : Options) (sofar : SoFar) (s : Statement) → IsGrouped s → refusal_of script options sofar s ≡ None → IsGood options sofar → IsGood options (after script sofar s)
 kept laws script options sofar (tree.Create table columns) grouped h good = create_kept script options sofar table columns grouped h good
-kept laws script options sofar (tree.Insert table values) grouped h good = insert_kept laws script options sofar sofar.place table values refl h good
+kept laws script options sofar (tree.Insert table values) grouped h good = insert_kept laws script options sofar sofar.section table values refl h good
 kept laws script options sofar (tree.Session name) grouped h good = session_more script options sofar name h good
 kept laws script options sofar (tree.Begin only) grouped h good =
-    at_place options sofar (begun only sofar.place) (begun_place (catalog_shapes sofar.catalog) only sofar.place h good.place) (begun_many sofar.sessions only sofar.place) good
+    at_section options sofar (begun only sofar.section) (begun_section (catalog_shapes sofar.catalog) only sofar.section h good.section) (begun_many sofar.sessions only sofar.section) good
 kept laws script options sofar tree.Commit grouped h good =
-    at_place options sofar (closed true sofar.place) (closed_place (catalog_shapes sofar.catalog) true sofar.place good.place) (closed_many sofar.sessions true sofar.place) good
+    at_section options sofar (closed true sofar.section) (closed_section (catalog_shapes sofar.catalog) true sofar.section good.section) (closed_many sofar.sessions true sofar.section) good
 kept laws script options sofar tree.Rollback grouped h good =
-    at_place options sofar (closed false sofar.place) (closed_place (catalog_shapes sofar.catalog) false sofar.place good.place) (closed_many sofar.sessions false sofar.place) good
-kept laws script options sofar (tree.Select selection) grouped h good = statement_kept laws script options sofar (tree.Select selection) sofar.place refl tt h good
-kept laws script options sofar (tree.Update table sets test) grouped h good = statement_kept laws script options sofar (tree.Update table sets test) sofar.place refl tt h good
-kept laws script options sofar (tree.Delete table test) grouped h good = statement_kept laws script options sofar (tree.Delete table test) sofar.place refl tt h good
+    at_section options sofar (closed false sofar.section) (closed_section (catalog_shapes sofar.catalog) false sofar.section good.section) (closed_many sofar.sessions false sofar.section) good
+kept laws script options sofar (tree.Select selection) grouped h good = statement_kept laws script options sofar (tree.Select selection) sofar.section refl tt h good
+kept laws script options sofar (tree.Update table sets test) grouped h good = statement_kept laws script options sofar (tree.Update table sets test) sofar.section refl tt h good
+kept laws script options sofar (tree.Delete table test) grouped h good = statement_kept laws script options sofar (tree.Delete table test) sofar.section refl tt h good
 kept laws script options sofar (tree.Schedule turns) grouped h good = schedule_more script options sofar turns h good
 kept laws script options sofar tree.End grouped h good = good
 
@@ -237,7 +239,7 @@ pub record ScriptFits (options : Options) (script : Script) : Type 0 where
 
 pub script_fits : (options : Options) (sofar : SoFar) → IsGood options sofar → ScriptFits options (script_of options sofar)
 script_fits options sofar good =
-    let sessions : List NamedTxns = all_sessions sofar.sessions sofar.place in
+    let sessions : List NamedTxns = all_sessions sofar.sessions sofar.section in
     let shapes = catalog_shapes sofar.catalog in
     let programs = length-map sessions (λ (session : NamedTxns). session.txns) in
     let many = good.as_many in
@@ -250,7 +252,7 @@ script_fits options sofar good =
             zip_map (FitsRows (room options)) (λ (stock : Stock). stock.rows) shapes sofar.stocks
             (zip_weaker (IsStock (room options)) (λ shape (stock : Stock). FitsRows (room options) shape stock.rows) shapes sofar.stocks (λ shape stock is. is.rows) good.stocks);
         few_sessions = omega (arith, programs, many, few);
-        sessions = All-map (FitsSession shapes) (λ (session : NamedTxns). session.txns) sessions (sessions_fit shapes sofar.sessions sofar.place good.sessions good.place);
+        sessions = All-map (FitsSession shapes) (λ (session : NamedTxns). session.txns) sessions (sessions_fit shapes sofar.sessions sofar.section good.sessions good.section);
       };
       schedule = schedule_kept (length sofar.names) (length sessions) sofar.schedule (omega (arith, many)) good.schedule;
       same = refl;

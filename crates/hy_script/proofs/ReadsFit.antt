@@ -12,10 +12,10 @@ use Rattle.hy_script.specs.declared.Options.{Options}
 use Rattle.hy_script.specs.declared.Script.{Script}
 use Rattle.hy_script.specs.declared.Refused.{Refused}
 use Rattle.hy_script.specs.declared.codes.Code.{Code}
-use Rattle.hy_script.specs.declared.growing.SoFar.{SoFar}
+use Rattle.hy_script.specs.declared.sofar.SoFar.{SoFar}
 use Rattle.hy_script.specs.Refusals.{refusal_in}
 use Rattle.hy_script.specs.Growing.{nothing, after, script_of}
-use Rattle.hy_script.specs.Reading.{may_stand, Stop, Next, Read, Refuse, GoOn, at_end, is_last, taken, unless_refused, judged, next_from, next_at, answer_within, answered, Reads, too_long, not_utf8, statements}
+use Rattle.hy_script.specs.Reading.{may_stand_at, Stop, Next, Read, Refuse, GoOn, at_end_of, is_last_of, taken, unless_refused, judged, next_from, next_at, answer_within, answered, Reads, too_long, not_utf8, statements}
 use Rattle.hy_script.proofs.Accepted.{accepted}
 use Rattle.hy_script.proofs.Kept.{Laws, IsGood, nothing_good, kept, ScriptFits, script_fits}
 
@@ -25,25 +25,25 @@ IsFine options (Read script) = ScriptFits options script
 IsFine options (Refuse at) = Unit {0}
 IsFine options (GoOn sofar at) = IsGood options sofar
 
-end_fine : (options : Options) (found : Result (Token × Span) Bad) (read : Script) → ScriptFits options read → IsFine options (at_end found read)
+end_fine : (options : Options) (found : Result (Token × Span) Bad) (read : Script) → ScriptFits options read → IsFine options (at_end_of found read)
 end_fine options (Err bad) read fits = tt
 end_fine options (Ok (token.End, span)) read fits = fits
 end_fine options (Ok (_, span)) read fits = tt
 
 taken_fine : Laws → (script : List ℕ) (options : Options) (sofar : SoFar) (s : Statement) (end : ℕ) (last : Bool) → IsGrouped s → refusal_in script options sofar s ≡ None → IsGood options sofar
-    → IsFine options (cond last (at_end (token_at script end) (script_of options sofar)) (GoOn (after script sofar s) end))
+    → IsFine options (cond last (at_end_of (token_at script end) (script_of options sofar)) (GoOn (after script sofar s) end))
 taken_fine laws script options sofar s end true grouped h good = end_fine options (token_at script end) (script_of options sofar) (script_fits options sofar good)
 taken_fine laws script options sofar s end false grouped h good = kept laws script options sofar s grouped (accepted script options sofar s h) good
 
 unless_fine : Laws → (script : List ℕ) (options : Options) (sofar : SoFar) (s : Statement) (at end : ℕ) (refusal : Option Code) → refusal_in script options sofar s ≡ refusal → IsGrouped s → IsGood options sofar
     → IsFine options (unless_refused refusal at (taken script options sofar s end))
-unless_fine laws script options sofar s at end None h grouped good = taken_fine laws script options sofar s end (is_last s) grouped h good
+unless_fine laws script options sofar s at end None h grouped good = taken_fine laws script options sofar s end (is_last_of s) grouped h good
 unless_fine laws script options sofar s at end (Some code) h grouped good = tt
 
 judged_fine : Laws → (script : List ℕ) (options : Options) (sofar : SoFar) (at : ℕ) (parse : Result (Statement × ℕ) Fault) → ((s : Statement) (end : ℕ) → parse ≡ Ok (s, end) → IsGrouped s) → IsGood options sofar
     → IsFine options (judged script options sofar at parse)
-judged_fine laws script options sofar at (Err (Syntax place)) grouped good = tt
-judged_fine laws script options sofar at (Err (BadToken place)) grouped good = tt
+judged_fine laws script options sofar at (Err (Syntax offset)) grouped good = tt
+judged_fine laws script options sofar at (Err (BadToken offset)) grouped good = tt
 judged_fine laws script options sofar at (Ok (s, end)) grouped good = unless_fine laws script options sofar s at end (refusal_in script options sofar s) refl (grouped s end refl) good
 
 stands_fine : (options : Options) (stands : Bool) (next : Next) (why : Stop) → IsFine options next → IsFine options (cond stands next (Refuse why))
@@ -53,7 +53,7 @@ stands_fine options false next why fine = tt
 found_fine : Laws → (script : List ℕ) (options : Options) (sofar : SoFar) (found : Result (Token × Span) Bad) → IsGood options sofar → IsFine options (next_from script options sofar found)
 found_fine laws script options sofar (Err bad) good = tt
 found_fine laws script options sofar (Ok (token.Reserved k, span)) good =
-    stands_fine options (may_stand sofar.place k) (judged script options sofar span.start (parsed script span.start)) _
+    stands_fine options (may_stand_at sofar.section k) (judged script options sofar span.start (parsed script span.start)) _
     (judged_fine laws script options sofar span.start (parsed script span.start) (λ s end parses. ((laws.parsing script span.start s end).0 parses).written.grouped) good)
 found_fine laws script options sofar (Ok (_, span)) good = tt
 

@@ -8,13 +8,14 @@ use Rattle.std.specs.Str.{IsUtf8}
 use Rattle.hy_script.specs.declared.Refused.{Refused}
 use Rattle.hy_script.specs.declared.ReadError.{ReadError}
 use Rattle.hy_script.specs.declared.ReadError.TheVariants as errors
-use Rattle.hy_script.specs.declared.growing.SoFar.{SoFar}
-use Rattle.hy_script.specs.Reading.{Stop, Next, Read, Refuse, GoOn, next_at, answer_within, answered, IsRead, Reads, too_long, not_utf8, statements, stop, Comes, Goes, Says, Answers, most_bytes, error_of}
+use Rattle.hy_script.specs.declared.sofar.SoFar.{SoFar}
+use Rattle.hy_script.specs.Reading.{Stop, Next, Read, Refuse, GoOn, next_at, answer_within, answered, IsRead, Reads, too_long, not_utf8, statements, stop, Comes, Goes, Says, Answers, error_of_halt}
 use Rattle.hy_script.specs.declared.reading.Step.{Step}
 use Rattle.hy_script.specs.Growing.{nothing, script_of}
 use Rattle.hy_script.specs.declared.reading.Halt.{Halt}
 use Rattle.hy_script.specs.declared.reading.Halt.TheVariants as halts
 use Rattle.hy_script.specs.declared.reading.Step.TheVariants as steps
+use Rattle.hy_limits.specs.declared.TheConstants.{MOST_BYTES}
 
 -- reading on after a statement
 pub read_on : (most : ℕ) (script : List ℕ) (options : Options) (sofar : SoFar) (at : ℕ) (next : Next) (found : Result Script Stop)
@@ -56,7 +57,7 @@ once bytes options one _ (statements _ g good read) (too_long h) = absurd (omega
 once bytes options one _ (statements _ h good read) (not_utf8 g bad) = absurd (bad good)
 once bytes options one other (statements _ g good read) (statements _ h too again) = read_alike bytes options one other read again
 
--- what comes of reading on from a place is what comes of reading all
+-- what comes of reading on from an offset is what comes of reading all
 abbrev pub ReadsOn : List ℕ → Options → SoFar → ℕ → Type 0
 ReadsOn script options sofar at = (most : ℕ) (found : Result Script Stop) → answer_within most script options (GoOn sofar at) ≡ Some found → (all : ℕ) × (answer_within all script options (GoOn nothing 0) ≡ Some found)
 
@@ -80,14 +81,14 @@ ended script options sofar new at read step end on comes is =
 
 -- reading stopped
 pub halted : (script : List ℕ) (options : Options) (sofar new : SoFar) (at : ℕ) (halt : Halt) → ReadsOn script options sofar at → Comes (Err halt) (next_at script options sofar at) options new
-    → Says (Err (error_of script halt)) script options
-halted script options sofar new at (halts.Refused code place) on comes =
-    let found = on 1 (Err (stop code place)) (read_refused script options sofar at (stop code place) comes) in
-    record { statements = found.0; found = Err (stop code place); reads = found.1; is = refl }
+    → Says (Err (error_of_halt script halt)) script options
+halted script options sofar new at (halts.Refused code section) on comes =
+    let found = on 1 (Err (stop code offset)) (read_refused script options sofar at (stop code offset) comes) in
+    record { statements = found.0; found = Err (stop code offset); reads = found.1; is = refl }
 halted script options sofar new at halts.OutOfMemory on comes = tt
 
 -- what reading the statements comes to is what reading the bytes comes to
-pub as_bytes : (bytes : List ℕ) (options : Options) (result : Result Script ReadError) → length bytes ≤ most_bytes → IsUtf8 bytes → Says result bytes options → Answers result bytes options
+pub as_bytes : (bytes : List ℕ) (options : Options) (result : Result Script ReadError) → length bytes ≤ MOST_BYTES → IsUtf8 bytes → Says result bytes options → Answers result bytes options
 as_bytes bytes options (Ok script) short good said = statements (Ok script) short good said
 as_bytes bytes options (Err (errors.Refused refusal)) short good said = statements (Err refusal) short good said
 as_bytes bytes options (Err errors.OutOfMemory) short good said = tt

@@ -10,11 +10,11 @@ use Rattle.hy_script.specs.declared.Refused.{Refused}
 use Rattle.hy_script.specs.declared.Script.{Script}
 use Rattle.hy_script.specs.declared.codes.Code.{Code}
 use Rattle.hy_script.specs.declared.codes.Code.TheVariants as code
-use Rattle.hy_script.specs.declared.growing.Place.{Place}
-use Rattle.hy_script.specs.declared.growing.Place.TheVariants as place
-use Rattle.hy_script.specs.declared.growing.SoFar.{SoFar}
+use Rattle.hy_script.specs.declared.sofar.Section.{Section}
+use Rattle.hy_script.specs.declared.sofar.Section.TheVariants as section
+use Rattle.hy_script.specs.declared.sofar.SoFar.{SoFar}
 use Rattle.hy_script.specs.Growing.{nothing, after, script_of}
-use Rattle.hy_script.specs.Reading.{Stop, stop, Next, Read, Refuse, GoOn, may_stand, is_last, at_end, taken, unless_refused, judged, next_from, next_at, answer_within, answered, IsRead, Reads, too_long, not_utf8, statements, most_bytes}
+use Rattle.hy_script.specs.Reading.{Stop, stop, Next, Read, Refuse, GoOn, may_stand_at, is_last_of, at_end_of, taken, unless_refused, judged, next_from, next_at, answer_within, answered, IsRead, Reads, too_long, not_utf8, statements, most_bytes}
 use Rattle.hy_script.specs.Refusals.{refusal_in}
 use Rattle.hy_script.specs.Sentences.{SpellsFrom, SpellsScript, after_all, NoneIsRefused, IsAccepted}
 use Rattle.hy_script.proofs.Phases.{Phase, Defining, Between, Within, Scheduled, Follows, is_sentence, sentence_follows}
@@ -28,117 +28,117 @@ use Rattle.hy_token.specs.declared.Token.{Token}
 use Rattle.hy_token.specs.declared.Token.TheVariants as token
 use Rattle.hy_token.specs.Token.{token_at}
 
--- ---- what may stand at a place is what may follow there
+-- ---- what may stand at an offset is what may follow there
 
--- the phase of a place
-abbrev phase_of : Place → Phase
-phase_of place.Defining = Defining
-phase_of (place.Between session) = Between
-phase_of (place.Within session txn) = Within
-phase_of place.Scheduled = Scheduled
+-- the phase of a section
+abbrev phase_of : Section → Phase
+phase_of section.Defining = Defining
+phase_of (section.Between session) = Between
+phase_of (section.Within session txn) = Within
+phase_of section.Scheduled = Scheduled
 
 -- where a script stands behind one statement more
-abbrev phase_after : List ℕ → SoFar → Place → Statement → Phase
-phase_after bytes sofar at statement = phase_of (after bytes (record sofar { place = at }) statement).place
+abbrev phase_after : List ℕ → SoFar → Section → Statement → Phase
+phase_after bytes sofar at statement = phase_of (after bytes (record sofar { section = at }) statement).section
 
 -- what may stand there may follow there
-may_follow : (bytes : List ℕ) (sofar : SoFar) (at : Place) (s : Statement) (rest : List Statement) → may_stand at (word_of s) ≡ true → is_last s ≡ false
+may_follow : (bytes : List ℕ) (sofar : SoFar) (at : Section) (s : Statement) (rest : List Statement) → may_stand_at at (word_of s) ≡ true → is_last_of s ≡ false
     → Follows (phase_after bytes sofar at s) rest → Follows (phase_of at) (s ∷ rest)
-may_follow bytes sofar place.Defining (tree.Create table columns) rest allowed last f = f
-may_follow bytes sofar place.Defining (tree.Insert table values) rest allowed last f = f
-may_follow bytes sofar place.Defining (tree.Session name) rest allowed last f = f
-may_follow bytes sofar place.Defining (tree.Schedule turns) rest allowed last f = f
-may_follow bytes sofar place.Defining other rest allowed last f = absurd cc
-may_follow bytes sofar (place.Between session) (tree.Begin read_only) rest allowed last f = f
-may_follow bytes sofar (place.Between session) (tree.Session name) rest allowed last f = f
-may_follow bytes sofar (place.Between session) (tree.Schedule turns) rest allowed last f = f
-may_follow bytes sofar (place.Between session) other rest allowed last f = absurd cc
-may_follow bytes sofar (place.Within session txn) (tree.Select selection) rest allowed last f = f
-may_follow bytes sofar (place.Within session txn) (tree.Insert table values) rest allowed last f = f
-may_follow bytes sofar (place.Within session txn) (tree.Update table sets test) rest allowed last f = f
-may_follow bytes sofar (place.Within session txn) (tree.Delete table test) rest allowed last f = f
-may_follow bytes sofar (place.Within session txn) tree.Commit rest allowed last f = f
-may_follow bytes sofar (place.Within session txn) tree.Rollback rest allowed last f = f
-may_follow bytes sofar (place.Within session txn) other rest allowed last f = absurd cc
-may_follow bytes sofar place.Scheduled tree.End rest allowed last f = absurd cc
-may_follow bytes sofar place.Scheduled other rest allowed last f = absurd cc
+may_follow bytes sofar section.Defining (tree.Create table columns) rest allowed last f = f
+may_follow bytes sofar section.Defining (tree.Insert table values) rest allowed last f = f
+may_follow bytes sofar section.Defining (tree.Session name) rest allowed last f = f
+may_follow bytes sofar section.Defining (tree.Schedule turns) rest allowed last f = f
+may_follow bytes sofar section.Defining other rest allowed last f = absurd cc
+may_follow bytes sofar (section.Between session) (tree.Begin read_only) rest allowed last f = f
+may_follow bytes sofar (section.Between session) (tree.Session name) rest allowed last f = f
+may_follow bytes sofar (section.Between session) (tree.Schedule turns) rest allowed last f = f
+may_follow bytes sofar (section.Between session) other rest allowed last f = absurd cc
+may_follow bytes sofar (section.Within session txn) (tree.Select selection) rest allowed last f = f
+may_follow bytes sofar (section.Within session txn) (tree.Insert table values) rest allowed last f = f
+may_follow bytes sofar (section.Within session txn) (tree.Update table sets test) rest allowed last f = f
+may_follow bytes sofar (section.Within session txn) (tree.Delete table test) rest allowed last f = f
+may_follow bytes sofar (section.Within session txn) tree.Commit rest allowed last f = f
+may_follow bytes sofar (section.Within session txn) tree.Rollback rest allowed last f = f
+may_follow bytes sofar (section.Within session txn) other rest allowed last f = absurd cc
+may_follow bytes sofar section.Scheduled tree.End rest allowed last f = absurd cc
+may_follow bytes sofar section.Scheduled other rest allowed last f = absurd cc
 
 -- END that may stand there may follow there
-may_end : (at : Place) (s : Statement) → may_stand at (word_of s) ≡ true → is_last s ≡ true → (s ≡ tree.End) × Follows (phase_of at) (s ∷ [])
-may_end place.Defining tree.End allowed last = (refl, refl)
-may_end (place.Between session) tree.End allowed last = (refl, refl)
-may_end (place.Within session txn) tree.End allowed last = absurd cc
-may_end place.Scheduled tree.End allowed last = (refl, refl)
+may_end : (at : Section) (s : Statement) → may_stand_at at (word_of s) ≡ true → is_last_of s ≡ true → (s ≡ tree.End) × Follows (phase_of at) (s ∷ [])
+may_end section.Defining tree.End allowed last = (refl, refl)
+may_end (section.Between session) tree.End allowed last = (refl, refl)
+may_end (section.Within session txn) tree.End allowed last = absurd cc
+may_end section.Scheduled tree.End allowed last = (refl, refl)
 may_end at other allowed last = absurd cc
 
 -- what may follow there may stand there
-may_stand_there : (bytes : List ℕ) (sofar : SoFar) (at : Place) (s : Statement) (rest : List Statement) → is_last s ≡ false → Follows (phase_of at) (s ∷ rest)
-    → (may_stand at (word_of s) ≡ true) × Follows (phase_after bytes sofar at s) rest
-may_stand_there bytes sofar place.Defining (tree.Create table columns) rest last f = (refl, f)
-may_stand_there bytes sofar place.Defining (tree.Insert table values) rest last f = (refl, f)
-may_stand_there bytes sofar place.Defining (tree.Session name) rest last f = (refl, f)
-may_stand_there bytes sofar place.Defining (tree.Schedule turns) rest last f = (refl, f)
-may_stand_there bytes sofar place.Defining tree.End rest last f = absurd cc
-may_stand_there bytes sofar place.Defining other rest last f = absurd f
-may_stand_there bytes sofar (place.Between session) (tree.Begin read_only) rest last f = (refl, f)
-may_stand_there bytes sofar (place.Between session) (tree.Session name) rest last f = (refl, f)
-may_stand_there bytes sofar (place.Between session) (tree.Schedule turns) rest last f = (refl, f)
-may_stand_there bytes sofar (place.Between session) tree.End rest last f = absurd cc
-may_stand_there bytes sofar (place.Between session) other rest last f = absurd f
-may_stand_there bytes sofar (place.Within session txn) (tree.Select selection) rest last f = (refl, f)
-may_stand_there bytes sofar (place.Within session txn) (tree.Insert table values) rest last f = (refl, f)
-may_stand_there bytes sofar (place.Within session txn) (tree.Update table sets test) rest last f = (refl, f)
-may_stand_there bytes sofar (place.Within session txn) (tree.Delete table test) rest last f = (refl, f)
-may_stand_there bytes sofar (place.Within session txn) tree.Commit rest last f = (refl, f)
-may_stand_there bytes sofar (place.Within session txn) tree.Rollback rest last f = (refl, f)
-may_stand_there bytes sofar (place.Within session txn) other rest last f = absurd f
-may_stand_there bytes sofar place.Scheduled tree.End rest last f = absurd cc
-may_stand_there bytes sofar place.Scheduled other rest last f = absurd f
+may_stand_there : (bytes : List ℕ) (sofar : SoFar) (at : Section) (s : Statement) (rest : List Statement) → is_last_of s ≡ false → Follows (phase_of at) (s ∷ rest)
+    → (may_stand_at at (word_of s) ≡ true) × Follows (phase_after bytes sofar at s) rest
+may_stand_there bytes sofar section.Defining (tree.Create table columns) rest last f = (refl, f)
+may_stand_there bytes sofar section.Defining (tree.Insert table values) rest last f = (refl, f)
+may_stand_there bytes sofar section.Defining (tree.Session name) rest last f = (refl, f)
+may_stand_there bytes sofar section.Defining (tree.Schedule turns) rest last f = (refl, f)
+may_stand_there bytes sofar section.Defining tree.End rest last f = absurd cc
+may_stand_there bytes sofar section.Defining other rest last f = absurd f
+may_stand_there bytes sofar (section.Between session) (tree.Begin read_only) rest last f = (refl, f)
+may_stand_there bytes sofar (section.Between session) (tree.Session name) rest last f = (refl, f)
+may_stand_there bytes sofar (section.Between session) (tree.Schedule turns) rest last f = (refl, f)
+may_stand_there bytes sofar (section.Between session) tree.End rest last f = absurd cc
+may_stand_there bytes sofar (section.Between session) other rest last f = absurd f
+may_stand_there bytes sofar (section.Within session txn) (tree.Select selection) rest last f = (refl, f)
+may_stand_there bytes sofar (section.Within session txn) (tree.Insert table values) rest last f = (refl, f)
+may_stand_there bytes sofar (section.Within session txn) (tree.Update table sets test) rest last f = (refl, f)
+may_stand_there bytes sofar (section.Within session txn) (tree.Delete table test) rest last f = (refl, f)
+may_stand_there bytes sofar (section.Within session txn) tree.Commit rest last f = (refl, f)
+may_stand_there bytes sofar (section.Within session txn) tree.Rollback rest last f = (refl, f)
+may_stand_there bytes sofar (section.Within session txn) other rest last f = absurd f
+may_stand_there bytes sofar section.Scheduled tree.End rest last f = absurd cc
+may_stand_there bytes sofar section.Scheduled other rest last f = absurd f
 
 -- END that may follow there may stand there, and is the last
-ends_there : (at : Place) (s : Statement) (rest : List Statement) → is_last s ≡ true → Follows (phase_of at) (s ∷ rest) → (s ≡ tree.End) × (may_stand at (word_of s) ≡ true) × (rest ≡ [])
-ends_there place.Defining tree.End rest last f = (refl, refl, f)
-ends_there (place.Between session) tree.End rest last f = (refl, refl, f)
-ends_there (place.Within session txn) tree.End rest last f = absurd f
-ends_there place.Scheduled tree.End rest last f = (refl, refl, f)
+ends_there : (at : Section) (s : Statement) (rest : List Statement) → is_last_of s ≡ true → Follows (phase_of at) (s ∷ rest) → (s ≡ tree.End) × (may_stand_at at (word_of s) ≡ true) × (rest ≡ [])
+ends_there section.Defining tree.End rest last f = (refl, refl, f)
+ends_there (section.Between session) tree.End rest last f = (refl, refl, f)
+ends_there (section.Within session txn) tree.End rest last f = absurd f
+ends_there section.Scheduled tree.End rest last f = (refl, refl, f)
 ends_there at other rest last f = absurd cc
 
 -- ---- what is accepted is a sentence
 
--- from a place on the bytes spell statements that may follow there, and say this script
+-- from an offset on the bytes spell statements that may follow there, and say this script
 record ReadsFrom (bytes : List ℕ) (options : Options) (sofar : SoFar) (at : ℕ) (read : Script) : Type 0 where
   statements : List Statement
   spelled : SpellsFrom bytes at statements
-  follow : Follows (phase_of sofar.place) statements
+  follow : Follows (phase_of sofar.section) statements
   free : NoneIsRefused bytes options sofar statements
   says : read ≡ script_of options (after_all bytes sofar statements)
 
 module _ (sentences : ParsesSentences) (bytes : List ℕ) (options : Options) where
-  -- what stands at a place is parsed there
+  -- what stands at an offset is parsed there
   parsed_here : (sofar : SoFar) (at : ℕ) (s : Statement) (end : ℕ) → Stands bytes options sofar at s end → parsed bytes at ≡ Ok (s, end)
   parsed_here sofar at s end stands = sym (parsed_again bytes stands.span.start at (found_again bytes at (token.Reserved stands.keyword) stands.span stands.begun)) ∙ stands.parses
 
   -- the statement's word may stand there
-  allowed_here : (sofar : SoFar) (at : ℕ) (s : Statement) (end : ℕ) → Stands bytes options sofar at s end → may_stand sofar.place (word_of s) ≡ true
+  allowed_here : (sofar : SoFar) (at : ℕ) (s : Statement) (end : ℕ) → Stands bytes options sofar at s end → may_stand_at sofar.section (word_of s) ≡ true
   allowed_here sofar at s end stands =
-      ap (may_stand sofar.place) (sym (same_word sentences bytes at s end stands.keyword stands.span (parsed_here sofar at s end stands) stands.begun)) ∙ stands.allowed
+      ap (may_stand_at sofar.section) (sym (same_word sentences bytes at s end stands.keyword stands.span (parsed_here sofar at s end stands) stands.begun)) ∙ stands.allowed
 
   -- a statement, and what is read behind it
-  read_more : (sofar : SoFar) (at : ℕ) (s : Statement) (end : ℕ) (read : Script) → Stands bytes options sofar at s end → is_last s ≡ false
+  read_more : (sofar : SoFar) (at : ℕ) (s : Statement) (end : ℕ) (read : Script) → Stands bytes options sofar at s end → is_last_of s ≡ false
       → ReadsFrom bytes options (after bytes sofar s) end read → ReadsFrom bytes options sofar at read
   read_more sofar at s end read stands last rest = record {
     statements = s ∷ rest.statements;
     spelled = (end, parsed_here sofar at s end stands, rest.spelled);
-    follow = may_follow bytes sofar sofar.place s rest.statements (allowed_here sofar at s end stands) last rest.follow;
+    follow = may_follow bytes sofar sofar.section s rest.statements (allowed_here sofar at s end stands) last rest.follow;
     free = (stands.free, rest.free);
     says = rest.says;
   }
 
   -- END
-  read_end : (sofar : SoFar) (at : ℕ) (s : Statement) (end : ℕ) (span : Span) (read : Script) → Stands bytes options sofar at s end → is_last s ≡ true
+  read_end : (sofar : SoFar) (at : ℕ) (s : Statement) (end : ℕ) (span : Span) (read : Script) → Stands bytes options sofar at s end → is_last_of s ≡ true
       → token_at bytes end ≡ Ok (token.End, span) → read ≡ script_of options sofar → ReadsFrom bytes options sofar at read
   read_end sofar at s end span read stands last behind says =
-      let ended = may_end sofar.place s (allowed_here sofar at s end stands) last in
+      let ended = may_end sofar.section s (allowed_here sofar at s end stands) last in
       record {
         statements = s ∷ [];
         spelled = (end, parsed_here sofar at s end stands, (span, behind));
@@ -147,7 +147,7 @@ module _ (sentences : ParsesSentences) (bytes : List ℕ) (options : Options) wh
         says = says ∙ ap (λ (s : Statement). script_of options (after bytes sofar s)) (sym ended.0);
       }
 
-  -- what was read from a place on
+  -- what was read from an offset on
   read_from : (most : ℕ) (sofar : SoFar) (at : ℕ) (read : Script) → answer_within most bytes options (GoOn sofar at) ≡ Some (Ok read) → ReadsFrom bytes options sofar at read
   unfolding answer_within
   read_from zero sofar at read is = absurd cc
@@ -190,7 +190,7 @@ spells_sentence sentences bytes options read reads = let is = accepted sentences
 
 module _ (sentences : ParsesSentences) (bytes : List ℕ) (options : Options) where
   -- a statement that is parsed, may stand there and has no cause stands there
-  stands_here : (sofar : SoFar) (at : ℕ) (s : Statement) (end : ℕ) → parsed bytes at ≡ Ok (s, end) → may_stand sofar.place (word_of s) ≡ true → refusal_in bytes options sofar s ≡ None
+  stands_here : (sofar : SoFar) (at : ℕ) (s : Statement) (end : ℕ) → parsed bytes at ≡ Ok (s, end) → may_stand_at sofar.section (word_of s) ≡ true → refusal_in bytes options sofar s ≡ None
       → Stands bytes options sofar at s end
   stands_here sofar at s end parses allowed free =
       let first = word_first sentences bytes at s end parses in
@@ -203,7 +203,7 @@ module _ (sentences : ParsesSentences) (bytes : List ℕ) (options : Options) wh
         free = free;
       }
 
-  -- what stands at a place is taken
+  -- what stands at an offset is taken
   taken_here : (sofar : SoFar) (at : ℕ) (s : Statement) (end : ℕ) → Stands bytes options sofar at s end → next_at bytes options sofar at ≡ taken bytes options sofar s end
   taken_here sofar at s end stands =
       ap (next_from bytes options sofar) stands.begun
@@ -216,35 +216,35 @@ module _ (sentences : ParsesSentences) (bytes : List ℕ) (options : Options) wh
   Answers sofar at all = (most : ℕ) × (answer_within most bytes options (GoOn sofar at) ≡ Some (Ok (script_of options (after_all bytes sofar all))))
 
   -- END is answered by the script
-  answer_end : (sofar : SoFar) (at : ℕ) (s : Statement) (rest : List Statement) → is_last s ≡ true → SpellsFrom bytes at (s ∷ rest) → Follows (phase_of sofar.place) (s ∷ rest)
+  answer_end : (sofar : SoFar) (at : ℕ) (s : Statement) (rest : List Statement) → is_last_of s ≡ true → SpellsFrom bytes at (s ∷ rest) → Follows (phase_of sofar.section) (s ∷ rest)
       → NoneIsRefused bytes options sofar (s ∷ rest) → Answers sofar at (s ∷ rest)
   answer_end sofar at s rest last spelled follow free =
-      let ended = ends_there sofar.place s rest last follow in
+      let ended = ends_there sofar.section s rest last follow in
       let behind = subst (SpellsFrom bytes spelled.0) ended.2 spelled.2 in
       let stands = stands_here sofar at s spelled.0 spelled.1 ended.1 free.0 in
       let next : next_at bytes options sofar at ≡ Read (script_of options sofar) =
       taken_here sofar at s spelled.0 stands
-      ∙ ap (λ (b : Bool). cond b (at_end (token_at bytes spelled.0) (script_of options sofar)) (GoOn (after bytes sofar s) spelled.0)) last
-      ∙ ap (λ (r : Result (Token × Span) Bad). at_end r (script_of options sofar)) behind.1 in
+      ∙ ap (λ (b : Bool). cond b (at_end_of (token_at bytes spelled.0) (script_of options sofar)) (GoOn (after bytes sofar s) spelled.0)) last
+      ∙ ap (λ (r : Result (Token × Span) Bad). at_end_of r (script_of options sofar)) behind.1 in
       let same : sofar ≡ after_all bytes (after bytes sofar s) rest =
       ap (λ (s : Statement). after bytes sofar s) (sym ended.0) ∙ ap (after_all bytes (after bytes sofar s)) (sym ended.2) in
       (1, read_last bytes options sofar at (script_of options sofar) next ∙ ap (λ (f : SoFar). Some (Ok (script_of options f))) same)
 
   -- and so are statements up to END
-  answer_all : (all : List Statement) (sofar : SoFar) (at : ℕ) → SpellsFrom bytes at all → Follows (phase_of sofar.place) all → NoneIsRefused bytes options sofar all → Answers sofar at all
+  answer_all : (all : List Statement) (sofar : SoFar) (at : ℕ) → SpellsFrom bytes at all → Follows (phase_of sofar.section) all → NoneIsRefused bytes options sofar all → Answers sofar at all
   answer_all [] sofar at spelled follow free = absurd follow
-  answer_all (s ∷ rest) sofar at spelled follow free = by_last (is_last s) refl (answer_all rest)
+  answer_all (s ∷ rest) sofar at spelled follow free = by_last (is_last_of s) refl (answer_all rest)
     where
-      by_last : (last : Bool) → is_last s ≡ last
-          → ((new : SoFar) (end : ℕ) → SpellsFrom bytes end rest → Follows (phase_of new.place) rest → NoneIsRefused bytes options new rest → Answers new end rest)
+      by_last : (last : Bool) → is_last_of s ≡ last
+          → ((new : SoFar) (end : ℕ) → SpellsFrom bytes end rest → Follows (phase_of new.section) rest → NoneIsRefused bytes options new rest → Answers new end rest)
           → Answers sofar at (s ∷ rest)
       by_last true last others = answer_end sofar at s rest last spelled follow free
       by_last false last others =
-          let there = may_stand_there bytes sofar sofar.place s rest last follow in
+          let there = may_stand_there bytes sofar sofar.section s rest last follow in
           let stands = stands_here sofar at s spelled.0 spelled.1 there.0 free.0 in
           let next : next_at bytes options sofar at ≡ GoOn (after bytes sofar s) spelled.0 =
           taken_here sofar at s spelled.0 stands
-          ∙ ap (λ (b : Bool). cond b (at_end (token_at bytes spelled.0) (script_of options sofar)) (GoOn (after bytes sofar s) spelled.0)) last in
+          ∙ ap (λ (b : Bool). cond b (at_end_of (token_at bytes spelled.0) (script_of options sofar)) (GoOn (after bytes sofar s) spelled.0)) last in
           let more = others (after bytes sofar s) spelled.0 spelled.2 there.1 free.1 in
           (suc more.0, read_on more.0 bytes options sofar at (GoOn (after bytes sofar s) spelled.0) _ next more.1)
 

@@ -1,4 +1,4 @@
--- What is read at a place is read where its first token stands, behind space and comments.
+-- What is read at an offset is read where its first token stands, behind space and comments.
 use Rattle.std.specs.Prelude.{nat_eq, codes}
 use Rattle.std.specs.List.{starts_with}
 use Rattle.std.proofs.Common.{◌≡◌, ℕ, zero, suc, ◌+◌, Bool, true, false, cond, List, [], ◌∷◌, length, Option, None, Some, Result, Ok, drop, refl, sym, ap, ◌∙◌, arith, add-zero}
@@ -31,7 +31,7 @@ no_more_space false (b ∷ bs) = by_first (is_space b) (starts_with nat_eq (b �
         ap (λ (space : Bool). cond space (1 + blank_from false bs) (cond (starts_with nat_eq (b ∷ bs) (codes "--")) (1 + blank_from true bs) 0)) e
         ∙ ap (λ (minus : Bool). cond minus (1 + blank_from true bs) 0) f
 
--- how many bytes of space stand at a place
+-- how many bytes of space stand at an offset
 abbrev space_at : List ℕ → ℕ → ℕ
 space_at bytes at = blank_len (drop at bytes)
 
@@ -59,17 +59,17 @@ behind_space bytes at =
     ∙ ap (λ (k : ℕ). placed (at + n + k) (first_token (drop k (drop n rest)))) (no_more_space false rest)
     ∙ ap (λ (k : ℕ). placed k (first_token (drop n rest))) (add-zero (at + n))
 
--- a token that is found from a place on is found where it stands
+-- a token that is found from an offset on is found where it stands
 pub found_again : (bytes : List ℕ) (at : ℕ) (t : Token) (span : Span) → token_at bytes at ≡ Ok (t, span) → token_at bytes span.start ≡ token_at bytes at
 found_again bytes at t span e = ap (token_at bytes) (token_start bytes at t span e) ∙ behind_space bytes at
 
--- from two places with the same first token the pieces are the same
+-- from two offsets with the same first token the pieces are the same
 pieces_again : (most : ℕ) (bytes : List ℕ) (one other : ℕ) → token_at bytes one ≡ token_at bytes other → pieces_within most bytes one ≡ pieces_within most bytes other
 unfolding pieces_within
 pieces_again zero bytes one other e = ap ended e
 pieces_again (suc most) bytes one other e = ap (λ (r : Result (Token × Span) Bad). continued r (λ next. pieces_within most bytes next)) e
 
--- from two places with the same first token the same is parsed
+-- from two offsets with the same first token the same is parsed
 pub parsed_again : (bytes : List ℕ) (one other : ℕ) → token_at bytes one ≡ token_at bytes other → parsed bytes one ≡ parsed bytes other
 unfolding parsed
 parsed_again bytes one other e =

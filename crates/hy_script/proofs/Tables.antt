@@ -6,15 +6,15 @@ use Rattle.hy_token.specs.declared.Span.{Span}
 use Rattle.hy_schema.specs.declared.AddError.TheVariants.{Duplicate, Limit as TooMany}
 use Rattle.hy_schema.specs.Names.{table_number, refusal_of}
 use Rattle.hy_ast.specs.declared.ColumnDef.{ColumnDef}
-use Rattle.hy_script.specs.declared.growing.SoFar.{SoFar}
+use Rattle.hy_script.specs.declared.sofar.SoFar.{SoFar}
 use Rattle.hy_script.specs.declared.codes.Code.TheVariants.{Twice, Limit}
-use Rattle.hy_script.specs.Codes.{first_of, code_if}
+use Rattle.hy_script.specs.Codes.{first_of_two, code_if_so}
 use Rattle.hy_script.specs.Refusals.{create_code, name_in, is_key}
-use Rattle.hy_bind.specs.Literals.{text_in}
+use Rattle.hy_bind.specs.Literals.{text_of_span}
 use Rattle.hy_bind.specs.Statements.{repeats}
-use Rattle.hy_script.specs.Growing.{table_of, column_of}
+use Rattle.hy_script.specs.Growing.{table_def, column_def}
 
-neither : (there twice keys many : Bool) → first_of (code_if (there || twice || keys) Twice) (code_if many Limit) ≡ None → cond there (Some Duplicate) (cond many (Some TooMany) None) ≡ None
+neither : (there twice keys many : Bool) → first_of_two (code_if_so (there || twice || keys) Twice) (code_if_so many Limit) ≡ None → cond there (Some Duplicate) (cond many (Some TooMany) None) ≡ None
 neither true twice keys true h = absurd cc
 neither true twice keys false h = absurd cc
 neither false true keys true h = absurd cc
@@ -25,14 +25,14 @@ neither false false false true h = absurd cc
 neither false false false false h = refl
 
 -- a table without a cause may be added
-pub is_free : (script : List ℕ) (sofar : SoFar) (table : Span) (columns : List ColumnDef) → create_code script sofar table columns ≡ None → refusal_of sofar.catalog (table_of script table columns) ≡ None
+pub is_free : (script : List ℕ) (sofar : SoFar) (table : Span) (columns : List ColumnDef) → create_code script sofar table columns ≡ None → refusal_of sofar.catalog (table_def script table columns) ≡ None
 is_free script sofar table columns h =
     let there = is_some (table_number sofar.catalog (name_in script table)) in
-    let twice = repeats (map (text_in script) (map (λ (column : ColumnDef). column.name) columns)) in
-    ap (λ (l : ℕ). cond there (Some Duplicate) (cond (nat_le 16 (length sofar.catalog) || nat_lt 32 l) (Some TooMany) None)) (length-map columns (column_of script))
+    let twice = repeats (map (text_of_span script) (map (λ (column : ColumnDef). column.name) columns)) in
+    ap (λ (l : ℕ). cond there (Some Duplicate) (cond (nat_le 16 (length sofar.catalog) || nat_lt 32 l) (Some TooMany) None)) (length-map columns (column_def script))
     ∙ neither there twice (nat_lt 1 (count_by is_key columns)) (nat_le 16 (length sofar.catalog) || nat_lt 32 (length columns)) h
 
--- of two stocks put at a place the second stays
+-- of two stocks put at a number the second stays
 pub set-set : {A : Type 0} (xs : List A) (i : ℕ) (x y : A) → slice_set (slice_set xs i x) i y ≡ slice_set xs i y
 set-set [] zero x y = refl
 set-set [] (suc i) x y = refl

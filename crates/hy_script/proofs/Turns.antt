@@ -9,30 +9,31 @@ use Rattle.std.proofs.lemmas.List.Quantifiers.{position-Some}
 use Rattle.std.specs.Str.{bytes_eq}
 use Rattle.hy_schema.specs.Names.{number_of}
 use Rattle.hy_ast.specs.declared.Turn.{Turn}
-use Rattle.hy_bind.specs.Literals.{text_in}
-use Rattle.hy_bound.specs.declared.Item.{Item}
-use Rattle.hy_bound.specs.Fits.{FitsSchedule}
-use Rattle.hy_script.specs.Growing.{item_of}
-use Rattle.hy_script.specs.Refusals.{is_unknown, any_unknown}
+use Rattle.hy_bind.specs.Literals.{text_of_span}
+use Rattle.hy_schedule.specs.declared.Item.{Item}
+use Rattle.hy_schedule.specs.Fitting.{FitsSchedule}
+use Rattle.hy_script.specs.Growing.{item_at}
+use Rattle.hy_script.specs.Refusals.{is_unknown_in, any_unknown_in}
+use Rattle.hy_limits.specs.declared.TheConstants.{MOST_ITEMS}
 
 known : (names : List (List ℕ)) (name : List ℕ) (number : Option ℕ) → number_of names name ≡ number → not (is_some number) ≡ false → option_map_or (λ n. n) number 0 < length names
 known names name None is h = absurd cc
 known names name (Some n) is h = (position-Some (bytes_eq name) names n [] is).0
 
-turn_known : (script : List ℕ) (names : List (List ℕ)) (turn : Turn) → is_unknown script names turn ≡ false → (item_of script names turn).session < length names
-unfolding is_unknown item_of
-turn_known script names turn h = known names (text_in script turn.session) _ refl h
+turn_known : (script : List ℕ) (names : List (List ℕ)) (turn : Turn) → is_unknown_in script names turn ≡ false → (item_at script names turn).session < length names
+unfolding is_unknown_in item_at
+turn_known script names turn h = known names (text_of_span script turn.session) _ refl h
 
-turns_known : (script : List ℕ) (names : List (List ℕ)) (turns : List Turn) → any_unknown script names turns ≡ false → All (λ (item : Item). item.session < length names) (map (item_of script names) turns)
+turns_known : (script : List ℕ) (names : List (List ℕ)) (turns : List Turn) → any_unknown_in script names turns ≡ false → All (λ (item : Item). item.session < length names) (map (item_at script names) turns)
 turns_known script names [] h = All-nil (λ (item : Item). item.session < length names)
 turns_known script names (turn ∷ turns) h =
-    let parts = or_parts (is_unknown script names turn) (any_unknown script names turns) h in
-    All-cons (λ (item : Item). item.session < length names) (item_of script names turn) (map (item_of script names) turns) (turn_known script names turn parts.0) (turns_known script names turns parts.1)
+    let parts = or_parts (is_unknown_in script names turn) (any_unknown_in script names turns) h in
+    All-cons (λ (item : Item). item.session < length names) (item_at script names turn) (map (item_at script names) turns) (turn_known script names turn parts.0) (turns_known script names turns parts.1)
 
 -- a schedule that is taken
-pub schedule_fits : (script : List ℕ) (names : List (List ℕ)) (turns : List Turn) → any_unknown script names turns ≡ false → length turns ≤ 1000000 → FitsSchedule (length names) (map (item_of script names) turns)
+pub schedule_fits : (script : List ℕ) (names : List (List ℕ)) (turns : List Turn) → any_unknown_in script names turns ≡ false → length turns ≤ MOST_ITEMS → FitsSchedule (length names) (map (item_at script names) turns)
 schedule_fits script names turns h few =
-    let many = length-map turns (item_of script names) in
+    let many = length-map turns (item_at script names) in
     record { few = omega (arith, many, few); known = turns_known script names turns h }
 
 -- with more sessions

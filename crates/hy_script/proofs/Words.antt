@@ -76,7 +76,7 @@ stands_first (suc most) bytes at s m = first_token s (token_at bytes at) (λ nex
 pub word_first : ParsesSentences → (bytes : List ℕ) (at : ℕ) (s : Statement) (end : ℕ) → parsed bytes at ≡ Ok (s, end) → (span : Span) × (token_at bytes at ≡ Ok (token.Reserved (word_of s), span))
 word_first sentences bytes at s end parses = stands_first _ bytes at s ((sentences bytes at s end).0 parses).written.matches
 
--- what is found at a place is one token
+-- what is found at an offset is one token
 pub same_token : (r : Result (Token × Span) Bad) (one other : Token) (here there : Span) → r ≡ Ok (one, here) → r ≡ Ok (other, there) → one ≡ other
 same_token r one other here there h g =
     let e = sym h ∙ g in

@@ -48,14 +48,14 @@ rank TooBig = 16
 rank KeyTwice = 17
 
 -- of two causes the one that is tested first
-abbrev pub first_of : Option Code → Option Code → Option Code
-first_of None other = other
-first_of (Some code) None = Some code
-first_of (Some code) (Some other) = if nat_le (rank code) (rank other) then Some code else Some other
+abbrev pub first_of_two : Option Code → Option Code → Option Code
+first_of_two None other = other
+first_of_two (Some code) None = Some code
+first_of_two (Some code) (Some other) = if nat_le (rank code) (rank other) then Some code else Some other
 
 -- a cause where something is so
-abbrev pub code_if : Bool → Code → Option Code
-code_if so code = if so then Some code else None
+abbrev pub code_if_so : Bool → Code → Option Code
+code_if_so so code = if so then Some code else None
 
 abbrev pub code_of : BindFault → Code
 code_of fault.UnknownTable = UnknownTable

@@ -9,20 +9,21 @@ use Rattle.hy_ast.specs.Trees.{Selection, Statement}
 use Rattle.hy_ast.specs.Trees as tree
 use Rattle.hy_token.specs.declared.Span.{Span}
 use Rattle.hy_ast.specs.declared.Literal.{Literal}
-use Rattle.hy_bind.specs.Literals.{text_in, literal_value}
+use Rattle.hy_bind.specs.Literals.{text_of_span, literal_value}
 use Rattle.hy_bind.specs.Statements.{bind_fault, repeats}
 use Rattle.hy_script.specs.declared.Options.{Options}
 use Rattle.hy_script.specs.declared.NamedTxns.{NamedTxns}
-use Rattle.hy_script.specs.declared.growing.OpenTxn.{OpenTxn}
-use Rattle.hy_script.specs.declared.growing.Place.{Place}
-use Rattle.hy_script.specs.declared.growing.Place.TheVariants.{Between, Within}
-use Rattle.hy_script.specs.declared.growing.SoFar.{SoFar}
+use Rattle.hy_script.specs.declared.sofar.OpenTxn.{OpenTxn}
+use Rattle.hy_script.specs.declared.sofar.Section.{Section}
+use Rattle.hy_script.specs.declared.sofar.Section.TheVariants.{Between, Within}
+use Rattle.hy_script.specs.declared.sofar.SoFar.{SoFar}
 use Rattle.hy_script.specs.declared.codes.Code.{Code}
 use Rattle.hy_script.specs.declared.codes.Code.TheVariants as code
-use Rattle.hy_script.specs.Later.{is_outside}
-use Rattle.hy_script.specs.Codes.{first_of, code_if, code_of}
+use Rattle.hy_script.specs.Later.{is_outside_in}
+use Rattle.hy_script.specs.Codes.{first_of_two, code_if_so, code_of}
 use Rattle.hy_script.specs.declared.stocks.Stock.{Stock}
-use Rattle.hy_script.specs.Stocks.{no_rows, has_key}
+use Rattle.hy_script.specs.Stocks.{no_rows, key_there}
+use Rattle.hy_limits.specs.declared.TheConstants.{MOST_COLUMNS, MOST_ITEMS, MOST_SESSIONS, MOST_STATEMENTS, MOST_TABLES, MOST_TXNS}
 
 -- the cause that binding gives
 abbrev pub bind_code : List ℕ → SoFar → Statement → Option Code
@@ -30,7 +31,7 @@ bind_code script sofar statement = option_map code_of (bind_fault script sofar.c
 
 -- a name as a text; a name is a word, and so a text
 abbrev pub name_in : List ℕ → Span → List ℕ
-name_in script span = text_of (text_in script span)
+name_in script span = text_of (text_of_span script span)
 
 -- CREATE TABLE: no table has the name, no two columns have one, and there is one key at most; it is one of at
 -- most 16 tables, with at most 32 columns
@@ -39,8 +40,8 @@ is_key column = column.key
 
 abbrev pub create_code : List ℕ → SoFar → Span → List ColumnDef → Option Code
 create_code script sofar table columns =
-    first_of (code_if (is_some (table_number sofar.catalog (name_in script table)) || repeats (map (text_in script) (map (λ column. column.name) columns)) || nat_lt 1 (count_by is_key columns)) code.Twice)
-    (code_if (nat_le 16 (length sofar.catalog) || nat_lt 32 (length columns)) code.Limit)
+    first_of_two (code_if_so (is_some (table_number sofar.catalog (name_in script table)) || repeats (map (text_of_span script) (map (λ column. column.name) columns)) || nat_lt 1 (count_by is_key columns)) code.Twice)
+    (code_if_so (nat_le MOST_TABLES (length sofar.catalog) || nat_lt MOST_COLUMNS (length columns)) code.Limit)
 
 -- the first rows of the table of this name
 abbrev pub stock_at : Option ℕ → List Stock → Stock
@@ -48,82 +49,82 @@ stock_at None stocks = no_rows None
 stock_at (Some number) stocks = slice_index_or stocks number (no_rows None)
 
 abbrev pub stock_of : List ℕ → SoFar → Span → Stock
-stock_of script sofar table = stock_at (table_number sofar.catalog (text_in script table)) sofar.stocks
+stock_of script sofar table = stock_at (table_number sofar.catalog (text_of_span script table)) sofar.stocks
 
 -- a first row: there is room, and no earlier one has its key
 abbrev pub first_row_code : List ℕ → Options → SoFar → Statement → Span → List Literal → Option Code
 first_row_code script options sofar statement table values =
-    first_of (bind_code script sofar statement)
-    (first_of (code_if (nat_le (options.chunks * options.rows) (length (stock_of script sofar table).rows)) code.Limit)
-    (code_if (has_key (stock_of script sofar table) (map (literal_value script) values)) code.KeyTwice))
+    first_of_two (bind_code script sofar statement)
+    (first_of_two (code_if_so (nat_le (options.chunks * options.rows) (length (stock_of script sofar table).rows)) code.Limit)
+    (code_if_so (key_there (stock_of script sofar table) (map (literal_value script) values)) code.KeyTwice))
 
 -- SESSION: no session has the name, and it is one of at most 64
 abbrev pub session_code : List ℕ → SoFar → Span → Option Code
 session_code script sofar name =
-    first_of (code_if (is_some (number_of sofar.names (text_in script name))) code.Twice) (code_if (nat_le 64 (length sofar.names)) code.Limit)
+    first_of_two (code_if_so (is_some (number_of sofar.names (text_of_span script name))) code.Twice) (code_if_so (nat_le MOST_SESSIONS (length sofar.names)) code.Limit)
 
 -- BEGIN: the session has less than 65,535 transactions
 abbrev pub begin_code : NamedTxns → Option Code
-begin_code session = code_if (nat_le 65535 (length session.txns)) code.Limit
+begin_code session = code_if_so (nat_le MOST_TXNS (length session.txns)) code.Limit
 
-abbrev pub writes : Statement → Bool
-writes (tree.Insert table values) = true
-writes (tree.Update table sets test) = true
-writes (tree.Delete table test) = true
-writes _ = false
+abbrev pub writes_in : Statement → Bool
+writes_in (tree.Insert table values) = true
+writes_in (tree.Update table sets test) = true
+writes_in (tree.Delete table test) = true
+writes_in _ = false
 
-abbrev pub groups : Statement → Bool
-groups (tree.Select (tree.Groups column total table test key)) = true
-groups _ = false
+abbrev pub groups_in : Statement → Bool
+groups_in (tree.Select (tree.Groups column total table test key)) = true
+groups_in _ = false
 
 -- a statement of a transaction: a READ ONLY one doesn't write, GROUP BY stands in a READ ONLY one, and it is one
 -- of at most 256
 abbrev pub statement_code : List ℕ → SoFar → OpenTxn → Statement → Option Code
 statement_code script sofar txn statement =
-    first_of (bind_code script sofar statement)
-    (first_of (code_if (txn.read_only && writes statement) code.ReadOnly)
-    (first_of (code_if (not txn.read_only && groups statement) code.GroupInWriter)
-    (code_if (nat_le 256 (length txn.statements)) code.Limit)))
+    first_of_two (bind_code script sofar statement)
+    (first_of_two (code_if_so (txn.read_only && writes_in statement) code.ReadOnly)
+    (first_of_two (code_if_so (not txn.read_only && groups_in statement) code.GroupInWriter)
+    (code_if_so (nat_le MOST_STATEMENTS (length txn.statements)) code.Limit)))
 
 -- SCHEDULE: it names sessions, in at most 1,000,000 turns
-unfoldable pub is_unknown : List ℕ → List (List ℕ) → Turn → Bool
-is_unknown script names turn = not (is_some (number_of names (text_in script turn.session)))
+unfoldable pub is_unknown_in : List ℕ → List (List ℕ) → Turn → Bool
+is_unknown_in script names turn = not (is_some (number_of names (text_of_span script turn.session)))
 
-abbrev pub any_unknown : List ℕ → List (List ℕ) → List Turn → Bool
-any_unknown script names [] = false
-any_unknown script names (turn ∷ turns) = is_unknown script names turn || any_unknown script names turns
+abbrev pub any_unknown_in : List ℕ → List (List ℕ) → List Turn → Bool
+any_unknown_in script names [] = false
+any_unknown_in script names (turn ∷ turns) = is_unknown_in script names turn || any_unknown_in script names turns
 
 abbrev pub schedule_code : List ℕ → SoFar → List Turn → Option Code
 schedule_code script sofar turns =
-    first_of (code_if (any_unknown script sofar.names turns) code.UnknownSession) (code_if (nat_lt 1000000 (length turns)) code.Limit)
+    first_of_two (code_if_so (any_unknown_in script sofar.names turns) code.UnknownSession) (code_if_so (nat_lt MOST_ITEMS (length turns)) code.Limit)
 
 -- by where the script stands; a statement that may not stand there is refused before
-abbrev pub statement_code_at : List ℕ → SoFar → Place → Statement → Option Code
+abbrev pub statement_code_at : List ℕ → SoFar → Section → Statement → Option Code
 statement_code_at script sofar (Within session txn) statement = statement_code script sofar txn statement
 statement_code_at script sofar _ statement = None
 
-abbrev pub insert_code_at : List ℕ → Options → SoFar → Place → Statement → Span → List Literal → Option Code
+abbrev pub insert_code_at : List ℕ → Options → SoFar → Section → Statement → Span → List Literal → Option Code
 insert_code_at script options sofar (Within session txn) statement table values = statement_code script sofar txn statement
 insert_code_at script options sofar _ statement table values = first_row_code script options sofar statement table values
 
-abbrev pub begin_code_at : Place → Option Code
+abbrev pub begin_code_at : Section → Option Code
 begin_code_at (Between session) = begin_code session
 begin_code_at _ = None
 
 abbrev pub refusal_of : List ℕ → Options → SoFar → Statement → Option Code
 refusal_of script options sofar (tree.Create table columns) = create_code script sofar table columns
-refusal_of script options sofar (tree.Insert table values) = insert_code_at script options sofar sofar.place (tree.Insert table values) table values
+refusal_of script options sofar (tree.Insert table values) = insert_code_at script options sofar sofar.section (tree.Insert table values) table values
 refusal_of script options sofar (tree.Session name) = session_code script sofar name
-refusal_of script options sofar (tree.Begin read_only) = begin_code_at sofar.place
+refusal_of script options sofar (tree.Begin read_only) = begin_code_at sofar.section
 refusal_of script options sofar tree.Commit = None
 refusal_of script options sofar tree.Rollback = None
-refusal_of script options sofar (tree.Select selection) = statement_code_at script sofar sofar.place (tree.Select selection)
-refusal_of script options sofar (tree.Update table sets test) = statement_code_at script sofar sofar.place (tree.Update table sets test)
-refusal_of script options sofar (tree.Delete table test) = statement_code_at script sofar sofar.place (tree.Delete table test)
+refusal_of script options sofar (tree.Select selection) = statement_code_at script sofar sofar.section (tree.Select selection)
+refusal_of script options sofar (tree.Update table sets test) = statement_code_at script sofar sofar.section (tree.Update table sets test)
+refusal_of script options sofar (tree.Delete table test) = statement_code_at script sofar sofar.section (tree.Delete table test)
 refusal_of script options sofar (tree.Schedule turns) = schedule_code script sofar turns
 refusal_of script options sofar tree.End = None
 
 -- a statement outside the dialect is a syntax error; else the first of its causes
 abbrev pub refusal_in : List ℕ → Options → SoFar → Statement → Option Code
 refusal_in script options sofar statement =
-    if is_outside options.dialect sofar statement then Some code.Syntax else refusal_of script options sofar statement
+    if is_outside_in options.dialect sofar statement then Some code.Syntax else refusal_of script options sofar statement

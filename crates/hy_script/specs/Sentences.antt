@@ -8,7 +8,7 @@ use Rattle.hy_ast.specs.Trees as tree
 use Rattle.hy_parse.specs.Parsing.{parsed}
 use Rattle.hy_script.specs.declared.Options.{Options}
 use Rattle.hy_script.specs.declared.Script.{Script}
-use Rattle.hy_script.specs.declared.growing.SoFar.{SoFar}
+use Rattle.hy_script.specs.declared.sofar.SoFar.{SoFar}
 use Rattle.hy_script.specs.Growing.{nothing, after, script_of}
 use Rattle.hy_script.specs.Reading.{most_bytes}
 use Rattle.hy_script.specs.Refusals.{refusal_in}
@@ -64,7 +64,7 @@ pub data IsScript : List Statement → Type 0 where
 
 -- ---- the statements of a script
 
--- From a place on the bytes spell these statements: each is parsed where the one before it ended, and behind
+-- From an offset on the bytes spell these statements: each is parsed where the one before it ended, and behind
 -- the last there is nothing but space and comments.
 abbrev pub SpellsFrom : List ℕ → ℕ → List Statement → Type 0
 SpellsFrom bytes at [] = (span : Span) × (token_at bytes at ≡ Ok (token.End, span))

@@ -14,8 +14,8 @@ abbrev pub key_among : Option ℕ → List Value → List Value → Bool
 key_among None keys row = false
 key_among (Some key) keys row = is_one_of keys (value_in row key)
 
-abbrev pub has_key : Stock → List Value → Bool
-has_key stock row = key_among stock.key stock.keys row
+abbrev pub key_there : Stock → List Value → Bool
+key_there stock row = key_among stock.key stock.keys row
 
 abbrev pub with_key : Option ℕ → List Value → List Value → List Value
 with_key None keys row = keys

@@ -1,7 +1,7 @@
 //! The causes of refusals.
 
 ghost use Rattle.std.specs.Prelude.{◌≡◌};
-ghost use Rattle.hy_script.specs.Codes.{number, rank, first_of as first_of_two, code_if as code_if_so, code_of};
+ghost use Rattle.hy_script.specs.Codes.{number, rank, first_of_two, code_if_so, code_of};
 
 use hy_bind::BindFault;
 
@@ -73,7 +73,7 @@ impl Code {
         }
     }
 
-    /// Its place in the order in which the causes of one statement are tested.
+    /// Its rank in the order in which the causes of one statement are tested.
     fn rank(self) -> u8
         ensures { result ≡ rank self }
     {

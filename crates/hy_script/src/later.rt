@@ -2,12 +2,13 @@
 
 ghost use Rattle.std.specs.Prelude.{◌≡◌, map};
 ghost use Rattle.std.specs.List.{list_any};
-ghost use Rattle.hy_ast.specs.Trees.{statement_of, formula_of, setting_of, selection_of};
-ghost use Rattle.hy_script.specs.Later.{is_update as is_update_in, txn_updates as txn_updates_in, session_updates as session_updates_in, is_value as is_value_in, computes as computes_in, later_selection as later_selection_in, is_single as is_single_in, is_within, is_idle, has_txn, later as later_in, is_outside as is_outside_in};
+ghost use Rattle.hy_ast.specs.Trees.{statement_of, formula_of, set_clause_of, selection_of};
+ghost use Rattle.hy_script.specs.Later.{is_update_in, txn_updates_in, session_updates_in, is_value_in, computes_in, later_selection_in, is_single_in};
+ghost use Rattle.hy_script.specs.Later.{is_within, is_idle, has_txn, later_in, is_outside_in};
 
-use crate::growing::{Place, SoFar};
+use crate::sofar::{Section, SoFar};
 use crate::{Dialect, NamedTxns};
-use hy_ast::{Assignment, Ast, Expression, Operand, Query, Turn};
+use hy_ast::{Formula, Operand, Selection, SetClause, Statement, Turn};
 use hy_bound::{Bound, Txn};
 
 /// Whether a statement is an UPDATE.
@@ -39,27 +40,27 @@ fn any_updates(sessions: &[NamedTxns]) -> bool
 }
 
 /// Whether the right side of an assignment is a value.
-fn is_value(expression: &Expression) -> bool
+fn is_value(expression: &Formula) -> bool
     ensures { result ≡ is_value_in (formula_of expression.now) }
 {
     match expression {
-        Expression::Operand(Operand::Column(_)) => false,
-        Expression::Operand(Operand::Literal(_)) => true,
-        Expression::Binary { .. } => false,
-        Expression::Nested(inner) => is_value(inner),
+        Formula::Plain(Operand::Column(_)) => false,
+        Formula::Plain(Operand::Literal(_)) => true,
+        Formula::Binary { .. } => false,
+        Formula::Bracket(inner) => is_value(inner),
     }
 }
 
 /// Whether the right side of an assignment is no value.
-fn computes(set: &Assignment) -> bool
-    ensures { result ≡ computes_in (setting_of set.now) }
+fn computes(set: &SetClause) -> bool
+    ensures { result ≡ computes_in (set_clause_of set.now) }
 {
     !is_value(&set.value)
 }
 
 /// Whether the right side of one of these assignments is no value.
-fn any_computes(sets: &[Assignment]) -> bool
-    ensures { result ≡ list_any computes_in (map setting_of sets.now) }
+fn any_computes(sets: &[SetClause]) -> bool
+    ensures { result ≡ list_any computes_in (map set_clause_of sets.now) }
 {
     for set in sets {
         if computes(set) {
@@ -70,22 +71,22 @@ fn any_computes(sets: &[Assignment]) -> bool
 }
 
 /// Whether a SELECT has a join or groups.
-fn later_selection(query: &Query) -> bool
+fn later_selection(query: &Selection) -> bool
     ensures { result ≡ later_selection_in (selection_of query.now) }
 {
     match query {
-        Query::Rows { joins, .. } => !joins.is_empty(),
-        Query::Count { .. } => false,
-        Query::Groups { .. } => true,
+        Selection::Rows { joins, .. } => !joins.is_empty(),
+        Selection::Count { .. } => false,
+        Selection::Groups { .. } => true,
     }
 }
 
-impl Place {
+impl Section {
     /// Whether it is in a transaction.
     fn is_within(&self) -> bool
         ensures { result ≡ is_within self.now }
     {
-        matches!(self, Place::Within(_, _))
+        matches!(self, Section::Within(_, _))
     }
 
     /// Whether it is in a session that has no transaction.
@@ -93,7 +94,7 @@ impl Place {
         ensures { result ≡ is_idle self.now }
     {
         match self {
-            Place::Between(session) => session.txns.is_empty(),
+            Section::Between(session) => session.txns.is_empty(),
             _ => false,
         }
     }
@@ -103,7 +104,7 @@ impl Place {
         ensures { result ≡ has_txn self.now }
     {
         match self {
-            Place::Between(session) => !session.txns.is_empty(),
+            Section::Between(session) => !session.txns.is_empty(),
             _ => false,
         }
     }
@@ -125,25 +126,25 @@ fn any_single(turns: &[Turn]) -> bool
 
 impl SoFar {
     /// Whether a statement is not run yet.
-    fn later(&self, ast: &Ast) -> bool
+    fn later(&self, ast: &Statement) -> bool
         ensures { result ≡ later_in self.now (statement_of ast.now) }
     {
         match ast {
-            Ast::Create { .. } | Ast::Commit => false,
-            Ast::Insert { .. } => self.place.is_within(),
-            Ast::Session { .. } | Ast::End => self.place.is_idle(),
-            Ast::Begin { .. } => self.place.has_txn(),
-            Ast::Rollback | Ast::Delete { .. } => true,
-            Ast::Select(query) => later_selection(query),
-            Ast::Update { sets, .. } => {
+            Statement::Create { .. } | Statement::Commit => false,
+            Statement::Insert { .. } => self.section.is_within(),
+            Statement::Session { .. } | Statement::End => self.section.is_idle(),
+            Statement::Begin { .. } => self.section.has_txn(),
+            Statement::Rollback | Statement::Delete { .. } => true,
+            Statement::Select(query) => later_selection(query),
+            Statement::Update { sets, .. } => {
                 any_updates(self.sessions.as_slice()) || any_computes(sets.as_slice())
             }
-            Ast::Schedule { turns } => self.place.is_idle() || any_single(turns.as_slice()),
+            Statement::Schedule { turns } => self.section.is_idle() || any_single(turns.as_slice()),
         }
     }
 
     /// Whether a statement is outside the dialect.
-    pub fn is_outside(&self, dialect: Dialect, ast: &Ast) -> bool
+    pub fn is_outside(&self, dialect: Dialect, ast: &Statement) -> bool
         ensures { result ≡ is_outside_in dialect self.now (statement_of ast.now) }
     {
         match dialect {

@@ -24,7 +24,8 @@ pub fn reading_comes_to_an_answer()
 /// that spell none are refused. Bytes spell one list of statements at most.
 pub fn accepted_scripts_are_sentences()
     ensures accepted { (bytes : List ℕ) (options : Options) (read : Script) → Reads bytes options (Ok read) → SpellsScript bytes }
-    ensures refused { (bytes : List ℕ) (options : Options) (answer : Result Script Refused) → (SpellsScript bytes → ⊥) → Reads bytes options answer → IsErr answer }
+    ensures refused { (bytes : List ℕ) (options : Options) (answer : Result Script Refused) → (SpellsScript bytes → ⊥) → Reads bytes options answer
+        → IsErr answer }
     ensures one { (bytes : List ℕ) (one other : List Statement) → Spells bytes one → Spells bytes other → one ≡ other }
 {
     scripts_are_parsed();

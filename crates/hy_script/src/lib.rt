@@ -5,28 +5,30 @@ ghost use Rattle.std.specs.Prelude.{◌≡◌, ℕ, List, Result};
 ghost use Rattle.hy_script.specs.declared.Options.{Options};
 ghost use Rattle.hy_script.specs.declared.Script.{Script};
 ghost use Rattle.hy_script.specs.declared.Refused.{Refused};
-ghost use Rattle.hy_script.specs.Reading.{Reads, Answers, Says, error_of as error_of_halt};
+ghost use Rattle.hy_script.specs.Reading.{Reads, Answers, Says, error_of_halt};
 
-use hy_bound::{Rows, Schedule, Txns};
+use hy_bound::{Rows, Txns};
+use hy_limits::MOST_BYTES;
+use hy_schedule::Schedule;
 use hy_schema::Catalog;
 use hy_value::{Seq, Text};
 use std::alloc::{AllocError, Global};
 
 mod codes;
 mod fitting;
-mod growing;
 mod later;
 mod laws;
 mod reading;
+mod sofar;
 mod stocks;
 
 pub use codes::Code;
 pub use fitting::what_is_read_fits;
-use growing::SoFar;
 pub use laws::{
     accepted_scripts_are_sentences, reading_comes_to_an_answer, sentences_are_accepted,
 };
 use reading::{Halt, Step, line_of};
+use sofar::SoFar;
 
 /// Which statements a script may have.
 #[derive(Clone, Copy, Debug, PartialEq, Eq)]
@@ -92,9 +94,6 @@ pub enum ReadError {
     OutOfMemory,
 }
 
-/// How many bytes a script may have.
-const MOST_BYTES: usize = 16_777_216;
-
 impl From<AllocError> for ReadError {
     ghost use Rattle.std.specs.Prelude.{◌≡◌};
     ghost use Rattle.hy_script.specs.declared.ReadError.{ReadError};
@@ -104,6 +103,15 @@ impl From<AllocError> for ReadError {
     fn from(_: AllocError) -> ReadError {
         ReadError::OutOfMemory
     }
+}
+
+/// What is read, and with which options.
+#[derive(Clone, Copy)]
+struct Input<'a> {
+    /// The script.
+    script: &'a [u8],
+    /// The options.
+    options: &'a Options,
 }
 
 /// The script that the bytes spell, or the first refusal.
@@ -129,10 +137,11 @@ pub fn read(alloc: Global, bytes: &[u8], options: &Options) -> Result<Script, Re
 fn statements(alloc: Global, script: &[u8], options: &Options) -> Result<Script, ReadError>
     ensures { Says result script.now options.now }
 {
+    let input = Input { script, options };
     let mut sofar = SoFar::new(alloc);
     let mut at = 0;
     loop {
-        match sofar.step(alloc, script, options, at) {
+        match sofar.step(alloc, &input, at) {
             Ok(Step::GoOn(end)) => at = end,
             Ok(Step::End) => return Ok(sofar.into_script(alloc, options)?),
             Err(halt) => return Err(error_of(script, halt)),

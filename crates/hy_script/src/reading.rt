@@ -4,15 +4,15 @@ ghost use Rattle.std.specs.Prelude.{◌≡◌, ◌<◌, ◌≤◌, length, count
 ghost use Rattle.hy_ast.specs.Trees.{statement_of, Insert};
 ghost use Rattle.hy_script.specs.Refusals.{refusal_of, refusal_in, insert_code_at};
 ghost use Rattle.hy_script.specs.Growing.{nothing, after, with_insert, script_of, Takes};
-ghost use Rattle.hy_script.specs.Reading.{may_stand as may_stand_at, next_at, judged, taken, unless_refused, is_last as is_last_of, is_feed, at_end as at_end_of, line_of as line_of_place, Comes, Goes, Ends};
+ghost use Rattle.hy_script.specs.Reading.{may_stand_at, next_at, judged, taken, unless_refused, is_last_of, is_feed, at_end_of, line_at, Comes, Goes, Ends};
 ghost use Rattle.hy_script.specs.declared.Script.{Script};
 ghost use Rattle.hy_token.specs.Token.{token_at};
 ghost use Rattle.hy_parse.specs.Parsing.{Gives, parsed};
 
-use crate::Options;
+use crate::Input;
 use crate::codes::Code;
-use crate::growing::{Place, SoFar};
-use hy_ast::{Ast, Literal};
+use crate::sofar::{Section, SoFar};
+use hy_ast::{Literal, Statement};
 use hy_parse::{ParseError, parse_statement, parsing_moves_on};
 use hy_token::{Keyword, Span, Token, next};
 use std::alloc::{AllocError, Global};
@@ -24,7 +24,7 @@ pub enum Halt {
     Refused {
         /// The cause.
         code: Code,
-        /// The place.
+        /// The offset.
         at: usize,
     },
     /// There is no memory.
@@ -47,17 +47,17 @@ impl From<AllocError> for Halt {
 pub enum Step {
     /// Nothing: it was END.
     End,
-    /// The next statement, from this place on.
+    /// The next statement, from this offset on.
     GoOn(usize),
 }
 
-impl Place {
+impl Section {
     /// Whether a statement that begins with this word may stand there.
     fn may_stand(&self, word: Keyword) -> bool
         ensures { result ≡ may_stand_at self.now word }
     {
         match self {
-            Place::Defining => matches!(
+            Section::Defining => matches!(
                 word,
                 Keyword::Create
                     | Keyword::Insert
@@ -65,11 +65,11 @@ impl Place {
                     | Keyword::Schedule
                     | Keyword::End
             ),
-            Place::Between(_) => matches!(
+            Section::Between(_) => matches!(
                 word,
                 Keyword::Begin | Keyword::Session | Keyword::Schedule | Keyword::End
             ),
-            Place::Within(_, _) => matches!(
+            Section::Within(_, _) => matches!(
                 word,
                 Keyword::Select
                     | Keyword::Insert
@@ -78,7 +78,7 @@ impl Place {
                     | Keyword::Commit
                     | Keyword::Rollback
             ),
-            Place::Scheduled => matches!(word, Keyword::End),
+            Section::Scheduled => matches!(word, Keyword::End),
         }
     }
 }
@@ -88,18 +88,19 @@ impl SoFar {
     fn insert(
         &mut self,
         alloc: Global,
-        script: &[u8],
-        options: &Options,
-        ast: &Ast,
+        input: &Input,
+        ast: &Statement,
         table: Span,
         values: &[Literal],
     ) -> Result<Option<Code>, AllocError>
         requires { statement_of ast.now ≡ Insert table values.now }
-        ensures { IfOk result (λ code. Takes code (insert_code_at script.now options.now self.old self.old.place (statement_of ast.now) table values.now) self.new (with_insert script.now self.old self.old.place (statement_of ast.now) table values.now)) }
+        ensures { IfOk result (λ code. Takes code (insert_code_at input.now.script.now input.now.options.now self.old self.old.section
+            (statement_of ast.now) table values.now) self.new
+            (with_insert input.now.script.now self.old self.old.section (statement_of ast.now) table values.now)) }
     {
-        match self.place {
-            Place::Within(_, _) => self.statement(alloc, script, ast),
-            _ => self.first_row(alloc, script, options, ast, table, values),
+        match self.section {
+            Section::Within(_, _) => self.statement(alloc, input.script, ast),
+            _ => self.first_row(alloc, input, ast, table, values),
         }
     }
 
@@ -107,81 +108,76 @@ impl SoFar {
     fn take(
         &mut self,
         alloc: Global,
-        script: &[u8],
-        options: &Options,
-        ast: &Ast,
+        input: &Input,
+        ast: &Statement,
     ) -> Result<Option<Code>, AllocError>
-        ensures { IfOk result (λ code. Takes code (refusal_of script.now options.now self.old (statement_of ast.now)) self.new (after script.now self.old (statement_of ast.now))) }
+        ensures { IfOk result (λ code. Takes code (refusal_of input.now.script.now input.now.options.now self.old (statement_of ast.now)) self.new
+            (after input.now.script.now self.old (statement_of ast.now))) }
     {
         match ast {
-            Ast::Create { table, columns } => {
-                self.create(alloc, script, *table, columns.as_slice())
+            Statement::Create { table, columns } => {
+                self.create(alloc, input.script, *table, columns.as_slice())
             }
-            Ast::Insert { table, values } => {
-                self.insert(alloc, script, options, ast, *table, values.as_slice())
+            Statement::Insert { table, values } => {
+                self.insert(alloc, input, ast, *table, values.as_slice())
             }
-            Ast::Session { name } => self.session(alloc, script, *name),
-            Ast::Begin { read_only } => Ok(self.begin(alloc, *read_only)),
-            Ast::Commit => {
+            Statement::Session { name } => self.session(alloc, input.script, *name),
+            Statement::Begin { read_only } => Ok(self.begin(alloc, *read_only)),
+            Statement::Commit => {
                 self.close(true)?;
                 Ok(None)
             }
-            Ast::Rollback => {
+            Statement::Rollback => {
                 self.close(false)?;
                 Ok(None)
             }
-            Ast::Select(_) => self.statement(alloc, script, ast),
-            Ast::Update { .. } => self.statement(alloc, script, ast),
-            Ast::Delete { .. } => self.statement(alloc, script, ast),
-            Ast::Schedule { turns } => self.schedule(alloc, script, turns.as_slice()),
-            Ast::End => Ok(None),
+            Statement::Select(_) => self.statement(alloc, input.script, ast),
+            Statement::Update { .. } => self.statement(alloc, input.script, ast),
+            Statement::Delete { .. } => self.statement(alloc, input.script, ast),
+            Statement::Schedule { turns } => self.schedule(alloc, input.script, turns.as_slice()),
+            Statement::End => Ok(None),
         }
     }
 
-    /// Takes the statement that begins at a place and ends at another.
+    /// Takes the statement that begins at an offset and ends at another.
     fn accept(
         &mut self,
         alloc: Global,
-        script: &[u8],
-        options: &Options,
-        ast: &Ast,
+        input: &Input,
+        ast: &Statement,
         at: usize,
         end: usize,
     ) -> Result<Step, Halt>
-        requires { (at < end) × (end ≤ length script.now) }
-        ensures comes { Comes result (unless_refused (refusal_in script.now options.now self.old (statement_of ast.now)) at (taken script.now options.now self.old (statement_of ast.now) end)) options.now self.new }
-        ensures goes { IfOk result (λ step. Goes at (length script.now) step) }
+        requires { (at < end) × (end ≤ length input.now.script.now) }
+        ensures comes { Comes result (unless_refused (refusal_in input.now.script.now input.now.options.now self.old (statement_of ast.now)) at
+            (taken input.now.script.now input.now.options.now self.old (statement_of ast.now) end)) input.now.options.now self.new }
+        ensures goes { IfOk result (λ step. Goes at (length input.now.script.now) step) }
     {
-        if self.is_outside(options.dialect, ast) {
+        if self.is_outside(input.options.dialect, ast) {
             return Err(Halt::Refused {
                 code: Code::Syntax,
                 at,
             });
         }
-        if let Some(code) = self.take(alloc, script, options, ast)? {
+        if let Some(code) = self.take(alloc, input, ast)? {
             return Err(Halt::Refused { code, at });
         }
         if is_last(ast) {
-            at_end(script, end)?;
+            at_end(input.script, end)?;
             return Ok(Step::End);
         }
         Ok(Step::GoOn(end))
     }
 
-    /// Reads the statement that begins with the token at a place.
-    fn statement_at(
-        &mut self,
-        alloc: Global,
-        script: &[u8],
-        options: &Options,
-        at: usize,
-    ) -> Result<Step, Halt>
-        requires { at ≤ length script.now }
-        ensures comes { Comes result (judged script.now options.now self.old at (parsed script.now at)) options.now self.new }
-        ensures goes { IfOk result (λ step. Goes at (length script.now) step) }
+    /// Reads the statement that begins with the token at an offset.
+    fn statement_at(&mut self, alloc: Global, input: &Input, at: usize) -> Result<Step, Halt>
+        requires { at ≤ length input.now.script.now }
+        ensures comes { Comes result (judged input.now.script.now input.now.options.now self.old at (parsed input.now.script.now at)) input.now.options.now
+            self.new }
+        ensures goes { IfOk result (λ step. Goes at (length input.now.script.now) step) }
     {
-        match parse(alloc, script, at) {
-            Ok((ast, end)) => self.accept(alloc, script, options, &ast, at, end),
+        match parse(alloc, input.script, at) {
+            Ok((ast, end)) => self.accept(alloc, input, &ast, at, end),
             Err(ParseError::Syntax { at }) => Err(Halt::Refused {
                 code: Code::Syntax,
                 at,
@@ -194,26 +190,20 @@ impl SoFar {
         }
     }
 
-    /// Reads the statement that stands at a place.
-    pub fn step(
-        &mut self,
-        alloc: Global,
-        script: &[u8],
-        options: &Options,
-        at: usize,
-    ) -> Result<Step, Halt>
-        requires { at ≤ length script.now }
-        ensures comes { Comes result (next_at script.now options.now self.old at) options.now self.new }
-        ensures goes { IfOk result (λ step. Goes at (length script.now) step) }
+    /// Reads the statement that stands at an offset.
+    pub fn step(&mut self, alloc: Global, input: &Input, at: usize) -> Result<Step, Halt>
+        requires { at ≤ length input.now.script.now }
+        ensures comes { Comes result (next_at input.now.script.now input.now.options.now self.old at) input.now.options.now self.new }
+        ensures goes { IfOk result (λ step. Goes at (length input.now.script.now) step) }
     {
-        match next(script, at) {
+        match next(input.script, at) {
             Err(bad) => Err(Halt::Refused {
                 code: Code::BadToken,
                 at: bad.at,
             }),
             Ok((Token::Reserved(word), span)) => {
-                if self.place.may_stand(word) {
-                    self.statement_at(alloc, script, options, span.start)
+                if self.section.may_stand(word) {
+                    self.statement_at(alloc, input, span.start)
                 } else {
                     Err(Halt::Refused {
                         code: Code::Syntax,
@@ -233,8 +223,8 @@ impl SoFar {
     }
 }
 
-/// The statement that begins with the token at a place, and where it ends.
-fn parse(alloc: Global, script: &[u8], at: usize) -> Result<(Ast, usize), ParseError>
+/// The statement that begins with the token at an offset, and where it ends.
+fn parse(alloc: Global, script: &[u8], at: usize) -> Result<(Statement, usize), ParseError>
     requires { at ≤ length script.now }
     ensures statement { Gives (λ found. (statement_of found.0, found.1)) result (parsed script.now at) }
     ensures moves { IfOk result (λ found. (at < found.1) × (found.1 ≤ length script.now)) }
@@ -244,10 +234,10 @@ fn parse(alloc: Global, script: &[u8], at: usize) -> Result<(Ast, usize), ParseE
 }
 
 /// Whether a statement is END.
-fn is_last(ast: &Ast) -> bool
+fn is_last(ast: &Statement) -> bool
     ensures { result ≡ is_last_of (statement_of ast.now) }
 {
-    matches!(ast, Ast::End)
+    matches!(ast, Statement::End)
 }
 
 /// Nothing stands behind END, or the script is refused.
@@ -275,10 +265,10 @@ fn feeds(bytes: &[u8]) -> usize
     bytes.iter().filter(|b| **b == 10).count()
 }
 
-/// The line of a place.
+/// The line of an offset.
 #[tactic(auto, using(crate::proofs::Lines::whole))]
 pub fn line_of(script: &[u8], at: usize) -> u64
-    ensures { result ≡ line_of_place script.now at }
+    ensures { result ≡ line_at script.now at }
 {
     let feeds = if at < script.len() {
         feeds(&script[..at])

@@ -1,7 +1,7 @@
 //! The first rows of a table.
 
 ghost use Rattle.std.specs.Prelude.{◌≡◌, [], OnOk};
-ghost use Rattle.hy_script.specs.Stocks.{has_key, with_row, value_in};
+ghost use Rattle.hy_script.specs.Stocks.{key_there, with_row, value_in};
 
 use hy_bound::Rows;
 use hy_value::{Row, Seq, Value, ValueSet};
@@ -32,7 +32,7 @@ impl Stock {
 
     /// Whether a row that is there has the key of this one.
     pub fn has_key(&self, row: &Row) -> bool
-        ensures { result ≡ has_key self.now row.now }
+        ensures { result ≡ key_there self.now row.now }
     {
         match self.key {
             Some(key) => self.keys.has(&key_value(row, key)),

@@ -1,3 +1,4 @@
+-- Labels of transactions and their identifiers.
 use Rattle.std.specs.Prelude.{ℕ, ◌+◌, ◌*◌, ◌^◌, ◌<◌}
 use Rattle.hy_stamp.specs.declared.Label.{Label}
 

@@ -1,6 +1,6 @@
 //! One row for each call of the crates that read scripts, with ample memory.
 
-use hy_ast::Ast;
+use hy_ast::Statement;
 use hy_bind::{BindError, BindFault, bind};
 use hy_parse::{ParseError, parse_statement};
 use hy_schema::{AddError, Catalog, Column, TableDef};
@@ -92,7 +92,10 @@ fn fault(alloc: Global, text: &str) -> Result<Option<BindFault>, Fail> {
         .ok()
         .ok_or("it is a statement")?;
     match ast {
-        Ast::Insert { .. } | Ast::Select(_) | Ast::Update { .. } | Ast::Delete { .. } => {}
+        Statement::Insert { .. }
+        | Statement::Select(_)
+        | Statement::Update { .. }
+        | Statement::Delete { .. } => {}
         _ => return Err(Fail::from("a statement of a transaction")),
     }
     match bind(alloc, text.as_bytes(), &catalog, &ast) {

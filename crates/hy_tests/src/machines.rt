@@ -1,9 +1,10 @@
 //! The machine step by step, and the records of reads.
 
 use crate::given::{compare, number_row, set_number};
-use hy_bound::{Bound, Item, Items, Shape, Shapes, Statements, Txn, Txns};
+use hy_bound::{Bound, Items, Shape, Shapes, Statements, Txn, Txns};
 use hy_machine::{Machine, Setting, Stepped, opening, outcome, step};
 use hy_render::Ending;
+use hy_schedule::Item;
 use hy_stamp::Label;
 use hy_value::{Cmp, Seq};
 use std::alloc::{AllocError, Global};
@@ -110,7 +111,7 @@ fn a_reader_is_blocked_between_entry_and_end(rt: HostRuntime) -> Result<(), Fail
     let came_to = outcome(alloc, &setting, &machine)?;
     let endings = came_to.txns.as_slice();
     assert_eq!(rt; endings.len(), 2);
-    assert!(rt; endings[0].ending == Ending::Committed { place: 0 });
+    assert!(rt; endings[0].ending == Ending::Committed { rank: 0 });
     assert!(rt; endings[1].ending == Ending::Read);
     Ok(())
 }

@@ -53,7 +53,9 @@ SESSION b; BEGIN; SELECT n FROM t WHERE n > 0; COMMIT; SCHEDULE a! a! a! b! b! b
     assert_eq!(rt; status, 0);
     assert_eq!(rt;
         text.as_slice(),
-        b"txn a.1 start 0\nupdated 1\ncommitted 0\nwrote t 0\ntxn b.1 start 1\nrows 1\nrow 5\nread\norder 1\nentry 0 a.1\nchange t 0 from 1 to 5\ntable t 1\nrow 5\nend\n".as_slice()
+        b"txn a.1 start 0\nupdated 1\ncommitted 0\nwrote t 0\ntxn b.1 start 1\nrows 1\nrow 5\nread\norder 1\n\
+        entry 0 a.1\nchange t 0 from 1 to 5\ntable t 1\nrow 5\nend\n"
+            .as_slice()
     );
     Ok(())
 }
@@ -71,7 +73,10 @@ SCHEDULE c! b! a! a! a! b! c! c!; END;",
     assert_eq!(rt; status, 0);
     assert_eq!(rt;
         text.as_slice(),
-        b"txn a.1 start 0\nupdated 1\ncommitted 0\nwrote t 0\ntxn b.1 start 0\nrows 2\nrow 1\nrow 3\nread\ntxn c.1 start 0\nrows 1\nrow 3\nrows 1\nrow 1\nread\norder 1\nentry 0 a.1\nchange t 0 from 1 to 5\ntable t 2\nrow 3\nrow 5\nend\n".as_slice()
+        b"txn a.1 start 0\nupdated 1\ncommitted 0\nwrote t 0\ntxn b.1 start 0\nrows 2\nrow 1\nrow 3\nread\n\
+        txn c.1 start 0\nrows 1\nrow 3\nrows 1\nrow 1\nread\norder 1\nentry 0 a.1\nchange t 0 from 1 to 5\ntable t 2\n\
+        row 3\nrow 5\nend\n"
+            .as_slice()
     );
     Ok(())
 }
@@ -102,7 +107,9 @@ SESSION b; BEGIN; SELECT n FROM t WHERE n > 0; COMMIT; SCHEDULE a! a! a! a! a! a
     assert_eq!(rt; status, 0);
     assert_eq!(rt;
         text.as_slice(),
-        b"txn a.1 start 0\nupdated 1\nrows 2\nrow 2\nrow 9\ncommitted 0\nwrote t 1\ntxn b.1 start 1\nrows 2\nrow 2\nrow 9\nread\norder 1\nentry 0 a.1\nchange t 1 from 1 to 9\ntable t 2\nrow 2\nrow 9\nend\n".as_slice()
+        b"txn a.1 start 0\nupdated 1\nrows 2\nrow 2\nrow 9\ncommitted 0\nwrote t 1\ntxn b.1 start 1\nrows 2\nrow 2\n\
+        row 9\nread\norder 1\nentry 0 a.1\nchange t 1 from 1 to 9\ntable t 2\nrow 2\nrow 9\nend\n"
+            .as_slice()
     );
     Ok(())
 }

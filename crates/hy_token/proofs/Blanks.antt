@@ -1,4 +1,4 @@
--- Where spaces and comments end, by the place in the bytes.
+-- Where spaces and comments end, by the offset in the bytes.
 use Rattle.std.proofs.Common.{◌≡◌, ℕ, ◌+◌, ◌≤◌, Bool, true, false, List, [], ◌∷◌, length, length-drop, drop-drop, drop, refl, ap, sym, ◌∙◌, subst, suc, arith, nat_eq}
 use Rattle.std.specs.Prelude.{codes}
 use Rattle.std.specs.List.{prefix_len, starts_with}

@@ -1,5 +1,4 @@
 pub mod Blanks
 pub mod Progress
 pub mod RunSteps
-pub mod Spellings
 pub mod Texts

@@ -8,7 +8,7 @@ use Rattle.std.proofs.lemmas.Slice.Eq.{bytes_eq-Decides}
 use Rattle.std.proofs.lemmas.List.Sums.{prefix_len-le-length}
 use Rattle.hy_token.specs.Keyword.{keyword_of}
 use Rattle.hy_token.specs.Lengths.{is_space, blank_from, blank_len, begins_word, continues_word, word_len, text_rest_len}
-use Rattle.hy_token.specs.Sign.{sign_of, signs, spelling}
+use Rattle.hy_token.specs.Sign.{sign_of, signs, sign_spelling}
 use Rattle.hy_token.specs.Token.{first_word, first_text, first_sign, first_token, placed, lexed, token_at, MovesOn, LiesWithin, moved_on}
 use Rattle.hy_token.specs.declared.Bad.{Bad}
 use Rattle.hy_token.specs.declared.Keyword.{Keyword}
@@ -93,17 +93,17 @@ front_within bs front h =
     let same = ap length ((bytes_eq-Decides front (take (length front) bs)).0 h) in
     omega (arith, same, length-take (length front) bs)
 
-spelling_some : (s : TheSign) → 0 < length (spelling s)
+spelling_some : (s : TheSign) → 0 < length (sign_spelling s)
 spelling_some sign.LeftParen = omega arith
 spelling_some _ = omega arith
 
-sign_takes : (bs : List ℕ) (o : Option TheSign) → 0 < length bs → IfSome o (λ s. starts_with nat_eq bs (spelling s) ≡ true) → Measured bs (option_map (λ s. (Sign s, length (spelling s))) o)
+sign_takes : (bs : List ℕ) (o : Option TheSign) → 0 < length bs → IfSome o (λ s. starts_with nat_eq bs (sign_spelling s) ≡ true) → Measured bs (option_map (λ s. (Sign s, length (sign_spelling s))) o)
 sign_takes bs None some stands = some
-sign_takes bs (Some s) some stands = (spelling_some s, front_within bs (spelling s) stands)
+sign_takes bs (Some s) some stands = (spelling_some s, front_within bs (sign_spelling s) stands)
 
 first_sign-Measured : (b : ℕ) (bs : List ℕ) → Measured (b ∷ bs) (first_sign (b ∷ bs))
 unfolding sign_of
-first_sign-Measured b bs = sign_takes (b ∷ bs) (sign_of (b ∷ bs)) (omega arith) (find_passes (λ s. starts_with nat_eq (b ∷ bs) (spelling s)) signs)
+first_sign-Measured b bs = sign_takes (b ∷ bs) (sign_of (b ∷ bs)) (omega arith) (find_passes (λ s. starts_with nat_eq (b ∷ bs) (sign_spelling s)) signs)
 
 pub first_token-Measured : (bs : List ℕ) → Measured bs (first_token bs)
 unfolding first_token
@@ -122,7 +122,7 @@ takes_within bs _ n takes = takes.1
 pub found_within : (bs : List ℕ) (found : Token × ℕ) → first_token bs ≡ Some found → found.1 ≤ length bs
 found_within bs found is = takes_within bs found.0 found.1 (subst (Measured bs) is (first_token-Measured bs))
 
--- what is known of the answer for the bytes that are left at a place
+-- what is known of the answer for the bytes that are left at an offset
 abbrev pub Outcome : ℕ → ℕ → Result (Token × Span) Bad → Type 0
 Outcome len at r = MatchResult r (λ found. MovesOn len at found.0 found.1) (λ bad. (at ≤ bad.at) × (bad.at < len))
 
@@ -135,7 +135,7 @@ placed-Outcome : (len at start : ℕ) (bs : List ℕ) (found : Option (Token × 
 placed-Outcome len at start bs None after left takes = (after, omega (arith, takes))
 placed-Outcome len at start bs (Some found) after left takes = placed_token len at start bs found.0 found.1 after left takes
 
--- the next token stands in the script after the place, and moves on if it is not the end
+-- the next token stands in the script after the offset, and moves on if it is not the end
 pub token_at-Outcome : (bytes : List ℕ) (at : ℕ) → at ≤ length bytes → Outcome (length bytes) at (token_at bytes at)
 unfolding lexed
 token_at-Outcome bytes at in_range =

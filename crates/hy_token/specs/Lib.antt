@@ -2,3 +2,4 @@ pub mod Keyword
 pub mod Lengths
 pub mod Sign
 pub mod Token
+pub mod Spellings

@@ -5,22 +5,22 @@ use Rattle.hy_token.specs.declared.Sign.{Sign}
 use Rattle.hy_token.specs.declared.Sign.TheVariants.{LeftParen, RightParen, Comma, Semicolon, Dot, Star, Plus, Minus, Bang, Equal, NotEqual, Less, LessEqual, Greater, GreaterEqual}
 
 -- how a sign is written
-abbrev pub spelling : Sign → List ℕ
-spelling LeftParen = codes "("
-spelling RightParen = codes ")"
-spelling Comma = codes ","
-spelling Semicolon = codes ";"
-spelling Dot = codes "."
-spelling Star = codes "*"
-spelling Plus = codes "+"
-spelling Minus = codes "-"
-spelling Bang = codes "!"
-spelling Equal = codes "="
-spelling NotEqual = codes "<>"
-spelling Less = codes "<"
-spelling LessEqual = codes "<="
-spelling Greater = codes ">"
-spelling GreaterEqual = codes ">="
+abbrev pub sign_spelling : Sign → List ℕ
+sign_spelling LeftParen = codes "("
+sign_spelling RightParen = codes ")"
+sign_spelling Comma = codes ","
+sign_spelling Semicolon = codes ";"
+sign_spelling Dot = codes "."
+sign_spelling Star = codes "*"
+sign_spelling Plus = codes "+"
+sign_spelling Minus = codes "-"
+sign_spelling Bang = codes "!"
+sign_spelling Equal = codes "="
+sign_spelling NotEqual = codes "<>"
+sign_spelling Less = codes "<"
+sign_spelling LessEqual = codes "<="
+sign_spelling Greater = codes ">"
+sign_spelling GreaterEqual = codes ">="
 
 -- every sign, those of two bytes before those of one
 abbrev pub signs : List Sign
@@ -28,4 +28,4 @@ signs = NotEqual ∷ LessEqual ∷ GreaterEqual ∷ LeftParen ∷ RightParen ∷
 
 -- the longest sign that stands first
 unfoldable pub sign_of : List ℕ → Option Sign
-sign_of bytes = find (λ sign. starts_with nat_eq bytes (spelling sign)) signs
+sign_of bytes = find (λ sign. starts_with nat_eq bytes (sign_spelling sign)) signs

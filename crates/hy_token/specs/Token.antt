@@ -4,7 +4,7 @@ use Rattle.std.specs.Option.{option_map, option_map_or}
 use Rattle.std.specs.Char.{is_ascii_digit}
 use Rattle.hy_token.specs.Keyword.{keyword_of}
 use Rattle.hy_token.specs.Lengths.{blank_len, begins_word, word_len, digits_len, text_rest_len}
-use Rattle.hy_token.specs.Sign.{sign_of, spelling}
+use Rattle.hy_token.specs.Sign.{sign_of, sign_spelling}
 use Rattle.hy_token.specs.declared.Bad.{Bad}
 use Rattle.hy_token.specs.declared.Span.{Span}
 use Rattle.hy_token.specs.declared.Token.{Token}
@@ -26,7 +26,7 @@ first_text bytes = option_map (λ len. (Text, 1 + len)) (text_rest_len (drop 1 b
 
 -- the longest sign that stands first
 abbrev pub first_sign : List ℕ → Option (Token × ℕ)
-first_sign bytes = option_map (λ sign. (Sign sign, length (spelling sign))) (sign_of bytes)
+first_sign bytes = option_map (λ sign. (Sign sign, length (sign_spelling sign))) (sign_of bytes)
 
 -- The token that stands first, where no space and no comment does, and how many bytes it takes; none
 -- where it is bad. 39 is the quote.
@@ -38,7 +38,7 @@ first_token (b ∷ bs) =
     else (if b == 39 then first_text (b ∷ bs)
     else first_sign (b ∷ bs)))
 
--- a token with the place where it stands, or the place of a bad one
+-- a token with the offset where it stands, or the offset of a bad one
 abbrev pub placed : ℕ → Option (Token × ℕ) → Result (Token × Span) Bad
 placed start None = Err (record { at = start })
 placed start (Some found) = Ok (found.0, record { start = start; end = start + found.1 })
@@ -47,17 +47,17 @@ placed start (Some found) = Ok (found.0, record { start = start; end = start + f
 unfoldable pub lexed : ℕ → List ℕ → Result (Token × Span) Bad
 lexed at rest = placed (at + blank_len rest) (first_token (drop (blank_len rest) rest))
 
--- the next token of a script from a place on
+-- the next token of a script from an offset on
 abbrev pub token_at : List ℕ → ℕ → Result (Token × Span) Bad
 token_at bytes at = lexed at (drop at bytes)
 
--- Where a token stands in a script of `len` bytes, from the place `at` on: the end where nothing is
+-- Where a token stands in a script of `len` bytes, from the offset `at` on: the end where nothing is
 -- left, and any other token over one byte or more.
 abbrev pub MovesOn : ℕ → ℕ → Token → Span → Type 0
 MovesOn len at End span = (at ≤ len) × (span.start ≡ len) × (span.end ≡ len)
 MovesOn len at _ span = (at ≤ span.start) × (span.start < span.end) × (span.end ≤ len)
 
--- a span within a script of `len` bytes, from the place `at` on
+-- a span within a script of `len` bytes, from the offset `at` on
 pub record LiesWithin (len at : ℕ) (span : Span) : Type 0 where
   pub after : at ≤ span.start
   pub ordered : span.start ≤ span.end

@@ -1,7 +1,7 @@
 // The reserved words and their spelling.
 
 ghost use Rattle.std.specs.Prelude.{◌≡◌};
-ghost use Rattle.hy_token.specs.Keyword.{spelling, same_but_case, keyword_of};
+ghost use Rattle.hy_token.specs.Keyword.{word_spelling, same_but_case, keyword_of};
 
 use crate::Keyword;
 
@@ -55,7 +55,7 @@ fn is_same_but_case(a: &[u8], b: &[u8]) -> bool
 impl Keyword {
     /// The word in capital letters.
     pub fn spelling(self) -> &'static str
-        ensures { result.now ≡ spelling self }
+        ensures { result.now ≡ word_spelling self }
     {
         match self {
             Keyword::And => "AND",

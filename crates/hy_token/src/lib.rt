@@ -1,12 +1,12 @@
-//! The tokens of a script: the lexical grammar, and a function that gives the next token from a place
-//! on. A script is UTF-8 text, seen as its bytes, and places are byte offsets into it.
+//! The tokens of a script: the lexical grammar, and a function that gives the next token from an offset
+//! on. A script is UTF-8 text, seen as its bytes, and offsets into it count bytes.
 #![tactic(auto)]
 
 ghost use Rattle.std.specs.Prelude.{◌≡◌, ◌+◌, ◌<◌, ◌≤◌, ℕ, List, length, drop, IfOk, IfErr, MatchResult};
 ghost use Rattle.hy_token.specs.declared.Keyword.{Keyword};
 ghost use Rattle.hy_token.specs.declared.Sign.{Sign};
-ghost use Rattle.hy_token.specs.Keyword.{keyword_of, spelling as word_spelling};
-ghost use Rattle.hy_token.specs.Sign.{sign_of, spelling as sign_spelling};
+ghost use Rattle.hy_token.specs.Keyword.{keyword_of, word_spelling};
+ghost use Rattle.hy_token.specs.Sign.{sign_of, sign_spelling};
 ghost use Rattle.hy_token.specs.Token.{token_at, moved_on, MovesOn, LiesWithin};
 
 mod keywords;
@@ -117,7 +117,7 @@ pub enum Token {
     End,
 }
 
-/// Why there is no next token: what stands at a place is none.
+/// Why there is no next token: what stands at an offset is none.
 #[derive(Clone, Copy, Debug, PartialEq, Eq)]
 pub struct Bad {
     /// A byte offset into the script.
@@ -136,13 +136,14 @@ pub fn next(bytes: &[u8], at: usize) -> Result<(Token, Span), Bad>
     tokens::token_at(bytes, at)
 }
 
-/// A law: the next token stands in the script from the place on, at its end just where nothing is
+/// A law: the next token stands in the script from the offset on, at its end just where nothing is
 /// left, and else over one byte or more; a bad one is at a byte of the script.
 pub fn tokens_move_on()
-    ensures { (bytes : List ℕ) (at : ℕ) → at ≤ length bytes → MatchResult (token_at bytes at) (λ found. MovesOn (length bytes) at found.0 found.1) (λ bad. (at ≤ bad.at) × (bad.at < length bytes)) }
+    ensures { (bytes : List ℕ) (at : ℕ) → at ≤ length bytes
+        → MatchResult (token_at bytes at) (λ found. MovesOn (length bytes) at found.0 found.1) (λ bad. (at ≤ bad.at) × (bad.at < length bytes)) }
 {}
 
-/// A law: the next token depends on nothing before its place, which only shifts it.
+/// A law: the next token depends on nothing before its offset, which only shifts it.
 pub fn tokens_are_local()
     ensures same { (xs ys : List ℕ) (at : ℕ) → drop at xs ≡ drop at ys → token_at xs at ≡ token_at ys at }
     ensures shifted { (xs ys : List ℕ) (k at : ℕ) → drop (k + at) xs ≡ drop at ys → token_at xs (k + at) ≡ moved_on k (token_at ys at) }

@@ -1,7 +1,7 @@
 // The signs and their spelling.
 
 ghost use Rattle.std.specs.Prelude.{◌≡◌};
-ghost use Rattle.hy_token.specs.Sign.{spelling, sign_of};
+ghost use Rattle.hy_token.specs.Sign.{sign_spelling, sign_of};
 
 use crate::Sign;
 
@@ -27,7 +27,7 @@ const SIGNS: [Sign; 15] = [
 impl Sign {
     /// How the sign is written.
     pub fn spelling(self) -> &'static str
-        ensures { result.now ≡ spelling self }
+        ensures { result.now ≡ sign_spelling self }
     {
         match self {
             Sign::LeftParen => "(",

@@ -2,7 +2,7 @@
 use Rattle.std.proofs.Common.{◌≡◌, ℕ, ◌+◌, ◌<◌, ◌≤◌, List, [], Option, None, Some, Result, Ok, Err, IsNone, IsSome, IfSome, length, refl, ap, sym, ◌∙◌, subst, arith, ◌⊎◌, inl, inr}
 use Rattle.std.proofs.Math.Logic.{⊎_elim}
 use Rattle.std.proofs.lemmas.List.{take_all, drop_all, length-take-le}
-use Rattle.hy_bound.specs.declared.Item.{Item}
+use Rattle.hy_schedule.specs.declared.Item.{Item}
 use Rattle.hy_outside.specs.Telling.{GivesAll, GivesPast}
 use Rattle.hy_script.specs.declared.Script.{Script}
 use Rattle.hy_script.specs.declared.Refused.{Refused}
@@ -17,11 +17,12 @@ use Rattle.hy_lawful.specs.Lawful.{Lawful}
 use Rattle.hy_lawful.specs.FirstForm.{IsFirstForm, IsOfWholeStatements}
 use Rattle.hy_words.specs.declared.Command.{Command}
 use Rattle.hy_words.specs.declared.Command.TheVariants.{Run, Check}
-use Rattle.hy_top.specs.Lines.{refusal_line}
-use Rattle.hy_top.specs.Program.{most_bytes, bytes_read, bytes_left, options_of}
-use Rattle.hy_top.specs.Settings.{setting_of}
+use Rattle.hy_top.specs.Lines.{refusal_line_of}
+use Rattle.hy_top.specs.Program.{bytes_read, bytes_left, options_by}
+use Rattle.hy_top.specs.Settings.{setting_at}
 use Rattle.hy_script.specs.declared.Dialect.TheVariants.{FirstForm}
 use Rattle.hy_top.specs.Reports.{IsRefused, Spells, IsRun, Writes, Answers, Runs, Checks, Does}
+use Rattle.hy_limits.specs.declared.TheConstants.{MOST_BYTES}
 
 none_is : (o : Option Outcome) → IsNone o → o ≡ None
 none_is None h = refl
@@ -49,7 +50,7 @@ same_refusal : (s t : Refused) → ◌≡◌ {A = Result Script Refused} (Err s)
 same_refusal s t h = cc
 
 abbrev IsLawful : Script → Option Outcome → Type 0
-IsLawful script given = IfSome given (λ o. Lawful (setting_of script).shapes script.rows (setting_of script).programs o)
+IsLawful script given = IfSome given (λ o. Lawful (setting_at script).shapes script.rows (setting_at script).programs o)
 
 no_outcome : (script : Script) (given : Option Outcome) → IsNone given → IsLawful script given
 no_outcome script None h = tt
@@ -57,13 +58,13 @@ no_outcome script (Some o) h = absurd (none_is_not_some (Some o) h (let some : I
 
 -- a refusal is an answer to what is refused
 pub refused_answers : (command : Command) (bytes : List ℕ) (why : Refused) (status : ℕ) (given : Option Outcome) (before after : Option (List ℕ)) → Once → IsRefused command bytes why
-    → ((status ≡ 5) ⊎ Writes 2 status before after (refusal_line why)) → IsNone given → Answers command bytes status given before after
+    → ((status ≡ 5) ⊎ Writes 2 status before after (refusal_line_of why)) → IsNone given → Answers command bytes status given before after
 refused_answers command bytes why status given before after once is w nothing =
     record {
-      refused = λ other h. subst (λ (x : Refused). (status ≡ 5) ⊎ Writes 2 status before after (refusal_line x)) (same_refusal why other (once bytes (options_of command) (Err why) (Err other) is h)) w;
+      refused = λ other h. subst (λ (x : Refused). (status ≡ 5) ⊎ Writes 2 status before after (refusal_line_of x)) (same_refusal why other (once bytes (options_by command) (Err why) (Err other) is h)) w;
       refuses = λ h. (why, is);
-      does = λ script s. absurd (not_both script why (once bytes (options_of command) (Ok script) (Err why) s is));
-      lawful = λ script s. absurd (not_both script why (once bytes (options_of command) (Ok script) (Err why) s is));
+      does = λ script s. absurd (not_both script why (once bytes (options_by command) (Ok script) (Err why) s is));
+      lawful = λ script s. absurd (not_both script why (once bytes (options_by command) (Ok script) (Err why) s is));
       outcome_there = λ h. absurd (none_is_not_some given nothing h);
     }
 
@@ -72,12 +73,12 @@ abbrev pub Theorem : Type 0
 Theorem = (setting : Setting) (schedule : List Item) → IsFirstForm setting → IsOfWholeStatements schedule → Lawful setting.shapes setting.first setting.programs (outcome setting (run setting schedule))
 
 abbrev pub ReadsFirst : Command → List ℕ → Type 0
-ReadsFirst command bytes = (script : Script) → IsRun command → Spells command bytes script → IsFirstForm (setting_of script) × IsOfWholeStatements script.schedule
+ReadsFirst command bytes = (script : Script) → IsRun command → Spells command bytes script → IsFirstForm (setting_at script) × IsOfWholeStatements script.schedule
 
 -- what is read to be run is of the first form
-pub reads_first : (command : Command) (bytes : List ℕ) → ((all : List ℕ) (options : Options) (script : Script) → options.dialect ≡ FirstForm → Reads all options (Ok script) → IsFirstForm (setting_of script) × IsOfWholeStatements script.schedule)
+pub reads_first : (command : Command) (bytes : List ℕ) → ((all : List ℕ) (options : Options) (script : Script) → options.dialect ≡ FirstForm → Reads all options (Ok script) → IsFirstForm (setting_at script) × IsOfWholeStatements script.schedule)
     → ReadsFirst command bytes
-reads_first (Run prune chunks rows) bytes law script run s = law bytes (options_of (Run prune chunks rows)) script refl s
+reads_first (Run prune chunks rows) bytes law script run s = law bytes (options_by (Run prune chunks rows)) script refl s
 reads_first (Check chunks rows) bytes law script run s = absurd run
 
 -- nothing was done for want of memory
@@ -99,14 +100,14 @@ ran_answers : (prune : _) (chunks rows : ℕ) (bytes : List ℕ) (script : Scrip
     → Spells (Run prune chunks rows) bytes script → Runs script status given before after → Answers (Run prune chunks rows) bytes status given before after
 ran_answers prune chunks rows bytes script status given before after once law first s ran =
     let ends : (status ≡ 0) ⊎ (status ≡ 4) = done_or_four 0 status before after _ ran.writes in
-    let only : (other : Script) → Spells (Run prune chunks rows) bytes other → script ≡ other = λ other t. same_script script other (once bytes (options_of (Run prune chunks rows)) (Ok script) (Ok other) s t) in
+    let only : (other : Script) → Spells (Run prune chunks rows) bytes other → script ≡ other = λ other t. same_script script other (once bytes (options_by (Run prune chunks rows)) (Ok script) (Ok other) s t) in
     let is_first = first script tt s in
     record {
-      refused = λ why h. absurd (not_both script why (once bytes (options_of (Run prune chunks rows)) (Ok script) (Err why) s h));
+      refused = λ why h. absurd (not_both script why (once bytes (options_by (Run prune chunks rows)) (Ok script) (Err why) s h));
       refuses = λ h. absurd (not_two status ends h);
       does = λ other t. inr (subst (λ (x : Script). Runs x status given before after) (only other t) ran);
       lawful = λ other t. subst (λ (x : Script). IsLawful x given) (only other t)
-          (subst (λ (o : Option Outcome). IsLawful script o) (sym ran.outcome_is) (law (setting_of script) script.schedule is_first.0 is_first.1));
+          (subst (λ (o : Option Outcome). IsLawful script o) (sym ran.outcome_is) (law (setting_at script) script.schedule is_first.0 is_first.1));
       outcome_there = λ h. (tt, (script, s), ends);
     }
 
@@ -115,9 +116,9 @@ checked_answers : (chunks rows : ℕ) (bytes : List ℕ) (script : Script) (stat
     → Spells (Check chunks rows) bytes script → Checks script status given before after → Answers (Check chunks rows) bytes status given before after
 checked_answers chunks rows bytes script status given before after once s done =
     let ends : (status ≡ 0) ⊎ (status ≡ 4) = done_or_four 0 status before after _ done.writes in
-    let only : (other : Script) → Spells (Check chunks rows) bytes other → script ≡ other = λ other t. same_script script other (once bytes (options_of (Check chunks rows)) (Ok script) (Ok other) s t) in
+    let only : (other : Script) → Spells (Check chunks rows) bytes other → script ≡ other = λ other t. same_script script other (once bytes (options_by (Check chunks rows)) (Ok script) (Ok other) s t) in
     record {
-      refused = λ why h. absurd (not_both script why (once bytes (options_of (Check chunks rows)) (Ok script) (Err why) s h));
+      refused = λ why h. absurd (not_both script why (once bytes (options_by (Check chunks rows)) (Ok script) (Err why) s h));
       refuses = λ h. absurd (not_two status ends h);
       does = λ other t. inr (subst (λ (x : Script). Checks x status given before after) (only other t) done);
       lawful = λ other t. no_outcome other given done.nothing_is_run;
@@ -131,37 +132,37 @@ done_answers command bytes script status given before after once law first s (in
 done_answers (Run prune chunks rows) bytes script status given before after once law first s (inr ran) = ran_answers prune chunks rows bytes script status given before after once law first s ran
 done_answers (Check chunks rows) bytes script status given before after once law first s (inr done) = checked_answers chunks rows bytes script status given before after once s done
 
-whole_is_read : (all : List ℕ) → length all ≤ most_bytes → bytes_read all ≡ all
-whole_is_read all h = take_all (most_bytes + 1) all (omega arith)
+whole_is_read : (all : List ℕ) → length all ≤ MOST_BYTES → bytes_read all ≡ all
+whole_is_read all h = take_all (MOST_BYTES + 1) all (omega arith)
 
-nothing_is_left : (all : List ℕ) → length all ≤ most_bytes → bytes_left all ≡ []
-nothing_is_left all h = drop_all (most_bytes + 1) all (omega arith)
+nothing_is_left : (all : List ℕ) → length all ≤ MOST_BYTES → bytes_left all ≡ []
+nothing_is_left all h = drop_all (MOST_BYTES + 1) all (omega arith)
 
 -- what was read whole is what is read
-pub read_whole : (status : ℕ) (before after : Option (List ℕ)) (bytes : List ℕ) → GivesAll before after bytes → length bytes ≤ most_bytes
+pub read_whole : (status : ℕ) (before after : Option (List ℕ)) (bytes : List ℕ) → GivesAll before after bytes → length bytes ≤ MOST_BYTES
     → IfSome before (λ all. (status ≡ 3) ⊎ (status ≡ 5) ⊎ (after ≡ Some (bytes_left all)))
 read_whole status None after bytes h short = tt
 read_whole status (Some all) after bytes h short =
-    inr (inr (h.1 ∙ ap Some (sym (nothing_is_left all (subst (λ (b : List ℕ). length b ≤ most_bytes) h.0 short)))))
+    inr (inr (h.1 ∙ ap Some (sym (nothing_is_left all (subst (λ (b : List ℕ). length b ≤ MOST_BYTES) h.0 short)))))
 
-pub answers_whole : (command : Command) (status : ℕ) (given : Option Outcome) (old new : Option (List ℕ)) (before after : Option (List ℕ)) (bytes : List ℕ) → GivesAll before after bytes → length bytes ≤ most_bytes
+pub answers_whole : (command : Command) (status : ℕ) (given : Option Outcome) (old new : Option (List ℕ)) (before after : Option (List ℕ)) (bytes : List ℕ) → GivesAll before after bytes → length bytes ≤ MOST_BYTES
     → Answers command bytes status given old new → IfSome before (λ all. (status ≡ 3) ⊎ Answers command (bytes_read all) status given old new)
 answers_whole command status given old new None after bytes h short a = tt
 answers_whole command status given old new (Some all) after bytes h short a =
     inr (subst (λ (b : List ℕ). Answers command b status given old new)
-    (h.0 ∙ sym (whole_is_read all (subst (λ (b : List ℕ). length b ≤ most_bytes) h.0 short))) a)
+    (h.0 ∙ sym (whole_is_read all (subst (λ (b : List ℕ). length b ≤ MOST_BYTES) h.0 short))) a)
 
 -- what is too long is refused
 abbrev pub too_long_refusal : Refused
 too_long_refusal = record { line = 1; code = TooLong }
 
-cut_is_refused : (command : Command) (all : List ℕ) → most_bytes < length all → IsRefused command (bytes_read all) too_long_refusal
+cut_is_refused : (command : Command) (all : List ℕ) → MOST_BYTES < length all → IsRefused command (bytes_read all) too_long_refusal
 cut_is_refused command all long =
-    let so_long : length (bytes_read all) ≡ most_bytes + 1 = length-take-le (most_bytes + 1) all (omega arith) in
+    let so_long : length (bytes_read all) ≡ MOST_BYTES + 1 = length-take-le (MOST_BYTES + 1) all (omega arith) in
     too_long (omega (arith, so_long))
 
-pub answers_cut : (command : Command) (status : ℕ) (given : Option Outcome) (old new : Option (List ℕ)) (before after : Option (List ℕ)) → Once → GivesPast before after most_bytes
-    → ((status ≡ 5) ⊎ Writes 2 status old new (refusal_line too_long_refusal)) → IsNone given → IfSome before (λ all. (status ≡ 3) ⊎ Answers command (bytes_read all) status given old new)
+pub answers_cut : (command : Command) (status : ℕ) (given : Option Outcome) (old new : Option (List ℕ)) (before after : Option (List ℕ)) → Once → GivesPast before after MOST_BYTES
+    → ((status ≡ 5) ⊎ Writes 2 status old new (refusal_line_of too_long_refusal)) → IsNone given → IfSome before (λ all. (status ≡ 3) ⊎ Answers command (bytes_read all) status given old new)
 answers_cut command status given old new None after once h w nothing = tt
 answers_cut command status given old new (Some all) after once h w nothing =
     inr (refused_answers command (bytes_read all) too_long_refusal status given old new once (cut_is_refused command all h.0) w nothing)

@@ -14,17 +14,18 @@ use Rattle.hy_script.specs.declared.Dialect.{Dialect}
 use Rattle.hy_script.specs.declared.Dialect.TheVariants.{FirstForm}
 use Rattle.hy_script.specs.declared.codes.Code.{Code}
 use Rattle.hy_script.specs.declared.codes.Code.TheVariants as code
-use Rattle.hy_script.specs.declared.growing.OpenTxn.{OpenTxn}
-use Rattle.hy_script.specs.declared.growing.SoFar.{SoFar}
-use Rattle.hy_script.specs.Codes.{rank, first_of, code_if, code_of}
-use Rattle.hy_script.specs.Later.{later, is_outside}
+use Rattle.hy_script.specs.declared.sofar.OpenTxn.{OpenTxn}
+use Rattle.hy_script.specs.declared.sofar.SoFar.{SoFar}
+use Rattle.hy_script.specs.Codes.{rank, first_of_two, code_if_so, code_of}
+use Rattle.hy_script.specs.Later.{later_in, is_outside_in}
 use Rattle.hy_script.specs.Refusals.{refusal_of, refusal_in, create_code, first_row_code, statement_code, stock_of}
+use Rattle.hy_limits.specs.declared.TheConstants.{MOST_STATEMENTS}
 
 never : (b : Bool) (x y : Code) → cond b (Some x) (Some y) ≡ None → ⊥
 never true x y h = absurd cc
 never false x y h = absurd cc
 
-neither : (one other : Option Code) → first_of one other ≡ None → (one ≡ None) × (other ≡ None)
+neither : (one other : Option Code) → first_of_two one other ≡ None → (one ≡ None) × (other ≡ None)
 neither None other h = (refl, h)
 neither (Some x) None h = absurd cc
 neither (Some x) (Some y) h = absurd (never (nat_le (rank x) (rank y)) x y h)
@@ -33,7 +34,7 @@ unless : (so : Bool) (x : Code) (other : Option Code) → cond so (Some x) other
 unless true x other h = absurd cc
 unless false x other h = (refl, h)
 
-not_so : (so : Bool) (x : Code) → code_if so x ≡ None → so ≡ false
+not_so : (so : Bool) (x : Code) → code_if_so so x ≡ None → so ≡ false
 not_so so x h = (unless so x None h).0
 
 bound_without_fault : (fault : Option BindFault) → option_map code_of fault ≡ None → fault ≡ None
@@ -42,10 +43,10 @@ bound_without_fault (Some f) h = absurd cc
 
 -- a statement of the first form that isn't refused
 pub accepted : (script : List ℕ) (options : Options) (sofar : SoFar) (s : Statement) → options.dialect ≡ FirstForm → refusal_in script options sofar s ≡ None
-    → (later sofar s ≡ false) × (refusal_of script options sofar s ≡ None)
+    → (later_in sofar s ≡ false) × (refusal_of script options sofar s ≡ None)
 accepted script options sofar s form h =
-    let parts = unless (is_outside options.dialect sofar s) code.Syntax _ h in
-    (sym (ap (λ (d : Dialect). is_outside d sofar s) form) ∙ parts.0, parts.1)
+    let parts = unless (is_outside_in options.dialect sofar s) code.Syntax _ h in
+    (sym (ap (λ (d : Dialect). is_outside_in d sofar s) form) ∙ parts.0, parts.1)
 
 pub room_for_table : (script : List ℕ) (sofar : SoFar) (table : Span) (columns : List ColumnDef) → create_code script sofar table columns ≡ None → length sofar.catalog < 16
 room_for_table script sofar table columns h =
@@ -58,7 +59,7 @@ room_for_row script options sofar s table values h =
 
 -- a statement of a transaction
 pub statement_taken : (script : List ℕ) (sofar : SoFar) (txn : OpenTxn) (s : Statement) → statement_code script sofar txn s ≡ None
-    → (bind_fault script sofar.catalog s ≡ None) × (length txn.statements < 256)
+    → (bind_fault script sofar.catalog s ≡ None) × (length txn.statements < MOST_STATEMENTS)
 statement_taken script sofar txn s h =
     let parts = neither _ _ h in
-    (bound_without_fault (bind_fault script sofar.catalog s) parts.0, leb-false 256 (length txn.statements) (not_so _ code.Limit (neither _ _ (neither _ _ parts.1).1).1))
+    (bound_without_fault (bind_fault script sofar.catalog s) parts.0, leb-false MOST_STATEMENTS (length txn.statements) (not_so _ code.Limit (neither _ _ (neither _ _ parts.1).1).1))

@@ -2,7 +2,7 @@ pub mod Lists
 pub mod Words
 pub mod Causes
 pub mod Bound
-pub mod Places
+pub mod Sections
 pub mod Sessions
 pub mod Kept
 pub mod Reading

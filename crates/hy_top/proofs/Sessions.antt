@@ -6,14 +6,14 @@ use Rattle.std.proofs.lemmas.Bool.{or_parts}
 use Rattle.std.proofs.lemmas.List.{map-append, length-map}
 use Rattle.hy_bound.specs.declared.Txn.{Txn}
 use Rattle.hy_script.specs.declared.NamedTxns.{NamedTxns}
-use Rattle.hy_script.specs.declared.growing.Place.{Place}
-use Rattle.hy_script.specs.declared.growing.Place.TheVariants.{Defining, Between, Within, Scheduled}
+use Rattle.hy_script.specs.declared.sofar.Section.{Section}
+use Rattle.hy_script.specs.declared.sofar.Section.TheVariants.{Defining, Between, Within, Scheduled}
 use Rattle.hy_script.specs.Growing.{all_sessions}
-use Rattle.hy_script.specs.Later.{session_updates, is_empty, is_idle, is_within}
+use Rattle.hy_script.specs.Later.{session_updates_in, is_empty, is_idle, is_within}
 use Rattle.hy_lawful.specs.FirstForm.{IsOneTransaction, AllRead}
 use Rattle.hy_top.proofs.Lists.{pushed, at, at_pushed}
 use Rattle.hy_top.proofs.Bound.{without_update}
-use Rattle.hy_top.proofs.Places.{AtMostOne, IsPlace, PlaceReads}
+use Rattle.hy_top.proofs.Sections.{AtMostOne, IsSection, SectionReads}
 
 abbrev pub programs : List NamedTxns → List (List Txn)
 programs sessions = map (λ session. session.txns) sessions
@@ -26,18 +26,18 @@ abbrev pub OthersRead : List NamedTxns → ℕ → Type 0
 OthersRead sessions writer = (number : ℕ) → number ≢ writer → AllRead (slice_index_or (programs sessions) number [])
 
 -- no session that is read whole writes, or one does, and then the open one only reads
-pub data Writing (sessions : List NamedTxns) (place : Place) : Type 0 where
-  none_writes : list_any session_updates sessions ≡ false → Writing sessions place
-  one_writes : (writer : ℕ) → OthersRead sessions writer → PlaceReads place → Writing sessions place
+pub data Writing (sessions : List NamedTxns) (section : Section) : Type 0 where
+  none_writes : list_any session_updates_in sessions ≡ false → Writing sessions section
+  one_writes : (writer : ℕ) → OthersRead sessions writer → SectionReads section → Writing sessions section
 
-pub writing_at : (sessions : List NamedTxns) (place next : Place) → (PlaceReads place → PlaceReads next) → Writing sessions place → Writing sessions next
-writing_at sessions place next f (none_writes h) = none_writes h
-writing_at sessions place next f (one_writes writer others reads) = one_writes writer others (f reads)
+pub writing_at : (sessions : List NamedTxns) (section next : Section) → (SectionReads section → SectionReads next) → Writing sessions section → Writing sessions next
+writing_at sessions section next f (none_writes h) = none_writes h
+writing_at sessions section next f (one_writes writer others reads) = one_writes writer others (f reads)
 
-all_read : (sessions : List NamedTxns) → AllByRecursion IsOne sessions → list_any session_updates sessions ≡ false → AllByRecursion AllRead (programs sessions)
+all_read : (sessions : List NamedTxns) → AllByRecursion IsOne sessions → list_any session_updates_in sessions ≡ false → AllByRecursion AllRead (programs sessions)
 all_read [] one h = tt
 all_read (session ∷ sessions) one h =
-    let parts = or_parts (session_updates session) (list_any session_updates sessions) h in
+    let parts = or_parts (session_updates_in session) (list_any session_updates_in sessions) h in
     (without_update session.txns one.0 parts.0, all_read sessions one.1 parts.1)
 
 -- sessions that are all read whole
@@ -69,18 +69,18 @@ whole_more sessions session all one (one_writes writer others reads) =
       others = λ number other. others_push sessions session number (λ _. reads) (λ _. others number other);
     }
 
-whole_as : (sessions : List NamedTxns) (place : Place) → AllByRecursion IsOne sessions → Writing sessions place → AreWhole sessions
-whole_as sessions place all (none_writes h) = record { one = all; writer = 0; others = λ number _. at AllRead (programs sessions) number [] tt (all_read sessions all h) }
-whole_as sessions place all (one_writes writer others reads) = record { one = all; writer = writer; others = others }
+whole_as : (sessions : List NamedTxns) (section : Section) → AllByRecursion IsOne sessions → Writing sessions section → AreWhole sessions
+whole_as sessions section all (none_writes h) = record { one = all; writer = 0; others = λ number _. at AllRead (programs sessions) number [] tt (all_read sessions all h) }
+whole_as sessions section all (one_writes writer others reads) = record { one = all; writer = writer; others = others }
 
 one_of : (txns : List Txn) → is_empty txns ≡ false → AtMostOne txns → IsOneTransaction txns
 one_of [] h most = absurd cc
 one_of (txn ∷ []) h most = most
 one_of (txn ∷ next ∷ txns) h most = most
 
--- a place that may be left: in no transaction, and in no session without one
-pub whole_at : (sessions : List NamedTxns) (place : Place) → is_idle place ≡ false → is_within place ≡ false → AllByRecursion IsOne sessions → IsPlace place → Writing sessions place
-    → AreWhole (all_sessions sessions place)
+-- a section that may be left: in no transaction, and in no session without one
+pub whole_at : (sessions : List NamedTxns) (section : Section) → is_idle section ≡ false → is_within section ≡ false → AllByRecursion IsOne sessions → IsSection section → Writing sessions section
+    → AreWhole (all_sessions sessions section)
 whole_at sessions Defining idle within all is w = whole_as sessions Defining all w
 whole_at sessions (Between session) idle within all is w = whole_more sessions session all (one_of session.txns idle is) w
 whole_at sessions (Within session txn) idle within all is w = absurd cc

@@ -3,9 +3,9 @@ use Rattle.std.specs.Prelude.{codes}
 use Rattle.std.specs.Option.{option_map}
 use Rattle.std.specs.Char.{is_ascii_digit}
 use Rattle.std.specs.List.{starts_with}
-use Rattle.std.proofs.Common.{◌≡◌, ℕ, zero, suc, ◌+◌, ◌==◌, Bool, true, false, cond, nat_eq, List, [], ◌∷◌, Option, Some, None, Result, Ok, Err, length, drop, drop-drop, refl, sym, ap, subst, ◌∙◌, arith}
+use Rattle.std.proofs.Common.{◌≡◌, ◌↔◌, ℕ, zero, suc, ◌+◌, ◌==◌, Bool, true, false, cond, nat_eq, List, [], ◌∷◌, Option, Some, None, Result, Ok, Err, length, drop, drop-drop, refl, sym, ap, subst, ◌∙◌, arith}
 use Rattle.hy_token.specs.Lengths.{is_space, begins_word, blank_from, blank_len, digits_len, text_rest_len}
-use Rattle.hy_token.specs.Sign.{sign_of, spelling}
+use Rattle.hy_token.specs.Sign.{sign_of, sign_spelling}
 use Rattle.hy_token.specs.Token.{first_token, placed, lexed, token_at}
 use Rattle.hy_token.specs.declared.Bad.{Bad}
 use Rattle.hy_token.specs.declared.Keyword.{Keyword}
@@ -20,8 +20,7 @@ use Rattle.hy_ast.specs.Trees as tree
 use Rattle.hy_parse.specs.declared.Piece.{Piece}
 use Rattle.hy_parse.specs.Pieces.{Pieces, ended, continued, pieces_within, pieces_of}
 use Rattle.hy_parse.specs.Grammar.{Mark, Match, word, marks}
-use Rattle.hy_parse.specs.Parsing.{parsed}
-use Rattle.hy_parse.proofs.Scripts.{statement_parses}
+use Rattle.hy_parse.specs.Parsing.{Parses, parsed}
 
 -- ---- a reserved word stands behind all that separates tokens
 
@@ -37,7 +36,7 @@ no_text : (len : Option ℕ) → NoWord (option_map (λ n. (token.Text, 1 + n)) 
 no_text None = tt
 no_text (Some n) = tt
 
-no_sign : (sign : Option Sign) → NoWord (option_map (λ s. (token.Sign s, length (spelling s))) sign)
+no_sign : (sign : Option Sign) → NoWord (option_map (λ s. (token.Sign s, length (sign_spelling s))) sign)
 no_sign None = tt
 no_sign (Some s) = tt
 
@@ -80,7 +79,7 @@ found_at start (Some (t, n)) k span is =
     let same : one ≡ other = cc in
     (n, ap (λ (found : Token × Span). Some (found.0, n)) same, ap (λ (found : Token × Span). found.1.start) (sym same))
 
--- a word is found again at its own place
+-- a word is found again at its own offset
 again : (bytes : List ℕ) (at : ℕ) (k : Keyword) (span : Span) → token_at bytes at ≡ Ok (token.Reserved k, span) → (behind : Span) × (token_at bytes span.start ≡ Ok (token.Reserved k, behind))
 unfolding lexed
 again bytes at k span is =
@@ -154,9 +153,13 @@ same_words one other span behind is =
     let tokens : token.Reserved one ≡ token.Reserved other = ap (λ (found : Token × Span). found.0) same in
     cc
 
-pub begins_with : (bytes : List ℕ) (at : ℕ) (k : Keyword) (span : Span) (s : Statement) (end : ℕ) → token_at bytes at ≡ Ok (token.Reserved k, span) → parsed bytes span.start ≡ Ok (s, end) → k ≡ word_of s
-begins_with bytes at k span s end is parses =
+-- the law that what is parsed is a sentence
+abbrev pub SentencesParse : Type 0
+SentencesParse = (bytes : List ℕ) (at : ℕ) (s : Statement) (end : ℕ) → (parsed bytes at ≡ Ok (s, end)) ↔ Parses bytes at s end
+
+pub begins_with : SentencesParse → (bytes : List ℕ) (at : ℕ) (k : Keyword) (span : Span) (s : Statement) (end : ℕ) → token_at bytes at ≡ Ok (token.Reserved k, span) → parsed bytes span.start ≡ Ok (s, end) → k ≡ word_of s
+begins_with law bytes at k span s end is parses =
     let there = again bytes at k span is in
-    let sentence = ((statement_parses bytes span.start s end).0 parses).written.matches in
+    let sentence = ((law bytes span.start s end).0 parses).written.matches in
     let first = first_within (token.Reserved (word_of s)) _ bytes span.start (written s (pieces_of bytes span.start).pieces sentence) in
     same_words k (word_of s) there.0 first.0 (sym there.1 ∙ first.1)

@@ -19,22 +19,22 @@ abbrev pub two_digits : ℕ → List ℕ
 two_digits n = if nat_lt n 10 then 48 ∷ decimal n else decimal n
 
 -- where the script is refused: the line and the cause
-abbrev pub refusal_line : Refused → List ℕ
-refusal_line refused = line (codes "line " ++ decimal refused.line ++ codes ": E" ++ two_digits (number refused.code))
+abbrev pub refusal_line_of : Refused → List ℕ
+refusal_line_of refused = line (codes "line " ++ decimal refused.line ++ codes ": E" ++ two_digits (number refused.code))
 
 -- how many rows all tables have
-abbrev pub rows_in_all : List (List (List Value)) → ℕ
-rows_in_all [] = 0
-rows_in_all (rows ∷ tables) = length rows + rows_in_all tables
+abbrev pub all_rows : List (List (List Value)) → ℕ
+all_rows [] = 0
+all_rows (rows ∷ tables) = length rows + all_rows tables
 
 -- how many transactions all sessions have
-abbrev pub txns_in_all : List NamedTxns → ℕ
-txns_in_all [] = 0
-txns_in_all (session ∷ sessions) = length session.txns + txns_in_all sessions
+abbrev pub all_txns : List NamedTxns → ℕ
+all_txns [] = 0
+all_txns (session ∷ sessions) = length session.txns + all_txns sessions
 
 -- what a script has: its tables, first rows, sessions, transactions and the items of its schedule
-abbrev pub checked : Script → List ℕ
-checked script =
-    line (codes "ok tables " ++ decimal (length script.catalog) ++ codes " rows " ++ decimal (rows_in_all script.rows)
-    ++ codes " sessions " ++ decimal (length script.sessions) ++ codes " transactions " ++ decimal (txns_in_all script.sessions)
+abbrev pub checked_line : Script → List ℕ
+checked_line script =
+    line (codes "ok tables " ++ decimal (length script.catalog) ++ codes " rows " ++ decimal (all_rows script.rows)
+    ++ codes " sessions " ++ decimal (length script.sessions) ++ codes " transactions " ++ decimal (all_txns script.sessions)
     ++ codes " items " ++ decimal (length script.schedule))

@@ -5,33 +5,30 @@ use Rattle.hy_script.specs.declared.Options.{Options}
 use Rattle.hy_script.specs.declared.Dialect.TheVariants.{Whole, FirstForm}
 use Rattle.hy_render.specs.declared.Names.{Names}
 use Rattle.hy_render.specs.declared.Outcome.{Outcome}
-use Rattle.hy_top.specs.Settings.{setting_of}
+use Rattle.hy_top.specs.Settings.{setting_at}
 use Rattle.hy_machine.specs.Runs.{run}
 use Rattle.hy_machine.specs.Outcomes.{outcome}
 use Rattle.hy_words.specs.declared.Command.{Command}
 use Rattle.hy_words.specs.declared.Command.TheVariants.{Run, Check}
-
--- how many bytes a script may have
-abbrev pub most_bytes : ℕ
-most_bytes = 16777216
+use Rattle.hy_limits.specs.declared.TheConstants.{MOST_BYTES}
 
 -- of all bytes that a source has left, those that are read: one more than a script may have, at most
 abbrev pub bytes_read : List ℕ → List ℕ
-bytes_read all = take (most_bytes + 1) all
+bytes_read all = take (MOST_BYTES + 1) all
 
 -- and those that stay in the source
 abbrev pub bytes_left : List ℕ → List ℕ
-bytes_left all = drop (most_bytes + 1) all
+bytes_left all = drop (MOST_BYTES + 1) all
 
 -- how a command reads a script: what is run has the statements that run today
-abbrev pub options_of : Command → Options
-options_of (Run prune chunks rows) = record { chunks = chunks; rows = rows; dialect = FirstForm }
-options_of (Check chunks rows) = record { chunks = chunks; rows = rows; dialect = Whole }
+abbrev pub options_by : Command → Options
+options_by (Run prune chunks rows) = record { chunks = chunks; rows = rows; dialect = FirstForm }
+options_by (Check chunks rows) = record { chunks = chunks; rows = rows; dialect = Whole }
 
 -- the names that its outcome is printed with
-abbrev pub names_of : Script → Names
-names_of script = record { tables = map (λ table. table.name) script.catalog; sessions = map (λ session. session.name) script.sessions }
+abbrev pub names_at : Script → Names
+names_at script = record { tables = map (λ table. table.name) script.catalog; sessions = map (λ session. session.name) script.sessions }
 
 -- the outcome of the machine's run of the script
 abbrev pub outcome_of : Script → Outcome
-outcome_of script = outcome (setting_of script) (run (setting_of script) script.schedule)
+outcome_of script = outcome (setting_at script) (run (setting_at script) script.schedule)

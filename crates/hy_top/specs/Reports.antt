@@ -9,17 +9,17 @@ use Rattle.hy_render.specs.Report.{text}
 use Rattle.hy_lawful.specs.Lawful.{Lawful}
 use Rattle.hy_words.specs.declared.Command.{Command}
 use Rattle.hy_words.specs.declared.Command.TheVariants.{Run, Check}
-use Rattle.hy_top.specs.Lines.{refusal_line, checked}
-use Rattle.hy_top.specs.Program.{options_of, names_of, outcome_of}
-use Rattle.hy_top.specs.Settings.{setting_of}
+use Rattle.hy_top.specs.Lines.{refusal_line_of, checked_line}
+use Rattle.hy_top.specs.Program.{options_by, names_at, outcome_of}
+use Rattle.hy_top.specs.Settings.{setting_at}
 
 -- the bytes are refused by a command, and how
 abbrev pub IsRefused : Command → List ℕ → Refused → Type 0
-IsRefused command bytes refused = Reads bytes (options_of command) (Err refused)
+IsRefused command bytes refused = Reads bytes (options_by command) (Err refused)
 
 -- the bytes spell this script
 abbrev pub Spells : Command → List ℕ → Script → Type 0
-Spells command bytes script = Reads bytes (options_of command) (Ok script)
+Spells command bytes script = Reads bytes (options_by command) (Ok script)
 
 abbrev pub IsRun : Command → Type 0
 IsRun (Run prune chunks rows) = Unit {0}
@@ -32,12 +32,12 @@ Writes done status before after bytes = ((status ≡ done) × Takes before after
 -- the script was run: the outcome is there, and its text was written
 pub record Runs (script : Script) (status : ℕ) (outcome : Option Outcome) (before after : Option (List ℕ)) : Type 0 where
   pub outcome_is : outcome ≡ Some (outcome_of script)
-  pub writes : Writes 0 status before after (text (names_of script) (outcome_of script))
+  pub writes : Writes 0 status before after (text (names_at script) (outcome_of script))
 
 -- the script was read: what it has was written
 pub record Checks (script : Script) (status : ℕ) (outcome : Option Outcome) (before after : Option (List ℕ)) : Type 0 where
   pub nothing_is_run : IsNone outcome
-  pub writes : Writes 0 status before after (checked script)
+  pub writes : Writes 0 status before after (checked_line script)
 
 -- what the command asks for was done
 abbrev pub Does : Command → Script → ℕ → Option Outcome → Option (List ℕ) → Option (List ℕ) → Type 0
@@ -47,11 +47,11 @@ Does (Check chunks rows) script status outcome before after = Checks script stat
 -- the answer to bytes that a command read: a status, an outcome or none, and what the sink holds before and after
 pub record Answers (command : Command) (bytes : List ℕ) (status : ℕ) (outcome : Option Outcome) (before after : Option (List ℕ)) : Type 0 where
   -- where the bytes are refused, the refusal line is written, unless memory ran out
-  pub refused : (why : Refused) → IsRefused command bytes why → (status ≡ 5) ⊎ Writes 2 status before after (refusal_line why)
+  pub refused : (why : Refused) → IsRefused command bytes why → (status ≡ 5) ⊎ Writes 2 status before after (refusal_line_of why)
   pub refuses : status ≡ 2 → (why : Refused) × IsRefused command bytes why
   -- where they spell a script, what the command asks for is done, unless memory ran out
   pub does : (script : Script) → Spells command bytes script → (status ≡ 5) ⊎ Does command script status outcome before after
   -- the outcome is lawful
-  pub lawful : (script : Script) → Spells command bytes script → IfSome outcome (λ given. Lawful (setting_of script).shapes script.rows (setting_of script).programs given)
+  pub lawful : (script : Script) → Spells command bytes script → IfSome outcome (λ given. Lawful (setting_at script).shapes script.rows (setting_at script).programs given)
   -- an outcome is there only of a script that was run
   pub outcome_there : IsSome outcome → IsRun command × ((script : Script) × Spells command bytes script) × ((status ≡ 0) ⊎ (status ≡ 4))

@@ -6,8 +6,8 @@ use Rattle.hy_machine.specs.declared.Setting.{Setting}
 
 -- what of a script does not change while it runs. A table is run as one chunk that is as large as all its
 -- chunks together: with whole statements the outcome doesn't depend on the chunks
-abbrev pub setting_of : Script → Setting
-setting_of script = record {
+abbrev pub setting_at : Script → Setting
+setting_at script = record {
   chunks = 1;
   rows = script.options.chunks * script.options.rows;
   shapes = catalog_shapes script.catalog;

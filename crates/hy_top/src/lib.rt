@@ -10,19 +10,21 @@ ghost use Rattle.hy_script.specs.declared.Options.{Options};
 ghost use Rattle.hy_script.specs.declared.Dialect.TheVariants.{FirstForm};
 ghost use Rattle.hy_script.specs.Reading.{Reads};
 ghost use Rattle.hy_lawful.specs.FirstForm.{IsFirstForm, IsOfWholeStatements};
-ghost use Rattle.hy_top.specs.Settings.{setting_of as setting_by};
+ghost use Rattle.hy_top.specs.Settings.{setting_at};
 ghost use Rattle.hy_render.specs.Report.{text};
 ghost use Rattle.hy_words.specs.declared.Command.{Command};
 ghost use Rattle.hy_words.specs.Words.{command_of};
-ghost use Rattle.hy_top.specs.Lines.{usage_line, refusal_line as refusal_line_of, checked as checked_line};
-ghost use Rattle.hy_top.specs.Program.{most_bytes, bytes_read, bytes_left, options_of as options_by, names_of, outcome_of};
+ghost use Rattle.hy_top.specs.Lines.{usage_line, refusal_line_of, checked_line};
+ghost use Rattle.hy_top.specs.Program.{bytes_read, bytes_left, options_by, names_at, outcome_of};
 ghost use Rattle.hy_top.specs.Reports.{Writes, Answers, Runs, Checks, Does};
 
 mod lines;
 mod settings;
 
 use hy_lawful::runs_are_lawful;
+use hy_limits::MOST_BYTES;
 use hy_outside::{ReadAllError, Sink, Source, read_all, write_all};
+use hy_parse::scripts_are_parsed;
 use hy_render::{Outcome, render};
 use hy_script::{Code, Dialect, Options, ReadError, Refused, Script, read_once};
 use hy_words::{Command, WordsError};
@@ -39,9 +41,6 @@ pub struct Report {
     /// What the run of the script came to, if there was one.
     pub outcome: Option<Outcome>,
 }
-
-/// How many bytes a script may have.
-const MOST_BYTES: usize = 16_777_216;
 
 /// What is written where the words are refused.
 const USAGE: &[u8] = b"usage: hy run|check|gen\n";
@@ -65,7 +64,7 @@ pub fn run<R: Source, W: Sink>(
         (result.status ≡ 3) ⊎ (result.status ≡ 5) ⊎ (R.rest source.new ≡ Some (bytes_left all))) }
 
     // Whatever the status, the source gave some first bytes, and no more than one past the limit.
-    ensures given { GivesAtMost (R.rest source.old) (R.rest source.new) (most_bytes + 1) }
+    ensures given { GivesAtMost (R.rest source.old) (R.rest source.new) (MOST_BYTES + 1) }
 
     // Where these bytes are refused the refusal line is written. Where they spell a script it is run, and the
     // text of its outcome is written, which is the machine's run of that script, and lawful; or it is checked.
@@ -120,7 +119,7 @@ fn run_command<R: Source, W: Sink>(
 ) -> Report
     ensures bytes { IfSome (R.rest source.old) (λ all.
         (result.status ≡ 3) ⊎ (result.status ≡ 5) ⊎ (R.rest source.new ≡ Some (bytes_left all))) }
-    ensures given { GivesAtMost (R.rest source.old) (R.rest source.new) (most_bytes + 1) }
+    ensures given { GivesAtMost (R.rest source.old) (R.rest source.new) (MOST_BYTES + 1) }
     ensures answers { IfSome (R.rest source.old) (λ all.
         (result.status ≡ 3) ⊎ Answers command (bytes_read all) result.status result.outcome (W.written sink.old) (W.written sink.new)) }
     ensures read_fault { result.status ≡ 3 → Rose (R.faults source.old) (R.faults source.new) × (sink.new ≡ sink.old) × IsNone result.outcome }
@@ -269,7 +268,7 @@ fn check_script<W: Sink>(alloc: Global, script: Script, sink: &mut W) -> Report
 
 /// The outcome of the machine's run of a script, and its text.
 fn outcome_and_text(alloc: Global, script: Script) -> Result<(Outcome, Vec<u8>), AllocError>
-    ensures { IfOk result (λ given. (given.0 ≡ outcome_of script) × (given.1.items ≡ text (names_of script) (outcome_of script))) }
+    ensures { IfOk result (λ given. (given.0 ≡ outcome_of script) × (given.1.items ≡ text (names_at script) (outcome_of script))) }
 {
     let (setting, names, schedule) = setting_of(alloc, script)?;
     let machine = hy_machine::run(alloc, &setting, schedule.as_slice())?;
@@ -283,5 +282,7 @@ fn outcome_and_text(alloc: Global, script: Script) -> Result<(Outcome, Vec<u8>),
 /// statements.
 pub fn first_form_is_read()
     ensures { (bytes : List ℕ) (options : Options) (script : Script) → options.dialect ≡ FirstForm → Reads bytes options (Ok script)
-        → IsFirstForm (setting_by script) × IsOfWholeStatements script.schedule }
-{}
+        → IsFirstForm (setting_at script) × IsOfWholeStatements script.schedule }
+{
+    scripts_are_parsed();
+}

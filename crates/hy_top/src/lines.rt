@@ -3,7 +3,7 @@
 ghost use Rattle.std.specs.Prelude.{◌≡◌, ◌+◌, ◌++◌, IfOk, OnOk, length};
 ghost use Rattle.std.specs.Fmt.{decimal};
 ghost use Rattle.hy_script.specs.Codes.{number};
-ghost use Rattle.hy_top.specs.Lines.{two_digits, rows_in_all as all_rows, txns_in_all as all_txns, refusal_line as refusal_line_of, checked as checked_line};
+ghost use Rattle.hy_top.specs.Lines.{two_digits, all_rows, all_txns, refusal_line_of, checked_line};
 
 use hy_bound::Rows;
 use hy_script::{NamedTxns, Refused, Script};

@@ -2,12 +2,13 @@
 
 ghost use Rattle.std.specs.Prelude.{◌≡◌, ◌++◌, IfOk, map, drop};
 ghost use Rattle.hy_bind.specs.Shapes.{defined_shape, catalog_shapes};
-ghost use Rattle.hy_top.specs.Settings.{setting_of as setting_at};
-ghost use Rattle.hy_top.specs.Program.{names_of as names_at};
+ghost use Rattle.hy_top.specs.Settings.{setting_at};
+ghost use Rattle.hy_top.specs.Program.{names_at};
 
-use hy_bound::{Schedule, Shape, Shapes, Statements, Txn, Txns};
+use hy_bound::{Shape, Shapes, Statements, Txn, Txns};
 use hy_machine::Setting;
 use hy_render::{Names, Texts};
+use hy_schedule::Schedule;
 use hy_schema::TableDef;
 use hy_script::{NamedTxns, Script};
 use hy_value::Seq;

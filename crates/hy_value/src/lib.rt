@@ -6,7 +6,7 @@ ghost use Rattle.std.specs.List.{flat_map};
 ghost use Rattle.hy_value.specs.Order.{row_cmp, holds_at};
 ghost use Rattle.hy_value.specs.Print.{printed, printed_next, printed_row, BeginsWith};
 ghost use Rattle.hy_value.specs.Sorted.{sorted};
-ghost use Rattle.hy_value.specs.Columns.{has, with, no_columns};
+ghost use Rattle.hy_value.specs.Columns.{has_column, with, no_columns};
 ghost use Rattle.hy_value.specs.declared.Value.{Value};
 
 mod laws;
@@ -219,7 +219,7 @@ impl ColMask {
 
     /// Whether the set has the column.
     pub fn has(self, column: u32) -> bool
-        ensures { result ≡ has self column }
+        ensures { result ≡ has_column self column }
     {
         column < 32 && (self.0 >> column) & 1 == 1
     }

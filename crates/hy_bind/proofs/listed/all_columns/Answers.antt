@@ -1,6 +1,6 @@
 use Rattle.std.proofs.Common.{ap, add-one, arith}
 use Rattle.std.specs.List.{range_with_len}
-use Rattle.hy_bind.proofs.Places.{one_more}
+use Rattle.hy_bind.proofs.Ordinals.{one_more}
 use Rattle.hy_bind.proofs.listed.all_columns.Goals as goal
 
 pub loop-number-preserved : goal.loop-number-preserved

@@ -1,6 +1,6 @@
 use Rattle.std.proofs.Common.{List, Option, ◌+◌, drop, map, ap, sym, ◌∙◌, arith}
-use Rattle.hy_ast.specs.declared.Assignment.{Assignment}
-use Rattle.hy_ast.specs.Trees.{setting_of}
+use Rattle.hy_ast.specs.declared.SetClause.{SetClause}
+use Rattle.hy_ast.specs.Trees.{set_clause_of}
 use Rattle.hy_bind.specs.declared.refusals.BindFault.{BindFault}
 use Rattle.hy_bind.specs.Refusals.{first_of}
 use Rattle.hy_bind.specs.Scope.{scope_of}
@@ -13,7 +13,7 @@ loop-set-preserved c =
     let h = rw c.set_column.ensures at c.set_fault.ensures in
     let xs = c.args.sets.now in
     let i = c.loop-set.set-index in
-    let f : List Assignment → Option BindFault = λ rest. sets_fault (scope_of c.args.scope.now) (map setting_of rest) in
+    let f : List SetClause → Option BindFault = λ rest. sets_fault (scope_of c.args.scope.now) (map set_clause_of rest) in
     let e = first_more c.loop-set.fault c.set_fault.result (f (drop (i + 1) xs)) (f (drop i xs)) (f xs)
     (ap f (drop_next xs i c.set-item.result (omega arith) c.set-item.is) ∙ ap (λ one. first_of one (f (drop (i + 1) xs))) (sym h)) c.loop-set.invariant in
     cc

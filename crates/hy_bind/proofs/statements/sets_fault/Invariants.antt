@@ -1,5 +1,5 @@
 use Rattle.std.proofs.Common.{◌≡◌, drop, map}
-use Rattle.hy_ast.specs.Trees.{setting_of}
+use Rattle.hy_ast.specs.Trees.{set_clause_of}
 use Rattle.hy_bind.specs.Refusals.{first_of}
 use Rattle.hy_bind.specs.Scope.{scope_of}
 use Rattle.hy_bind.specs.Statements.{sets_fault}
@@ -7,4 +7,4 @@ use Rattle.hy_bind.proofs.statements.sets_fault.Given as goal
 
 -- what is left completes the refusal
 abbrev pub invariant-loop-set : goal.invariant-loop-set
-invariant-loop-set l = first_of l.fault (sets_fault (scope_of l.scope) (map setting_of (drop l.set-index l.sets))) ≡ sets_fault (scope_of l.scope) (map setting_of l.sets)
+invariant-loop-set l = first_of l.fault (sets_fault (scope_of l.scope) (map set_clause_of (drop l.set-index l.sets))) ≡ sets_fault (scope_of l.scope) (map set_clause_of l.sets)

@@ -2,7 +2,7 @@ use Rattle.std.proofs.Common.{◌≡◌, ◌+◌, ◌-◌, ◌*◌}
 use Rattle.hy_ast.specs.Trees.{formula_of, Binary}
 use Rattle.hy_ast.specs.declared.Operator.TheVariants.{Times}
 use Rattle.hy_token.specs.declared.Sign.TheVariants.{Star}
-use Rattle.hy_parse.specs.Reading.{sign, place_of, addition, links_within, factor_at, term_by, formula_at}
+use Rattle.hy_parse.specs.Reading.{sign, span_of, addition, links_within, factor_at, term_by, formula_at}
 use Rattle.hy_parse.proofs.expressions.+expression.Given as goal
 
 -- an expression has chains of `*`, and these have factors, in which fewer levels are left
@@ -21,4 +21,4 @@ invariant-expression-loop l =
 
 abbrev pub invariant-term-loop : goal.invariant-term-loop
 invariant-term-loop l =
-    links_within (place_of (sign Star)) (λ left at right. Binary left Times at right) (factor_at l.levels) (l.end - l.counter) (formula_of l.left) l.rest ≡ term_by (factor_at l.levels) l.pieces
+    links_within (span_of (sign Star)) (λ left at right. Binary left Times at right) (factor_at l.levels) (l.end - l.counter) (formula_of l.left) l.rest ≡ term_by (factor_at l.levels) l.pieces

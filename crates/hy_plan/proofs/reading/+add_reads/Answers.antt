@@ -3,7 +3,7 @@ use Rattle.std.specs.Prelude.{slice_get, slice_index_or}
 use Rattle.std.proofs.lemmas.Result.{on_ok_weaker}
 use Rattle.hy_bound.specs.Records.{shape_of}
 use Rattle.hy_bound.specs.Records.{select_conditions}
-use Rattle.hy_plan.specs.Reads.{rows_read, columns_over, table_read, select_named}
+use Rattle.hy_plan.specs.Reads.{rows_read_of, columns_over, table_read_of, select_named}
 use Rattle.hy_plan.proofs.More.{reads_more}
 use Rattle.hy_plan.proofs.reading.+add_reads.Goals as goal
 
@@ -15,8 +15,8 @@ returns t c =
     let read = c.in_ok-read.read in
     let rows = c.in_ok-rows.rows.items in
     let tables : c.args.left.tables.now ≡ c.in-Some.table.now ∷ c.in-Some.later.now = search rules in
-    let is : read ≡ table_read (shape_of c.args.shapes.now c.in-Some.table.now) c.in-Some.table.now c.args.left.on conditions named c.args.sofar.now.earlier.items = search rules in
-    let those : rows ≡ rows_read read (slice_index_or c.args.left.gathered.now 0 []) = search rules in
+    let is : read ≡ table_read_of (shape_of c.args.shapes.now c.in-Some.table.now) c.in-Some.table.now c.args.left.on conditions named c.args.sofar.now.earlier.items = search rules in
+    let those : rows ≡ rows_read_of read (slice_index_or c.args.left.gathered.now 0 []) = search rules in
     let columns : c.add_columns_of.new.columns.items ≡ c.args.sofar.now.earlier.items ++ columns_over (shape_of c.args.shapes.now c.in-Some.table.now).width rows = search rules in
     let put : c.push.new.self ≡ c.args.sofar.now.all ++ read ∷ [] = search rules in
     let next : c.copied.result ≡ slice_get c.args.left.ons.now 0 = search rules in

@@ -3,7 +3,8 @@ use Rattle.std.specs.List.{position}
 use Rattle.std.specs.Str.{bytes_eq}
 use Rattle.std.proofs.lemmas.List.{map-append}
 use Rattle.hy_schema.specs.Names.{number_of}
-use Rattle.hy_schema.proofs.Places.{position_map, comes_last}
+use Rattle.hy_schema.specs.Indexes.{position_map}
+use Rattle.hy_schema.proofs.Indexes.{comes_last}
 use Rattle.hy_schema.proofs.Names.add.Goals as goal
 
 pub returns-clause-added : goal.returns-clause-added

@@ -1,7 +1,7 @@
 use Rattle.std.proofs.Common.{sym, ap, ◌∙◌}
 use Rattle.std.specs.Str.{bytes_eq}
 use Rattle.hy_schema.specs.Names.{number_of}
-use Rattle.hy_schema.proofs.Places.{position_map}
+use Rattle.hy_schema.specs.Indexes.{position_map}
 use Rattle.hy_schema.proofs.Names.find.Goals as goal
 
 pub returns : goal.returns

@@ -1,5 +1,0 @@
-use Rattle.hy_parse.proofs.Sentences.{stops_first}
-use Rattle.hy_parse.proofs.reading_stops_first.Goals as goal
-
-pub returns : goal.returns
-returns c = stops_first

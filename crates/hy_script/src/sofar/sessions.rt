@@ -1,0 +1,175 @@
+//! Sessions, their transactions and the statements of these.
+
+ghost use Rattle.std.specs.Prelude.{◌≡◌, IfOk, OnOk};
+ghost use Rattle.hy_ast.specs.Trees.{statement_of};
+ghost use Rattle.hy_bind.specs.Statements.{NamesTables};
+ghost use Rattle.hy_script.specs.declared.sofar.Section.TheVariants as Section;
+ghost use Rattle.hy_script.specs.Refusals.{begin_code_at, groups_in, session_code, statement_code, statement_code_at, writes_in};
+ghost use Rattle.hy_script.specs.Growing.{all_sessions, and_bound, begun, closed, with_session, with_statement, Takes};
+
+use crate::NamedTxns;
+use crate::codes::{Code, code_if, first_of};
+use crate::sofar::{OpenTxn, Section, SoFar};
+use hy_ast::{Selection, Statement};
+use hy_bind::{BindError, bind, text, text_in};
+use hy_bound::{Statements, Txn, Txns};
+use hy_limits::{MOST_SESSIONS, MOST_STATEMENTS, MOST_TXNS};
+use hy_token::Span;
+use hy_value::Seq;
+use std::alloc::{AllocError, Global};
+use std::mem;
+
+/// The types inside a session. A function that moves sessions names them once, since the checker looks for
+/// the types inside another type only among those that the function names.
+type Met = Option<(Txn, OpenTxn, Statements, Txns)>;
+
+impl SoFar {
+    /// BEGIN.
+    pub fn begin(&mut self, alloc: Global, read_only: bool) -> Option<Code>
+        ensures { Takes result (begin_code_at self.old.section) self.new (record self.old { section = begun read_only self.old.section }) }
+    {
+        match mem::replace(&mut self.section, Section::Scheduled) {
+            Section::Between(session) => {
+                let full = session.txns.len() >= MOST_TXNS;
+                let txn = OpenTxn {
+                    read_only,
+                    statements: Seq::new(alloc),
+                };
+                self.section = Section::Within(session, txn);
+                code_if(full, Code::Limit)
+            }
+            section => {
+                self.section = section;
+                None
+            }
+        }
+    }
+
+    /// COMMIT or ROLLBACK.
+    pub fn close(&mut self, commits: bool) -> Result<(), AllocError>
+        ensures { OnOk result (self.new ≡ record self.old { section = closed commits self.old.section }) }
+    {
+        match mem::replace(&mut self.section, Section::Scheduled) {
+            Section::Within(mut session, txn) => {
+                session.txns.push(Txn {
+                    read_only: txn.read_only,
+                    statements: txn.statements,
+                    commits,
+                })?;
+                self.section = Section::Between(session);
+            }
+            section => self.section = section,
+        }
+        Ok(())
+    }
+
+    /// The session in which the script stands is read whole.
+    pub fn end_session(&mut self) -> Result<(), AllocError>
+        ensures { OnOk result (self.new ≡ record self.old { sessions = all_sessions self.old.sessions self.old.section; section = Section.Scheduled }) }
+    {
+        let _: Met = None;
+        match mem::replace(&mut self.section, Section::Scheduled) {
+            Section::Between(session) => self.sessions.push(session)?,
+            Section::Within(session, txn) => {
+                drop(txn);
+                self.sessions.push(session)?;
+            }
+            Section::Defining | Section::Scheduled => {}
+        }
+        Ok(())
+    }
+
+    /// SESSION.
+    pub fn session(
+        &mut self,
+        alloc: Global,
+        script: &[u8],
+        name: Span,
+    ) -> Result<Option<Code>, AllocError>
+        ensures { IfOk result (λ code. Takes code (session_code script.now self.old name) self.new (with_session script.now self.old name)) }
+    {
+        let written = text_in(script, name);
+        let twice = self.names.find(written).is_some();
+        let code = first_of(
+            code_if(twice, Code::Twice),
+            code_if(self.names.len() >= MOST_SESSIONS, Code::Limit),
+        );
+        if code.is_none() {
+            self.end_session()?;
+            self.names.add(alloc, written)?;
+            self.section = Section::Between(NamedTxns {
+                name: text(alloc, written),
+                txns: Seq::new(alloc),
+            });
+        }
+        Ok(code)
+    }
+
+    /// A statement of the open transaction.
+    pub fn statement(
+        &mut self,
+        alloc: Global,
+        script: &[u8],
+        ast: &Statement,
+    ) -> Result<Option<Code>, AllocError>
+        requires { NamesTables (statement_of ast.now) }
+        ensures { IfOk result (λ code. Takes code (statement_code_at script.now self.old self.old.section (statement_of ast.now)) self.new
+            (with_statement script.now self.old (statement_of ast.now))) }
+    {
+        match mem::replace(&mut self.section, Section::Scheduled) {
+            Section::Within(session, txn) => self.statement_of(alloc, script, ast, session, txn),
+            section => {
+                self.section = section;
+                Ok(None)
+            }
+        }
+    }
+
+    /// A statement of this transaction, which was taken out of its session.
+    fn statement_of(
+        &mut self,
+        alloc: Global,
+        script: &[u8],
+        ast: &Statement,
+        session: NamedTxns,
+        mut txn: OpenTxn,
+    ) -> Result<Option<Code>, AllocError>
+        requires { NamesTables (statement_of ast.now) }
+        ensures { IfOk result (λ code. Takes code (statement_code script.now self.old txn (statement_of ast.now)) self.new
+            (record self.old { section = and_bound (Section.Within session txn) script.now self.old.catalog (statement_of ast.now) })) }
+    {
+        let rest = first_of(
+            code_if(txn.read_only && writes(ast), Code::ReadOnly),
+            first_of(
+                code_if(!txn.read_only && groups(ast), Code::GroupInWriter),
+                code_if(txn.statements.len() >= MOST_STATEMENTS, Code::Limit),
+            ),
+        );
+        match bind(alloc, script, &self.catalog, ast) {
+            Ok(bound) => {
+                txn.statements.push(bound)?;
+                self.section = Section::Within(session, txn);
+                Ok(rest)
+            }
+            Err(BindError::Refused(fault)) => Ok(first_of(Some(Code::from(fault)), rest)),
+            Err(BindError::OutOfMemory) => Err(AllocError),
+        }
+    }
+}
+
+/// Whether a statement writes.
+fn writes(ast: &Statement) -> bool
+    ensures { result ≡ writes_in (statement_of ast.now) }
+{
+    matches!(
+        ast,
+        Statement::Insert { .. } | Statement::Update { .. } | Statement::Delete { .. }
+    )
+}
+
+/// Whether a statement has GROUP BY.
+fn groups(ast: &Statement) -> bool
+    ensures { result ≡ groups_in (statement_of ast.now) }
+{
+    matches!(ast, Statement::Select(Selection::Groups { .. }))
+}

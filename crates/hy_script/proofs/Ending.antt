@@ -12,7 +12,8 @@ use Rattle.hy_script.specs.declared.Script.{Script}
 use Rattle.hy_script.specs.declared.sofar.SoFar.{SoFar}
 use Rattle.hy_script.specs.declared.codes.Code.TheVariants as code
 use Rattle.hy_script.specs.Growing.{nothing, after, script_of}
-use Rattle.hy_script.specs.Reading.{Stop, Next, GoOn, next_at, answer_within, answered, IsRead, Reads, too_long, not_utf8, statements, most_bytes}
+use Rattle.hy_script.specs.Reading.{Stop, Next, GoOn, next_at, answer_within, answered, IsRead, Reads, too_long, not_utf8, statements}
+use Rattle.hy_limits.specs.declared.TheConstants.{MOST_BYTES}
 use Rattle.hy_script.proofs.Steps.{Stands, Step, refuses, goes_on, ends, stepped}
 use Rattle.hy_token.specs.Token.{token_at, MovesOn}
 
@@ -63,7 +64,7 @@ utf8_or_not bytes = elim (cases_Bool (is_utf8 bytes)) [
 
 -- reading any bytes comes to an answer
 pub some_answer : TokensMoveOn → StatementsMoveOn → (bytes : List ℕ) (options : Options) → (answer : Result Script Refused) × Reads bytes options answer
-some_answer tokens parsing bytes options = elim (cases_lt most_bytes (length bytes)) [
+some_answer tokens parsing bytes options = elim (cases_lt MOST_BYTES (length bytes)) [
   | inl long ↦ (Err (record { line = 1; code = code.TooLong }), too_long long)
   | inr short ↦ elim (utf8_or_not bytes) [
     | inr bad ↦ (Err (record { line = 1; code = code.NotUtf8 }), not_utf8 short bad)

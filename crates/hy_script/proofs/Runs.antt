@@ -82,7 +82,7 @@ ended script options sofar new at read step end on comes is =
 -- reading stopped
 pub halted : (script : List ℕ) (options : Options) (sofar new : SoFar) (at : ℕ) (halt : Halt) → ReadsOn script options sofar at → Comes (Err halt) (next_at script options sofar at) options new
     → Says (Err (error_of_halt script halt)) script options
-halted script options sofar new at (halts.Refused code section) on comes =
+halted script options sofar new at (halts.Refused code offset) on comes =
     let found = on 1 (Err (stop code offset)) (read_refused script options sofar at (stop code offset) comes) in
     record { statements = found.0; found = Err (stop code offset); reads = found.1; is = refl }
 halted script options sofar new at halts.OutOfMemory on comes = tt

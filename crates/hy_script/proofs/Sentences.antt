@@ -14,7 +14,8 @@ use Rattle.hy_script.specs.declared.sofar.Section.{Section}
 use Rattle.hy_script.specs.declared.sofar.Section.TheVariants as section
 use Rattle.hy_script.specs.declared.sofar.SoFar.{SoFar}
 use Rattle.hy_script.specs.Growing.{nothing, after, script_of}
-use Rattle.hy_script.specs.Reading.{Stop, stop, Next, Read, Refuse, GoOn, may_stand_at, is_last_of, at_end_of, taken, unless_refused, judged, next_from, next_at, answer_within, answered, IsRead, Reads, too_long, not_utf8, statements, most_bytes}
+use Rattle.hy_script.specs.Reading.{Stop, stop, Next, Read, Refuse, GoOn, may_stand_at, is_last_of, at_end_of, taken, unless_refused, judged, next_from, next_at, answer_within, answered, IsRead, Reads, too_long, not_utf8, statements}
+use Rattle.hy_limits.specs.declared.TheConstants.{MOST_BYTES}
 use Rattle.hy_script.specs.Refusals.{refusal_in}
 use Rattle.hy_script.specs.Sentences.{SpellsFrom, SpellsScript, after_all, NoneIsRefused, IsAccepted}
 use Rattle.hy_script.proofs.Phases.{Phase, Defining, Between, Within, Scheduled, Follows, is_sentence, sentence_follows}
@@ -163,7 +164,7 @@ module _ (sentences : ParsesSentences) (bytes : List ℕ) (options : Options) wh
           read_end sofar at s end span read stands last behind says
 
   -- what was read of all the statements
-  read_accepts : (read : Script) → length bytes ≤ most_bytes → IsUtf8 bytes → IsRead bytes options (Ok read) → IsAccepted bytes options read
+  read_accepts : (read : Script) → length bytes ≤ MOST_BYTES → IsUtf8 bytes → IsRead bytes options (Ok read) → IsAccepted bytes options read
   read_accepts read short good is = by_found is.found is.reads is.is
     where
       by_found : (found : Result Script Stop) → answer_within is.statements bytes options (GoOn nothing 0) ≡ Some found → Ok read ≡ answered bytes found → IsAccepted bytes options read

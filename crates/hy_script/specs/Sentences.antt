@@ -10,7 +10,7 @@ use Rattle.hy_script.specs.declared.Options.{Options}
 use Rattle.hy_script.specs.declared.Script.{Script}
 use Rattle.hy_script.specs.declared.sofar.SoFar.{SoFar}
 use Rattle.hy_script.specs.Growing.{nothing, after, script_of}
-use Rattle.hy_script.specs.Reading.{most_bytes}
+use Rattle.hy_limits.specs.declared.TheConstants.{MOST_BYTES}
 use Rattle.hy_script.specs.Refusals.{refusal_in}
 use Rattle.hy_token.specs.declared.Span.{Span}
 use Rattle.hy_token.specs.declared.Token.TheVariants as token
@@ -93,7 +93,7 @@ NoneIsRefused bytes options sofar (statement ∷ rest) = (refusal_in bytes optio
 -- The bytes are not too many and UTF-8. They spell a sentence of the grammar, none of whose statements is
 -- refused, and the script is what these say one after another.
 pub record IsAccepted (bytes : List ℕ) (options : Options) (read : Script) : Type 0 where
-  pub short : length bytes ≤ most_bytes
+  pub short : length bytes ≤ MOST_BYTES
   pub utf8 : IsUtf8 bytes
   pub statements : List Statement
   pub spelled : Spells bytes statements

@@ -1,7 +1,7 @@
 use Rattle.std.proofs.Common.{◌∙◌, ap, is_some}
 use Rattle.hy_value.specs.TextBytes.{text_of}
 use Rattle.hy_schema.specs.Names.{table_number}
-use Rattle.hy_script.proofs.sofar.tables.SoFar.has_table.Goals as goal
+use Rattle.hy_script.proofs.sofar.SoFar.has_table.Goals as goal
 
 pub returns : goal.returns
 returns c =

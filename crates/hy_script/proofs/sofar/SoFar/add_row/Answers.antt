@@ -4,7 +4,7 @@ use Rattle.hy_script.specs.declared.stocks.Stock.{Stock}
 use Rattle.hy_script.specs.Stocks.{no_rows, with_row}
 use Rattle.hy_script.proofs.Tables.{set-set}
 use Rattle.std.proofs.lemmas.List.{get_or_default}
-use Rattle.hy_script.proofs.sofar.rows.SoFar.add_row.Goals as goal
+use Rattle.hy_script.proofs.sofar.SoFar.add_row.Goals as goal
 
 pub returns : goal.returns
 returns c =

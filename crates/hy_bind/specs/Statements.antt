@@ -1,5 +1,5 @@
 -- Statements with their names resolved: why one is refused, and what the engine runs.
-use Rattle.std.specs.Prelude.{◌≡◌, ℕ, suc, Bool, true, false, not, ◌||◌, ◌==◌, is_some, List, [], ◌∷◌, ◌++◌, Option, Some, None, length, map, take, nat_lt, slice_get}
+use Rattle.std.specs.Prelude.{◌≡◌, ℕ, suc, Bool, true, false, not, ◌||◌, ◌==◌, is_some, List, [], ◌∷◌, ◌++◌, Option, Some, None, Result, Ok, Err, length, map, take, nat_lt, slice_get}
 use Rattle.std.specs.List.{range_with_len}
 use Rattle.std.specs.Option.{option_map_or}
 use Rattle.hy_token.specs.declared.Span.{Span}
@@ -137,14 +137,17 @@ is_key (Some key) column = key == column
 abbrev pub kind_at : List Column → ℕ → Option Kind
 kind_at columns ordinal = option_map_or (λ column. Some column.kind) (slice_get columns ordinal) None
 
--- an assignment to a column of this number, or to none that is there: both sides have one type, and the
--- column is not the key
-abbrev pub set_fault : Scope → SetClause → Option ℕ → Option BindFault
-set_fault scope set None = Some fault.UnknownColumn
-set_fault scope set (Some ordinal) =
-    first_of (formula_fault scope set.value)
-    (first_of (fault_if (not (agree (formula_kind scope set.value) (kind_at (columns_of scope) ordinal))) fault.WrongType)
+-- an assignment to a column of this number, or to none that is there, of a value that is refused or not and has this
+-- type: both sides have one type, and the column is not the key
+abbrev pub fault_of_set : Scope → Option BindFault → Option Kind → Option ℕ → Option BindFault
+fault_of_set scope unfit kind None = Some fault.UnknownColumn
+fault_of_set scope unfit kind (Some ordinal) =
+    first_of unfit
+    (first_of (fault_if (not (agree kind (kind_at (columns_of scope) ordinal))) fault.WrongType)
     (fault_if (is_key (key_of scope) ordinal) fault.KeySet))
+
+abbrev pub set_fault : Scope → SetClause → Option ℕ → Option BindFault
+set_fault scope set column = fault_of_set scope (formula_fault scope set.value) (formula_kind scope set.value) column
 
 -- the number of the column on the left
 abbrev pub set_column : Scope → SetClause → Option ℕ
@@ -262,6 +265,11 @@ bind_fault script catalog statement = fault_of_numbered script catalog (numbers_
 abbrev pub Fails : BindError → Option BindFault → Type 0
 Fails error.OutOfMemory fault = Unit {0}
 Fails (error.Refused refusal) fault = fault ≡ Some refusal
+
+-- what binding a statement comes to: the statement, if it isn't refused
+abbrev pub Binds : Result Bound BindError → Option BindFault → Bound → Type 0
+Binds (Ok bound) fault expected = (bound ≡ expected) × (fault ≡ None)
+Binds (Err error) fault expected = Fails error fault
 
 -- a statement as the engine runs it; of one that names no tables it doesn't matter
 abbrev pub bound_in : Scope → Statement → Bound

@@ -1,67 +1,40 @@
 //! The right sides of assignments with their names resolved.
 
-ghost use Rattle.std.specs.Prelude.{◌≡◌, ◌&&◌, IfOk};
+ghost use Rattle.std.specs.Prelude.{◌≡◌, ◌&&◌, not, IfOk, is_none};
+ghost use Rattle.std.specs.Option.{option_map, option_map_or};
 ghost use Rattle.hy_ast.specs.Trees.{formula_of};
-ghost use Rattle.hy_bind.specs.Scope.{scope_of};
+ghost use Rattle.hy_bound.specs.Expression.{Column};
+ghost use Rattle.hy_bind.specs.Refusals.{fault_if, first_of};
+ghost use Rattle.hy_bind.specs.Scope.{scope_of, operand_fault, operand_kind};
 ghost use Rattle.hy_bind.specs.Expressions.{formula_kind, formula_fault, formula_bound, operand_bound, binary_bound, is_number};
 
-use crate::literals::value;
+use crate::literals::{kind_of, literal_fault, value};
 use crate::refusals::{BindFault, agree, fault_if, first_of};
-use crate::scope::{Scope, column, operand_fault, operand_kind};
+use crate::scope::{Found, Scope, number, resolve};
 use hy_ast::{Formula, Operand, Operator};
 use hy_bound::SetExpr;
 use hy_value::Kind;
 use std::alloc::{AllocError, Global};
 
-/// The type of an expression: an operator makes a number.
-pub fn expression_kind(scope: &Scope, expression: &Formula) -> Option<Kind>
-    ensures { result ≡ formula_kind (scope_of scope.now) (formula_of expression.now) }
-{
-    match expression {
-        Formula::Plain(operand) => operand_kind(scope, operand),
-        Formula::Binary { .. } => Some(Kind::Int),
-        Formula::Bracket(expression) => expression_kind(scope, expression),
-    }
+/// An expression as it is bound: why it is refused, its type, and what the engine runs.
+#[derive(Drop)]
+pub struct Judged {
+    /// Why it is refused, if it is.
+    pub fault: Option<BindFault>,
+    /// Its type: an operator makes a number, and NULL has none.
+    pub kind: Option<Kind>,
+    /// What the engine runs, if it is not refused.
+    pub value: SetExpr,
 }
 
-/// Whether a type may be that of a number.
-pub fn is_number(kind: Option<Kind>) -> bool
-    ensures { result ≡ is_number kind }
-{
-    agree(kind, Some(Kind::Int))
-}
-
-/// Why an expression is refused.
-pub fn expression_fault(scope: &Scope, expression: &Formula) -> Option<BindFault>
-    ensures { result ≡ formula_fault (scope_of scope.now) (formula_of expression.now) }
-{
-    match expression {
-        Formula::Plain(operand) => operand_fault(scope, operand),
-        Formula::Binary { left, right, .. } => {
-            let sides = first_of(
-                expression_fault(scope, left),
-                expression_fault(scope, right),
-            );
-            let numbers = are_numbers(expression_kind(scope, left), expression_kind(scope, right));
-            first_of(sides, fault_if(!numbers, BindFault::WrongType))
-        }
-        Formula::Bracket(expression) => expression_fault(scope, expression),
-    }
-}
-
-/// Whether two types may be those of numbers.
-fn are_numbers(left: Option<Kind>, right: Option<Kind>) -> bool
-    ensures { result ≡ (is_number left && is_number right) }
-{
-    is_number(left) && is_number(right)
-}
-
-/// An expression as the engine runs it.
-pub fn expression(alloc: Global, scope: &Scope, tree: &Formula) -> Result<SetExpr, AllocError>
-    ensures { IfOk result (λ e. e ≡ formula_bound (scope_of scope.now) (formula_of tree.now)) }
+/// An expression with its names resolved, each once.
+pub fn expression(alloc: Global, scope: &Scope, tree: &Formula) -> Result<Judged, AllocError>
+    ensures fault { IfOk result (λ judged. judged.fault ≡ formula_fault (scope_of scope.now) (formula_of tree.now)) }
+    ensures kind { IfOk result (λ judged. judged.kind ≡ formula_kind (scope_of scope.now) (formula_of tree.now)) }
+    ensures value { IfOk result (λ judged. judged.value ≡ formula_bound (scope_of scope.now) (formula_of tree.now)) }
 {
     match tree {
-        Formula::Plain(operand) => operand_expression(alloc, scope, operand),
+        Formula::Plain(operand) => plain(alloc, scope, operand),
         Formula::Binary {
             left,
             op,
@@ -79,26 +52,62 @@ pub fn expression(alloc: Global, scope: &Scope, tree: &Formula) -> Result<SetExp
 /// A column or a literal as an expression. It stands by itself, so that a chain of operators takes little
 /// room for each.
 #[inline(never)]
-fn operand_expression(
-    alloc: Global,
-    scope: &Scope,
-    operand: &Operand,
-) -> Result<SetExpr, AllocError>
-    ensures { IfOk result (λ e. e ≡ operand_bound (scope_of scope.now) operand.now) }
+fn plain(alloc: Global, scope: &Scope, operand: &Operand) -> Result<Judged, AllocError>
+    ensures fault { IfOk result (λ judged. judged.fault ≡ operand_fault (scope_of scope.now) operand.now) }
+    ensures kind { IfOk result (λ judged. judged.kind ≡ operand_kind (scope_of scope.now) operand.now) }
+    ensures value { IfOk result (λ judged. judged.value ≡ operand_bound (scope_of scope.now) operand.now) }
 {
     match operand {
-        Operand::Column(reference) => Ok(SetExpr::column(column(scope, reference)?)),
-        Operand::Literal(literal) => SetExpr::literal(alloc, value(alloc, scope.script, literal)?),
+        Operand::Column(reference) => named(resolve(scope, reference)),
+        Operand::Literal(literal) => Ok(Judged {
+            fault: literal_fault(scope.script, literal),
+            kind: kind_of(literal),
+            value: SetExpr::literal(alloc, value(alloc, scope.script, literal)?)?,
+        }),
     }
 }
 
-/// An operator between two expressions.
-fn binary(alloc: Global, op: Operator, left: SetExpr, right: SetExpr) -> Result<SetExpr, AllocError>
-    ensures { IfOk result (λ e. e ≡ binary_bound op left right) }
+/// What a reference means as an expression, if it means a column.
+fn named(found: Option<Found>) -> Result<Judged, AllocError>
+    ensures fault { IfOk result (λ judged. judged.fault ≡ fault_if (is_none found) BindFault.UnknownColumn) }
+    ensures kind { IfOk result (λ judged. judged.kind ≡ option_map (λ column. column.kind) found) }
+    ensures value { IfOk result (λ judged. judged.value ≡ Column (option_map_or (λ column. column.column) found 0)) }
 {
-    match op {
-        Operator::Plus => SetExpr::add(alloc, left, right),
-        Operator::Minus => SetExpr::sub(alloc, left, right),
-        Operator::Times => SetExpr::mul(alloc, left, right),
-    }
+    let kind = match found {
+        Some(found) => Some(found.kind),
+        None => None,
+    };
+    Ok(Judged {
+        fault: fault_if(found.is_none(), BindFault::UnknownColumn),
+        kind,
+        value: SetExpr::column(number(found)?),
+    })
+}
+
+/// Whether a type may be that of a number.
+pub fn is_number(kind: Option<Kind>) -> bool
+    ensures { result ≡ is_number kind }
+{
+    agree(kind, Some(Kind::Int))
+}
+
+/// An operator between two expressions.
+fn binary(alloc: Global, op: Operator, left: Judged, right: Judged) -> Result<Judged, AllocError>
+    ensures fault { IfOk result (λ judged. judged.fault ≡ first_of (first_of left.fault right.fault)
+        (fault_if (not (is_number left.kind && is_number right.kind)) BindFault.WrongType)) }
+    ensures kind { IfOk result (λ judged. judged.kind ≡ Some Kind.Int) }
+    ensures value { IfOk result (λ judged. judged.value ≡ binary_bound op left.value right.value) }
+{
+    let numbers = is_number(left.kind) && is_number(right.kind);
+    let sides = first_of(left.fault, right.fault);
+    let value = match op {
+        Operator::Plus => SetExpr::add(alloc, left.value, right.value)?,
+        Operator::Minus => SetExpr::sub(alloc, left.value, right.value)?,
+        Operator::Times => SetExpr::mul(alloc, left.value, right.value)?,
+    };
+    Ok(Judged {
+        fault: first_of(sides, fault_if(!numbers, BindFault::WrongType)),
+        kind: Some(Kind::Int),
+        value,
+    })
 }

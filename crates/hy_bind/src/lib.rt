@@ -4,7 +4,7 @@
 ghost use Rattle.std.specs.Prelude.{◌≡◌, None, IfOk, OnOk, IfErr};
 ghost use Rattle.hy_ast.specs.Trees.{statement_of};
 ghost use Rattle.hy_bind.specs.Scope.{scope_of};
-ghost use Rattle.hy_bind.specs.Statements.{NamesTables, bind_fault, bound_of, fault_in, bound_in, Fails};
+ghost use Rattle.hy_bind.specs.Statements.{Binds, NamesTables, bind_fault, bound_of, fault_in, bound_in, Fails};
 
 mod conditions;
 mod expressions;
@@ -24,7 +24,8 @@ use hy_schema::Catalog;
 pub use laws::{bound_statements_fit, names_mean_one_column};
 pub use literals::{text, text_in};
 pub use refusals::{BindError, BindFault};
-use std::alloc::{AllocError, Global};
+use scope::Scope;
+use std::alloc::Global;
 pub use tables::repeats;
 
 /// The statement with its names resolved, or the first reason why it is refused. `script` is the bytes
@@ -44,64 +45,27 @@ pub fn bind(
     let Some(numbers) = tables::numbers(alloc, script, catalog, tables.as_slice())? else {
         return Err(BindError::Refused(BindFault::UnknownTable));
     };
-    let scope = scope::Scope {
+    let scope = Scope {
         script,
         catalog,
         tables: numbers.as_slice(),
     };
-    match fault(alloc, &scope, ast)? {
-        Some(fault) => Err(BindError::Refused(fault)),
-        None => Ok(bound(alloc, &scope, ast)?),
-    }
+    statement(alloc, &scope, ast)
 }
 
-/// Why a statement whose tables are there is refused.
-fn fault(
-    alloc: Global,
-    scope: &scope::Scope,
-    ast: &Statement,
-) -> Result<Option<BindFault>, AllocError>
-    ensures { IfOk result (λ fault. fault ≡ fault_in (scope_of scope.now) (statement_of ast.now)) }
-{
-    match ast {
-        Statement::Insert { values, .. } => Ok(statements::insert_fault(scope, values.as_slice())),
-        Statement::Update {
-            sets,
-            condition,
-            ..
-        } => statements::update_fault(alloc, scope, sets.as_slice(), condition.as_ref()),
-        Statement::Delete { condition, .. } => Ok(conditions::where_fault(
-            scope,
-            condition.as_ref(),
-        )),
-        Statement::Select(query) => queries::query_fault(alloc, scope, query),
-        _ => Ok(None),
-    }
-}
-
-/// A statement as the engine runs it.
-fn bound(alloc: Global, scope: &scope::Scope, ast: &Statement) -> Result<Bound, AllocError>
+/// A statement whose tables are there.
+fn statement(alloc: Global, scope: &Scope, ast: &Statement) -> Result<Bound, BindError>
     requires { NamesTables (statement_of ast.now) }
-    ensures { IfOk result (λ bound. bound ≡ bound_in (scope_of scope.now) (statement_of ast.now)) }
+    ensures { Binds result (fault_in (scope_of scope.now) (statement_of ast.now)) (bound_in (scope_of scope.now) (statement_of ast.now)) }
 {
     match ast {
-        Statement::Insert { values, .. } => Ok(Bound::Insert {
-            table: statements::table(scope),
-            row: statements::row(alloc, scope.script, values.as_slice())?,
-        }),
+        Statement::Insert { values, .. } => statements::insert(alloc, scope, values.as_slice()),
         Statement::Update {
             sets,
             condition,
             ..
-        } => Ok(Bound::Update {
-            table: statements::table(scope),
-            sets: statements::assignments(alloc, scope, sets.as_slice())?,
-            pred: conditions::predicate(alloc, scope, condition.as_ref())?,
-        }),
-        Statement::Delete { condition, .. } => Ok(Bound::Delete {
-            table: statements::table(scope),
-            pred: conditions::predicate(alloc, scope, condition.as_ref())?,
-        }),
+        } => statements::update(alloc, scope, sets.as_slice(), condition.as_ref()),
+        Statement::Delete { condition, .. } => statements::delete(alloc, scope, condition.as_ref()),
         Statement::Select(query) => queries::query(alloc, scope, query),
         _ => unreachable!(),
     }

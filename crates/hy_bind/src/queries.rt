@@ -4,12 +4,12 @@ ghost use Rattle.std.specs.Prelude.{◌≡◌, IfOk};
 ghost use Rattle.std.specs.Option.{option_map, option_copied};
 ghost use Rattle.hy_ast.specs.Trees.{selection_of, test_of};
 ghost use Rattle.hy_bind.specs.Scope.{scope_of, column_of};
-ghost use Rattle.hy_bind.specs.Statements.{from_fault, groups_fault, group_column_fault, selection_fault, selection_bound};
+ghost use Rattle.hy_bind.specs.Statements.{Binds, from_fault, groups_fault, group_column_fault, selection_fault, selection_bound};
 
 use crate::conditions::{predicate, where_fault};
 use crate::joins::{joins_fault, ons};
 use crate::listed::{aggregate, items, listed_fault, total_fault};
-use crate::refusals::{BindFault, fault_if, first_of};
+use crate::refusals::{BindError, BindFault, fault_if, first_of, refuse};
 use crate::scope::{Scope, column, column_fault, resolve};
 use crate::statements::table;
 use crate::tables::{joined_tables, repeats};
@@ -20,8 +20,16 @@ use hy_token::Span;
 use hy_value::Seq;
 use std::alloc::{AllocError, Global};
 
+/// A SELECT.
+pub fn query(alloc: Global, scope: &Scope, tree: &Selection) -> Result<Bound, BindError>
+    ensures { Binds result (selection_fault (scope_of scope.now) (selection_of tree.now)) (selection_bound (scope_of scope.now) (selection_of tree.now)) }
+{
+    refuse(query_fault(alloc, scope, tree)?)?;
+    Ok(selected(alloc, scope, tree)?)
+}
+
 /// Why a SELECT is refused.
-pub fn query_fault(
+fn query_fault(
     alloc: Global,
     scope: &Scope,
     query: &Selection,
@@ -101,7 +109,7 @@ fn number_of(scope: &Scope, reference: &ColumnRef) -> u128
 }
 
 /// A SELECT as the engine runs it.
-pub fn query(alloc: Global, scope: &Scope, tree: &Selection) -> Result<Bound, AllocError>
+fn selected(alloc: Global, scope: &Scope, tree: &Selection) -> Result<Bound, AllocError>
     ensures { IfOk result (λ bound. bound ≡ selection_bound (scope_of scope.now) (selection_of tree.now)) }
 {
     match tree {

@@ -1,8 +1,9 @@
 //! Why a statement is refused.
 
-ghost use Rattle.std.specs.Prelude.{◌≡◌};
+ghost use Rattle.std.specs.Prelude.{◌≡◌, None, IfErr, OnOk};
 ghost use Rattle.hy_bind.specs.Refusals.{rank, first_of, fault_if, same_kind, agree};
 ghost use Rattle.hy_bind.specs.declared.refusals.BindError.TheVariants.{OutOfMemory};
+ghost use Rattle.hy_bind.specs.Statements.{Fails};
 
 use hy_value::Kind;
 use std::alloc::AllocError;
@@ -70,6 +71,17 @@ pub fn fault_if(so: bool, fault: BindFault) -> Option<BindFault>
     ensures { result ≡ fault_if so fault }
 {
     if so { Some(fault) } else { None }
+}
+
+/// Stops where there is a refusal.
+pub fn refuse(fault: Option<BindFault>) -> Result<(), BindError>
+    ensures ok { OnOk result (fault ≡ None) }
+    ensures err { IfErr result (λ error. Fails error fault) }
+{
+    match fault {
+        Some(fault) => Err(BindError::Refused(fault)),
+        None => Ok(()),
+    }
 }
 
 /// Whether two types are equal, NULL being of both.

@@ -1,7 +1,7 @@
 //! The columns that a statement can name.
 
 ghost use Rattle.std.specs.Prelude.{◌≡◌, ◌<◌, ◌^◌, IfOk, map};
-ghost use Rattle.std.specs.Option.{option_and_then};
+ghost use Rattle.std.specs.Option.{option_and_then, option_map_or};
 ghost use Rattle.hy_schema.specs.Names.{column_number, table_at};
 ghost use Rattle.hy_bind.specs.Scope.{scope_of, width_at, may_mean, found_in, and_found, only, resolved, column_of, column_fault, column_kind};
 ghost use Rattle.hy_bind.specs.Scope.{operand_fault, operand_kind, operand_side};
@@ -160,12 +160,18 @@ pub fn column_kind(scope: &Scope, reference: &ColumnRef) -> Option<Kind>
     Some(resolve(scope, reference)?.kind)
 }
 
-/// The number in the joined row of the column that a reference means. A number beyond 32 bits would
-/// need more memory than there is.
+/// The number in the joined row of the column that a reference means.
 pub fn column(scope: &Scope, reference: &ColumnRef) -> Result<u32, AllocError>
     ensures { IfOk result (λ number. number ≡ column_of (scope_of scope.now) reference.now) }
 {
-    match resolve(scope, reference) {
+    number(resolve(scope, reference))
+}
+
+/// The number of a column that was found. One beyond 32 bits would need more memory than there is.
+pub fn number(found: Option<Found>) -> Result<u32, AllocError>
+    ensures { IfOk result (λ number. number ≡ option_map_or (λ found. found.column) found 0) }
+{
+    match found {
         Some(found) => u32::try_from(found.column).map_err(|_| AllocError),
         None => Ok(0),
     }

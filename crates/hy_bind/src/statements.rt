@@ -3,19 +3,21 @@
 ghost use Rattle.std.specs.Prelude.{◌≡◌, ◌∷◌, IfOk, None, Some, map, length};
 ghost use Rattle.std.specs.Option.{option_map, option_map_or, option_copied};
 ghost use Rattle.hy_ast.specs.Trees.{set_clause_of, test_of};
+ghost use Rattle.hy_bound.specs.declared.Bound.TheVariants as bound;
+ghost use Rattle.hy_bind.specs.Conditions.{where_bound, where_fault};
 ghost use Rattle.hy_bind.specs.Literals.{literal_value};
 ghost use Rattle.hy_bind.specs.Scope.{scope_of};
 ghost use Rattle.hy_bind.specs.Statements.{table_of, columns_of, key_of, value_fault, values_fault, is_null, key_fault, insert_fault, is_key};
-ghost use Rattle.hy_bind.specs.Statements.{kind_at, set_fault, set_column, sets_fault, update_fault, set_bound};
+ghost use Rattle.hy_bind.specs.Statements.{Binds, fault_of_set, kind_at, set_fault, set_column, sets_fault, update_fault, set_bound};
 
-use crate::conditions::where_fault;
-use crate::expressions::{expression, expression_fault, expression_kind};
+use crate::conditions::{predicate, where_fault};
+use crate::expressions::{Judged, expression};
 use crate::literals::{kind_of, literal_fault, text_in, value};
-use crate::refusals::{BindFault, agree, fault_if, first_of};
+use crate::refusals::{BindError, BindFault, agree, fault_if, first_of, refuse};
 use crate::scope::{Scope, column_ordinal};
 use crate::tables::repeats;
 use hy_ast::{Literal, SetClause, Test};
-use hy_bound::{Assign, Sets};
+use hy_bound::{Assign, Bound, Sets};
 use hy_schema::Column;
 use hy_token::Span;
 use hy_value::{Kind, Row, Seq};
@@ -48,8 +50,20 @@ fn key(scope: &Scope) -> Option<u32>
     scope.catalog.table(table(scope))?.key
 }
 
+/// An INSERT.
+pub fn insert(alloc: Global, scope: &Scope, values: &[Literal]) -> Result<Bound, BindError>
+    ensures { Binds result (insert_fault (scope_of scope.now) values.now)
+        (bound.Insert (table_of (scope_of scope.now)) (map (literal_value scope.now.script.now) values.now)) }
+{
+    refuse(insert_fault(scope, values))?;
+    Ok(Bound::Insert {
+        table: table(scope),
+        row: row(alloc, scope.script, values)?,
+    })
+}
+
 /// Why an INSERT is refused.
-pub fn insert_fault(scope: &Scope, values: &[Literal]) -> Option<BindFault>
+fn insert_fault(scope: &Scope, values: &[Literal]) -> Option<BindFault>
     ensures { result ≡ insert_fault (scope_of scope.now) values.now }
 {
     let unfit = values_fault(scope.script, columns(scope), values);
@@ -100,7 +114,7 @@ fn is_null(literal: Option<&Literal>) -> bool
 }
 
 /// The row of an INSERT.
-pub fn row(alloc: Global, script: &[u8], literals: &[Literal]) -> Result<Row, AllocError>
+fn row(alloc: Global, script: &[u8], literals: &[Literal]) -> Result<Row, AllocError>
     ensures { IfOk result (λ row. row ≡ map (literal_value script.now) literals.now) }
 {
     let mut values = Vec::new(alloc);
@@ -110,21 +124,40 @@ pub fn row(alloc: Global, script: &[u8], literals: &[Literal]) -> Result<Row, Al
     Ok(Seq::from_vec(values))
 }
 
-/// Why an UPDATE is refused.
-pub fn update_fault(
+/// An UPDATE.
+pub fn update(
     alloc: Global,
     scope: &Scope,
     sets: &[SetClause],
     condition: Option<&Test>,
-) -> Result<Option<BindFault>, AllocError>
-    ensures { IfOk result (λ fault. fault ≡ update_fault (scope_of scope.now) (map set_clause_of sets.now)
-        (option_map test_of (option_copied condition.entry))) }
+) -> Result<Bound, BindError>
+    ensures { Binds result (update_fault (scope_of scope.now) (map set_clause_of sets.now) (option_map test_of (option_copied condition.entry)))
+        (bound.Update (table_of (scope_of scope.now)) (map (set_bound (scope_of scope.now)) (map set_clause_of sets.now))
+        (where_bound (scope_of scope.now) (option_map test_of (option_copied condition.entry)))) }
 {
     let columns = columns_set(alloc, sets)?;
     let again = repeats(alloc, scope.script, columns.as_slice())?;
     let twice = fault_if(again, BindFault::Twice);
     let rest = first_of(twice, where_fault(scope, condition));
-    Ok(first_of(sets_fault(scope, sets), rest))
+    let (unfit, sets) = assignments(alloc, scope, sets)?;
+    refuse(first_of(unfit, rest))?;
+    Ok(Bound::Update {
+        table: table(scope),
+        sets,
+        pred: predicate(alloc, scope, condition)?,
+    })
+}
+
+/// A DELETE.
+pub fn delete(alloc: Global, scope: &Scope, condition: Option<&Test>) -> Result<Bound, BindError>
+    ensures { Binds result (where_fault (scope_of scope.now) (option_map test_of (option_copied condition.entry)))
+        (bound.Delete (table_of (scope_of scope.now)) (where_bound (scope_of scope.now) (option_map test_of (option_copied condition.entry)))) }
+{
+    refuse(where_fault(scope, condition))?;
+    Ok(Bound::Delete {
+        table: table(scope),
+        pred: predicate(alloc, scope, condition)?,
+    })
 }
 
 /// The spans of the columns on the left of SET.
@@ -138,17 +171,6 @@ fn columns_set(alloc: Global, sets: &[SetClause]) -> Result<Vec<Span>, AllocErro
     Ok(spans)
 }
 
-/// Why assignments are refused.
-fn sets_fault(scope: &Scope, sets: &[SetClause]) -> Option<BindFault>
-    ensures { result ≡ sets_fault (scope_of scope.now) (map set_clause_of sets.now) }
-{
-    let mut fault = None;
-    for set in sets {
-        fault = first_of(fault, set_fault(scope, set, set_column(scope, set)));
-    }
-    fault
-}
-
 /// The number of the column on the left.
 fn set_column(scope: &Scope, set: &SetClause) -> Option<usize>
     ensures { result ≡ set_column (scope_of scope.now) (set_clause_of set.now) }
@@ -156,19 +178,17 @@ fn set_column(scope: &Scope, set: &SetClause) -> Option<usize>
     column_ordinal(columns(scope), text_in(scope.script, set.column))
 }
 
-/// Why an assignment to a column of this number, if there is one, is refused.
-fn set_fault(scope: &Scope, set: &SetClause, column: Option<usize>) -> Option<BindFault>
-    ensures { result ≡ set_fault (scope_of scope.now) (set_clause_of set.now) column }
+/// Why an assignment to a column of this number, if there is one, is refused, with a value that was judged.
+fn set_fault(scope: &Scope, column: Option<usize>, value: &Judged) -> Option<BindFault>
+    ensures { result ≡ fault_of_set (scope_of scope.now) value.now.fault value.now.kind column }
 {
     let Some(column) = column else {
         return Some(BindFault::UnknownColumn);
     };
-    let kind = kind_at(columns(scope), column);
-    let fits = agree(expression_kind(scope, &set.value), kind);
+    let fits = agree(value.kind, kind_at(columns(scope), column));
     let wrong_type = fault_if(!fits, BindFault::WrongType);
     let key_set = fault_if(is_key(key(scope), column), BindFault::KeySet);
-    let value = expression_fault(scope, &set.value);
-    first_of(value, first_of(wrong_type, key_set))
+    first_of(value.fault, first_of(wrong_type, key_set))
 }
 
 /// The type of a column.
@@ -188,24 +208,41 @@ fn is_key(key: Option<u32>, column: usize) -> bool
     }
 }
 
-/// The assignments as the engine runs them.
-pub fn assignments(alloc: Global, scope: &Scope, sets: &[SetClause]) -> Result<Sets, AllocError>
-    ensures { IfOk result (λ all. all ≡ map (set_bound (scope_of scope.now)) (map set_clause_of sets.now)) }
+/// Why assignments are refused, and these as the engine runs them.
+fn assignments(
+    alloc: Global,
+    scope: &Scope,
+    sets: &[SetClause],
+) -> Result<(Option<BindFault>, Sets), AllocError>
+    ensures fault { IfOk result (λ found. found.0 ≡ sets_fault (scope_of scope.now) (map set_clause_of sets.now)) }
+    ensures sets { IfOk result (λ found. found.1 ≡ map (set_bound (scope_of scope.now)) (map set_clause_of sets.now)) }
 {
+    let mut fault = None;
     let mut all = Vec::new(alloc);
     for set in sets {
-        all.push(assignment(alloc, scope, set)?)?;
+        let (unfit, assign) = assignment(alloc, scope, set)?;
+        fault = first_of(fault, unfit);
+        all.push(assign)?;
     }
-    Ok(Seq::from_vec(all))
+    Ok((fault, Seq::from_vec(all)))
 }
 
-/// An assignment as the engine runs it.
-fn assignment(alloc: Global, scope: &Scope, set: &SetClause) -> Result<Assign, AllocError>
-    ensures { IfOk result (λ assign. assign ≡ set_bound (scope_of scope.now) (set_clause_of set.now)) }
+/// Why an assignment is refused, and what the engine runs.
+fn assignment(
+    alloc: Global,
+    scope: &Scope,
+    set: &SetClause,
+) -> Result<(Option<BindFault>, Assign), AllocError>
+    ensures fault { IfOk result (λ found. found.0 ≡ set_fault (scope_of scope.now) (set_clause_of set.now)
+        (set_column (scope_of scope.now) (set_clause_of set.now))) }
+    ensures assign { IfOk result (λ found. found.1 ≡ set_bound (scope_of scope.now) (set_clause_of set.now)) }
 {
-    let column = set_column(scope, set).unwrap_or(0);
-    Ok(Assign {
-        column: u32::try_from(column).map_err(|_| AllocError)?,
-        value: expression(alloc, scope, &set.value)?,
-    })
+    let column = set_column(scope, set);
+    let value = expression(alloc, scope, &set.value)?;
+    let fault = set_fault(scope, column, &value);
+    let assign = Assign {
+        column: u32::try_from(column.unwrap_or(0)).map_err(|_| AllocError)?,
+        value: value.value,
+    };
+    Ok((fault, assign))
 }

@@ -15,7 +15,7 @@ exact operator.Add m n = m +ℤ n
 exact operator.Sub m n = m -ℤ n
 exact operator.Mul m n = m *ℤ n
 
--- whether a number has a place in 64 bits, one of which is its sign
+-- whether a number fits in 64 bits, one of which is its sign
 abbrev pub has_64_bits : ℤ → Bool
 has_64_bits (pos n) = nat_lt n (2 ^ 63)
 has_64_bits (negsuc n) = nat_lt n (2 ^ 63)

@@ -234,7 +234,7 @@ pub fn set_row(alloc: Global, sets: &Sets, row: &Row) -> Result<Option<Row>, All
 fn set_column(row: &mut Vec<Value>, column: u32, value: Value)
     ensures { row.new.items ≡ slice_set row.old.items column value }
 {
-    if let Some(place) = row.get_mut(column as usize) {
-        *place = value;
+    if let Some(old) = row.get_mut(column as usize) {
+        *old = value;
     }
 }

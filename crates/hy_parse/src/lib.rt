@@ -76,18 +76,20 @@ impl From<AllocError> for ParseError {
     }
 }
 
-/// The statement that begins at the first token from `at` on, and the offset right behind its `;`.
+/// The statement that begins at the first token from `at` on, and the offset right behind its `;`. What
+/// `room` holds doesn't matter: its memory serves for the pieces of one statement after another.
 #[tactic(auto, unfolding(crate::specs::Parsing::parsed))]
 pub fn parse_statement(
     alloc: Global,
     bytes: &[u8],
     at: usize,
+    room: &mut Vec<Piece>,
 ) -> Result<(Statement, usize), ParseError>
     requires { at ≤ length bytes.now }
     ensures { Gives (λ x. (statement_of x.0, x.1)) result (parsed bytes.now at) }
 {
-    let (pieces, ending) = pieces::pieces(alloc, bytes, at)?;
-    match statements::statement(alloc, &pieces) {
+    let ending = pieces::pieces(bytes, at, room)?;
+    match statements::statement(alloc, room) {
         Ok((statement, _)) => Ok((statement, ending.offset())),
         Err(Halt::Stuck(rest)) => Err(ending.fault_of(rest)),
         Err(Halt::OutOfMemory) => Err(ParseError::OutOfMemory),

@@ -8,7 +8,7 @@ use crate::cursor::is_same;
 use crate::{Ending, Piece};
 use hy_limits::MOST_TOKENS;
 use hy_token::{Keyword, Sign, Token, next};
-use std::alloc::{AllocError, Global};
+use std::alloc::AllocError;
 
 /// The most pieces that the statement may have that begins at the first token from `at` on. No script
 /// has more tokens than bytes.
@@ -34,26 +34,27 @@ fn no_more(bytes: &[u8], at: usize) -> Ending
     }
 }
 
-/// The pieces of the statement that begins at the first token from `at` on, and what follows them.
-pub fn pieces(alloc: Global, bytes: &[u8], at: usize) -> Result<(Vec<Piece>, Ending), AllocError>
+/// Puts the pieces of the statement that begins at the first token from `at` on in place of those that are
+/// there, and gives what follows them.
+pub fn pieces(bytes: &[u8], at: usize, pieces: &mut Vec<Piece>) -> Result<Ending, AllocError>
     requires { at ≤ length bytes.now }
-    ensures { IfOk result (λ found. (found.0.items ≡ (pieces_of bytes.now at).pieces) × (found.1 ≡ (pieces_of bytes.now at).ending)) }
+    ensures { IfOk result (λ ending. (pieces.new.items ≡ (pieces_of bytes.now at).pieces) × (ending ≡ (pieces_of bytes.now at).ending)) }
 {
-    let mut pieces = Vec::new(alloc);
+    pieces.clear();
     let mut at = at;
     for _ in 0..most_pieces(bytes, at) {
         let (token, span) = match next(bytes, at) {
             Ok(found) => found,
-            Err(bad) => return Ok((pieces, Ending::Bad { at: bad.at })),
+            Err(bad) => return Ok(Ending::Bad { at: bad.at }),
         };
         if is_same(Token::End, token) {
-            return Ok((pieces, Ending::Cut { at: span.start }));
+            return Ok(Ending::Cut { at: span.start });
         }
         pieces.push(Piece { token, span })?;
         if is_same(Token::Sign(Sign::Semicolon), token) {
-            return Ok((pieces, Ending::Closed { at: span.end }));
+            return Ok(Ending::Closed { at: span.end });
         }
         at = span.end;
     }
-    Ok((pieces, no_more(bytes, at)))
+    Ok(no_more(bytes, at))
 }

@@ -139,9 +139,10 @@ fn statements(alloc: Global, script: &[u8], options: &Options) -> Result<Script,
 {
     let input = Input { script, options };
     let mut sofar = SoFar::new(alloc);
+    let mut room = Vec::new(alloc);
     let mut at = 0;
     loop {
-        match sofar.step(alloc, &input, at) {
+        match sofar.step(alloc, &input, at, &mut room) {
             Ok(Step::GoOn(end)) => at = end,
             Ok(Step::End) => return Ok(sofar.into_script(alloc, options)?),
             Err(halt) => return Err(error_of(script, halt)),

@@ -13,7 +13,7 @@ use crate::Input;
 use crate::codes::Code;
 use crate::sofar::{Section, SoFar};
 use hy_ast::{Literal, Statement};
-use hy_parse::{ParseError, parse_statement, parsing_moves_on};
+use hy_parse::{ParseError, Piece, parse_statement, parsing_moves_on};
 use hy_token::{Keyword, Span, Token, next};
 use std::alloc::{AllocError, Global};
 
@@ -170,13 +170,19 @@ impl SoFar {
     }
 
     /// Reads the statement that begins with the token at an offset.
-    fn statement_at(&mut self, alloc: Global, input: &Input, at: usize) -> Result<Step, Halt>
+    fn statement_at(
+        &mut self,
+        alloc: Global,
+        input: &Input,
+        at: usize,
+        room: &mut Vec<Piece>,
+    ) -> Result<Step, Halt>
         requires { at ≤ length input.now.script.now }
         ensures comes { Comes result (judged input.now.script.now input.now.options.now self.old at (parsed input.now.script.now at)) input.now.options.now
             self.new }
         ensures goes { IfOk result (λ step. Goes at (length input.now.script.now) step) }
     {
-        match parse(alloc, input.script, at) {
+        match parse(alloc, input.script, at, room) {
             Ok((ast, end)) => self.accept(alloc, input, &ast, at, end),
             Err(ParseError::Syntax { at }) => Err(Halt::Refused {
                 code: Code::Syntax,
@@ -191,7 +197,13 @@ impl SoFar {
     }
 
     /// Reads the statement that stands at an offset.
-    pub fn step(&mut self, alloc: Global, input: &Input, at: usize) -> Result<Step, Halt>
+    pub fn step(
+        &mut self,
+        alloc: Global,
+        input: &Input,
+        at: usize,
+        room: &mut Vec<Piece>,
+    ) -> Result<Step, Halt>
         requires { at ≤ length input.now.script.now }
         ensures comes { Comes result (next_at input.now.script.now input.now.options.now self.old at) input.now.options.now self.new }
         ensures goes { IfOk result (λ step. Goes at (length input.now.script.now) step) }
@@ -203,7 +215,7 @@ impl SoFar {
             }),
             Ok((Token::Reserved(word), span)) => {
                 if self.section.may_stand(word) {
-                    self.statement_at(alloc, input, span.start)
+                    self.statement_at(alloc, input, span.start, room)
                 } else {
                     Err(Halt::Refused {
                         code: Code::Syntax,
@@ -224,13 +236,18 @@ impl SoFar {
 }
 
 /// The statement that begins with the token at an offset, and where it ends.
-fn parse(alloc: Global, script: &[u8], at: usize) -> Result<(Statement, usize), ParseError>
+fn parse(
+    alloc: Global,
+    script: &[u8],
+    at: usize,
+    room: &mut Vec<Piece>,
+) -> Result<(Statement, usize), ParseError>
     requires { at ≤ length script.now }
     ensures statement { Gives (λ found. (statement_of found.0, found.1)) result (parsed script.now at) }
     ensures moves { IfOk result (λ found. (at < found.1) × (found.1 ≤ length script.now)) }
 {
     parsing_moves_on();
-    parse_statement(alloc, script, at)
+    parse_statement(alloc, script, at, room)
 }
 
 /// Whether a statement is END.

@@ -11,7 +11,7 @@ use std::test::Fail;
 /// Where a statement ends or what is wrong with it: 0 for its end, 1 for a token that doesn't fit, 2 for a bad
 /// one.
 fn place(alloc: Global, text: &str) -> (u8, usize) {
-    match parse_statement(alloc, text.as_bytes(), 0) {
+    match parse_statement(alloc, text.as_bytes(), 0, &mut Vec::new(alloc)) {
         Ok((_, end)) => (0, end),
         Err(ParseError::Syntax { at }) => (1, at),
         Err(ParseError::BadToken { at }) => (2, at),
@@ -88,7 +88,7 @@ fn a_catalog_numbers_its_tables(rt: HostRuntime) -> Result<(), Fail> {
 fn fault(alloc: Global, text: &str) -> Result<Option<BindFault>, Fail> {
     let mut catalog = Catalog::new(alloc);
     catalog.add(alloc, acc(alloc)?).ok().ok_or("acc is added")?;
-    let (ast, _) = parse_statement(alloc, text.as_bytes(), 0)
+    let (ast, _) = parse_statement(alloc, text.as_bytes(), 0, &mut Vec::new(alloc))
         .ok()
         .ok_or("it is a statement")?;
     match ast {

@@ -269,11 +269,11 @@ fn so_many_keys_are_recorded_one_by_one(rt: HostRuntime) -> Result<(), Fail> {
     let all = many(alloc, 1024)?;
     assert_eq!(rt; count_of(&all, 0), 1);
     assert_eq!(rt; count_of(&all, 1), 1024);
-    for place in 1..=1024u32 {
-        let Some(of) = all.as_slice().get(place as usize) else {
+    for key in 1..=1024u32 {
+        let Some(of) = all.as_slice().get(key as usize) else {
             return Err(Fail::from("each key has a record"));
         };
-        let number = i64::from(place);
+        let number = i64::from(key);
         assert!(rt; is_true_of(alloc, of, number)?, "{number}");
         assert!(rt; !is_true_of(alloc, of, number + 1)?, "{number}");
         assert!(rt; !is_true_of(alloc, of, number - 1)?, "{number}");

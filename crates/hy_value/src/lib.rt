@@ -235,7 +235,7 @@ pub fn compare_rows(left: &Row, right: &Row) -> Ordering
     compare_values(left.as_slice(), right.as_slice())
 }
 
-/// How values stand to others, place by place.
+/// How values stand to others, item by item.
 fn compare_values(left: &[Value], right: &[Value]) -> Ordering
     ensures { result ≡ row_cmp left.now right.now }
 {

@@ -6,7 +6,7 @@ use Rattle.hy_schema.specs.declared.TableDef.{TableDef}
 use Rattle.hy_schema.specs.Names.{table_number}
 use Rattle.hy_token.specs.declared.Span.{Span}
 use Rattle.hy_ast.specs.declared.Operand.TheVariants as operands
-use Rattle.hy_ast.specs.Trees.{Formula, Setting, Selection, Statement, Test}
+use Rattle.hy_ast.specs.Trees.{Formula, SetClause, Selection, Statement, Test}
 use Rattle.hy_ast.specs.Trees as tree
 use Rattle.hy_bind.specs.Literals.{text_of_span}
 use Rattle.hy_bind.specs.Scope.{Scope}
@@ -50,14 +50,14 @@ literal scope (tree.Plain (operands.Literal l)) h = tt
 literal scope (tree.Binary left op at right) h = absurd cc
 literal scope (tree.Bracket inner) h = literal scope inner h
 
-pub update_of_form : (script : List ℕ) (catalog : List TableDef) (table : Span) (sets : List Setting) (test : Option Test) → list_any computes_in sets ≡ false
+pub update_of_form : (script : List ℕ) (catalog : List TableDef) (table : Span) (sets : List SetClause) (test : Option Test) → list_any computes_in sets ≡ false
     → IsOfForm (bound_of script catalog (tree.Update table sets test))
 update_of_form script catalog table sets test h =
     let scope : Scope = in_scope script catalog (numbers_or_none (numbers_of script catalog (table ∷ []))) in
     record {
       one_table = tt;
       values = mapped (set_bound scope) (λ (set : Assign). IsLiteral set.value) sets
-          (none_passes computes_in (λ (set : Setting). IsLiteral (formula_bound scope set.value)) sets (λ set value. literal scope set.value (not-false (is_value_in set.value) value)) h);
+          (none_passes computes_in (λ (set : SetClause). IsLiteral (formula_bound scope set.value)) sets (λ set value. literal scope set.value (not-false (is_value_in set.value) value)) h);
     }
 
 reads_only : (statement : Bound) → HasOneTable statement → is_update_in statement ≡ false → OnlyReads statement

@@ -12,7 +12,7 @@ use Rattle.hy_token.specs.declared.Keyword.{Keyword}
 use Rattle.hy_token.specs.declared.Keyword.TheVariants as words
 use Rattle.hy_ast.specs.declared.Literal.{Literal}
 use Rattle.hy_ast.specs.declared.Turn.{Turn}
-use Rattle.hy_ast.specs.Trees.{Statement, Setting, Test}
+use Rattle.hy_ast.specs.Trees.{Statement, SetClause, Test}
 use Rattle.hy_ast.specs.Trees as tree
 use Rattle.hy_bind.specs.Literals.{text_of_span, literal_value}
 use Rattle.hy_schedule.specs.declared.Item.{Item}

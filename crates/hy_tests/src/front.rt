@@ -10,7 +10,7 @@ use std::test::Fail;
 
 /// Where a statement ends or what is wrong with it: 0 for its end, 1 for a token that doesn't fit, 2 for a bad
 /// one.
-fn place(alloc: Global, text: &str) -> (u8, usize) {
+fn stop_of(alloc: Global, text: &str) -> (u8, usize) {
     match parse_statement(alloc, text.as_bytes(), 0, &mut Vec::new(alloc)) {
         Ok((_, end)) => (0, end),
         Err(ParseError::Syntax { at }) => (1, at),
@@ -22,31 +22,31 @@ fn place(alloc: Global, text: &str) -> (u8, usize) {
 #[test]
 fn statements_are_parsed(rt: HostRuntime) {
     let alloc = rt.alloc();
-    assert_eq!(rt; place(alloc, "DELETE FROM t;"), (0, 14));
-    assert_eq!(rt; place(alloc, "DELETE t;"), (1, 7));
-    assert_eq!(rt; place(alloc, "DELETE FROM #"), (2, 12));
-    assert_eq!(rt; place(alloc, "DELETE FROM"), (1, 11));
+    assert_eq!(rt; stop_of(alloc, "DELETE FROM t;"), (0, 14));
+    assert_eq!(rt; stop_of(alloc, "DELETE t;"), (1, 7));
+    assert_eq!(rt; stop_of(alloc, "DELETE FROM #"), (2, 12));
+    assert_eq!(rt; stop_of(alloc, "DELETE FROM"), (1, 11));
     assert_eq!(rt;
-        place(alloc, "SELECT COUNT(*) FROM t JOIN u ON a = b;"),
+        stop_of(alloc, "SELECT COUNT(*) FROM t JOIN u ON a = b;"),
         (1, 23)
     );
     assert_eq!(rt;
-        place(alloc, "SELECT a, SUM(b) FROM t WHERE a = 'x' GROUP BY a;"),
+        stop_of(alloc, "SELECT a, SUM(b) FROM t WHERE a = 'x' GROUP BY a;"),
         (0, 49)
     );
-    assert_eq!(rt; place(alloc, "SELECT a, COUNT(*) FROM t;"), (1, 25));
+    assert_eq!(rt; stop_of(alloc, "SELECT a, COUNT(*) FROM t;"), (1, 25));
     assert_eq!(rt;
-        place(
+        stop_of(
             alloc,
             "UPDATE t SET a = a * (b + 2) - 3, b = NULL WHERE a > 2;"
         ),
         (0, 55)
     );
     assert_eq!(rt;
-        place(alloc, "INSERT INTO t VALUES (1, 'a', NULL, -4);"),
+        stop_of(alloc, "INSERT INTO t VALUES (1, 'a', NULL, -4);"),
         (0, 40)
     );
-    assert_eq!(rt; place(alloc, "SCHEDULE ! ;"), (1, 9));
+    assert_eq!(rt; stop_of(alloc, "SCHEDULE ! ;"), (1, 9));
 }
 
 /// The table acc of two numbers, the first of them its key.

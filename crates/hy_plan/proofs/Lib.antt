@@ -1,8 +1,8 @@
-pub mod Columns
 pub mod Values
 pub mod More
 pub mod OwnColumns
 pub mod NamedColumns
+pub mod OneSet
 pub mod OwnParts
 pub mod Spreads
 pub mod Numbers

@@ -2,6 +2,8 @@ pub mod Plans
 pub mod Logs
 pub mod Rows
 pub mod Restrictions
+pub mod ColumnSets
+pub mod Members
 pub mod Reads
 pub mod Restricted
 pub mod Kept

@@ -3,7 +3,6 @@ use Rattle.std.specs.Prelude.{ℕ, ◌+◌, List, [], ◌∷◌, ◌++◌, Bool,
 use Rattle.std.specs.List.{list_any, flat_map, range_with_len}
 use Rattle.hy_value.specs.declared.Value.{Value}
 use Rattle.hy_value.specs.declared.Cmp.TheVariants.{Eq}
-use Rattle.hy_value.specs.Columns.{no_columns}
 use Rattle.hy_value.specs.Sorted.{distinct}
 use Rattle.hy_bound.specs.declared.predicate.Side.TheVariants.{Literal}
 use Rattle.hy_bound.specs.declared.Assign.{Assign}
@@ -18,7 +17,8 @@ use Rattle.hy_bound.specs.Condition.{Condition, Compare}
 use Rattle.hy_bound.specs.Predicate.{column_of, is_null_value, truth_of}
 use Rattle.hy_bound.specs.Projection.{masked}
 use Rattle.hy_bound.specs.Records.{select_conditions, columns_of, columns_shown, columns_summed, on_columns, set_columns, conjoined, shape_of}
-use Rattle.hy_plan.specs.Restrictions.{add_columns, restriction}
+use Rattle.hy_plan.specs.Restrictions.{restriction}
+use Rattle.hy_plan.specs.ColumnSets.{named_columns}
 
 -- a row is read where one of the conditions is true of it
 abbrev pub is_read_of : List Condition → List Value → Bool
@@ -84,7 +84,7 @@ abbrev pub table_read_of : Shape → ℕ → Option On → List Condition → Li
 table_read_of shape table on conditions named earlier = record {
   table = table;
   conditions = read_by_of (restriction (length earlier) shape.width conditions) shape.key (looked_up_column shape.key (length earlier) on) earlier;
-  columns = add_columns no_columns (length earlier) shape.width named;
+  columns = named_columns (length earlier) shape.width named;
 }
 
 -- what a SELECT reads of its tables from one on, whose ON is `on`, the others having the ONs behind it; each
@@ -111,7 +111,7 @@ abbrev pub one_read_of : Shape → ℕ → Condition → List ℕ → Read
 one_read_of shape table condition named = record {
   table = table;
   conditions = condition ∷ [];
-  columns = add_columns no_columns 0 shape.width named;
+  columns = named_columns 0 shape.width named;
 }
 
 -- what an UPDATE reads; a DELETE sets nothing

@@ -1,0 +1,159 @@
+//! The columns of a chunk, seen as its rows.
+
+ghost use Rattle.std.specs.Prelude.{◌≡◌, ◌<◌, [], ℕ, List, IfOk, length, map, replicate, slice_index_or, slice_set};
+ghost use Rattle.hy_column.specs.Cells.{FitsKind, first_value, number_value, text_value};
+ghost use Rattle.hy_value.specs.declared.Value.{Value};
+ghost use Rattle.hy_value.specs.declared.Kind.{Kind};
+
+use crate::numbers::IntColumn;
+use crate::texts::TextColumn;
+use hy_value::{Kind, Row, Text, Value};
+use std::alloc::{AllocError, Global};
+use std::marker::Model;
+
+/// A column of one type.
+#[derive(Drop)]
+enum Column {
+    Int(IntColumn),
+    Text(TextColumn),
+}
+
+impl Column {
+    ghost use Rattle.hy_column.specs.Columns.{cell, with_cell, places, kind_of, first_cells};
+
+    /// So many first values of a type.
+    fn new(alloc: Global, kind: Kind, rows: usize) -> Result<Column, AllocError>
+        ensures { IfOk result (λ column. column ≡ first_cells kind rows) }
+    {
+        match kind {
+            Kind::Int => Ok(Column::Int(IntColumn::new(alloc, rows)?)),
+            Kind::Str => Ok(Column::Text(TextColumn::new(alloc, rows)?)),
+        }
+    }
+
+    /// The value at a place. It takes no memory.
+    fn value(&self, place: usize) -> Value
+        requires { place < places self.now }
+        ensures { result ≡ cell self.now place }
+    {
+        match self {
+            Column::Int(numbers) => number_or_null(numbers.get(place)),
+            Column::Text(texts) => text_or_null(texts.get(place)),
+        }
+    }
+
+    /// Puts a value of the column's type, or NULL, at a place, and gives the old one back. It takes no memory.
+    fn replace(&mut self, place: usize, value: Value) -> Value
+        requires within { place < places self.old }
+        requires fits { FitsKind (kind_of self.old) value }
+        ensures old { result ≡ cell self.old place }
+        ensures new { self.new ≡ with_cell self.old place value }
+    {
+        match self {
+            Column::Int(numbers) => match value {
+                Value::Null => number_or_null(numbers.replace(place, None)),
+                Value::Int(number) => number_or_null(numbers.replace(place, Some(number))),
+                Value::Text(_) => unreachable!(),
+            },
+            Column::Text(texts) => match value {
+                Value::Null => text_or_null(texts.replace(place, None)),
+                Value::Int(_) => unreachable!(),
+                Value::Text(text) => text_or_null(texts.replace(place, Some(text))),
+            },
+        }
+    }
+}
+
+/// A number as a value, None as NULL.
+fn number_or_null(number: Option<i64>) -> Value
+    ensures { result ≡ number_value number }
+{
+    match number {
+        None => Value::Null,
+        Some(number) => Value::Int(number),
+    }
+}
+
+/// A text as a value, None as NULL.
+fn text_or_null(text: Option<Text>) -> Value
+    ensures { result ≡ text_value text }
+{
+    match text {
+        None => Value::Null,
+        Some(text) => Value::Text(text),
+    }
+}
+
+/// The columns of a chunk. Contracts see the rows by place: how the values lie in columns is told here and
+/// nowhere else.
+#[derive(Drop)]
+pub struct Columns {
+    columns: Vec<Column>,
+    rows: usize,
+}
+
+impl Model for Columns {
+    ghost use Rattle.hy_column.specs.Rows.{ByPlace, by_place_code, rows_of, kinds_of, AreAsMany};
+
+    ghost Value = { ByPlace };
+
+    ghost coded = { by_place_code };
+
+    ghost view = { λ a. record { kinds = kinds_of a.columns.items; rows = rows_of a.rows a.columns.items } };
+
+    ghost invariant = { λ a. AreAsMany a.rows a.columns.items };
+}
+
+impl Columns {
+    /// So many rows of first values: zeros and empty texts. Err is for want of memory.
+    pub fn new(alloc: Global, kinds: &[Kind], rows: usize) -> Result<Columns, AllocError>
+        ensures kinds { IfOk result (λ columns. columns.kinds ≡ kinds.now) }
+        ensures rows { IfOk result (λ columns. columns.rows ≡ replicate rows (map first_value kinds.now)) }
+    {
+        let mut columns = Vec::with_capacity(alloc, kinds.len())?;
+        for kind in kinds {
+            columns.push(Column::new(alloc, *kind, rows)?)?;
+        }
+        Ok(Columns { columns, rows })
+    }
+
+    /// How many columns there are.
+    pub fn width(&self) -> usize
+        ensures { result ≡ length self.now.kinds }
+    {
+        self.columns.len()
+    }
+
+    /// The value of a column at a place. It takes no memory.
+    pub fn value(&self, place: usize, column: usize) -> Value
+        requires within { place < length self.now.rows }
+        requires column { column < length self.now.kinds }
+        ensures { result ≡ slice_index_or (slice_index_or self.now.rows place []) column result }
+    {
+        self.columns[column].value(place)
+    }
+
+    /// Makes a row of that width the one at a place. It takes no memory.
+    pub fn read(&self, place: usize, row: &mut Row)
+        requires within { place < length self.now.rows }
+        requires width { length row.old ≡ length self.now.kinds }
+        ensures { row.new ≡ slice_index_or self.now.rows place [] }
+    {
+        for column in 0..self.columns.len() {
+            let _old = row.replace(column, self.columns[column].value(place));
+        }
+    }
+
+    /// Puts a value of the column's type, or NULL, at a place, and gives the old one back. It takes no memory.
+    pub fn replace(&mut self, place: usize, column: usize, value: Value) -> Value
+        requires within { place < length self.old.rows }
+        requires column { column < length self.old.kinds }
+        requires fits { FitsKind (slice_index_or self.old.kinds column Kind.Int) value }
+        ensures old { result ≡ slice_index_or (slice_index_or self.old.rows place []) column result }
+        ensures kinds { self.new.kinds ≡ self.old.kinds }
+        ensures rows { self.new.rows ≡ slice_set self.old.rows place (slice_set (slice_index_or self.old.rows place []) column value) }
+    {
+        let column = &mut self.columns[column];
+        column.replace(place, value)
+    }
+}

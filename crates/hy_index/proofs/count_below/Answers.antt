@@ -1,0 +1,11 @@
+use Rattle.std.proofs.lemmas.List.Sorted.{IsPartitionPoint-from_clause}
+use Rattle.std.proofs.Common.{rules}
+use Rattle.hy_index.specs.Entries.{below_entry}
+use Rattle.hy_index.proofs.Orders.{parted_entry}
+use Rattle.hy_index.proofs.Prefixes.{prefix_is}
+use Rattle.hy_index.proofs.count_below.Goals as goal
+
+pub returns-clause-count : goal.returns-clause-count
+returns-clause-count c =
+    prefix_is (below_entry c.args.key.now c.args.pos) c.args.entries.now c.partition_point.result c.partition_point.ensures.bound
+    (IsPartitionPoint-from_clause (below_entry c.args.key.now c.args.pos) _ _ c.partition_point.ensures.partitioned (parted_entry c.args.key.now c.args.pos c.args.entries.now c.requires) (λ a r q k. search rules))

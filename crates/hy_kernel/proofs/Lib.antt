@@ -1,0 +1,4 @@
+pub mod Joining
+pub mod Packs
+pub mod Counts
+pub mod Listed

@@ -1,0 +1,10 @@
+use Rattle.std.proofs.Common.{◌≡◌, ℕ, ◌<◌, ◌≤◌, get_or}
+use Rattle.std.specs.Prelude.{bit_or}
+use Rattle.hy_kernel.proofs.words.or.Given as goal
+
+-- the words so far are joined, the others as they were
+abbrev pub invariant-loop-k : goal.invariant-loop-k
+invariant-loop-k l = record {
+  done : (k : ℕ) → k < l.k → get_or l.into k 0 ≡ bit_or (get_or l.initial.into k 0) (get_or l.other k 0);
+  rest : (k : ℕ) → l.k ≤ k → get_or l.into k 0 ≡ get_or l.initial.into k 0;
+}

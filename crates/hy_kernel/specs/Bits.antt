@@ -1,0 +1,28 @@
+-- The bits of a mask that lies in words of 64.
+use Rattle.std.specs.Prelude.{◌≡◌, ◌≤◌, ◌+◌, false, ℕ, ℤ, ◌*◌, ◌/◌, ◌%◌, List, Bool, ◌==◌, map, length, count_by, slice_index}
+use Rattle.std.specs.List.{range_with_len}
+use Rattle.std.specs.Int.{bit_at}
+use Rattle.std.specs.Ordering.{int_cmp}
+use Rattle.hy_value.specs.declared.Cmp.{Cmp}
+use Rattle.hy_value.specs.Order.{holds_at}
+
+-- whether a bit is set; behind the last word none is
+abbrev pub is_bit : List ℕ → ℕ → Bool
+is_bit words i = bit_at (slice_index words (i / 64)) (i % 64) == 1
+
+-- whether a comparison holds of a number and another
+abbrev pub compares : Cmp → ℤ → ℤ → Bool
+compares op right value = holds_at op (int_cmp value right)
+
+-- the first bits, as a list
+abbrev pub bits_below : ℕ → List ℕ → List Bool
+bits_below count words = map (is_bit words) (range_with_len 0 count)
+
+-- how many bits are set
+abbrev pub count_set : List ℕ → ℕ
+count_set words = count_by (is_bit words) (range_with_len 0 (64 * length words))
+
+-- so many bits lie in words, with none set behind them
+pub record Lies (count : ℕ) (words : List ℕ) : Type 0 where
+  pub size : length words ≡ count / 64 + 1
+  pub clear : (i : ℕ) → count ≤ i → is_bit words i ≡ false

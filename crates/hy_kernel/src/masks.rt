@@ -1,0 +1,118 @@
+//! Masks: one bit for each of some places.
+
+ghost use Rattle.std.specs.Prelude.{◌≡◌, ◌≢◌, ℕ, ◌<◌, ◌==◌, ◌&&◌, ◌||◌, length, map, not as negated};
+ghost use Rattle.std.specs.Prelude.{false, IfOk, replicate, count_by, slice_index_or, slice_set};
+ghost use lib.Lanes.{zip2};
+ghost use Rattle.std.specs.Int.{bit_at};
+ghost use Rattle.hy_kernel.specs.Bits.{compares};
+
+use crate::words;
+use hy_value::Cmp;
+use std::alloc::{AllocError, Global};
+use std::marker::Model;
+
+/// A bit for each place, 64 in a word. Contracts see the list of the bits.
+#[derive(Drop)]
+pub struct Mask {
+    words: Vec<u64>,
+    bits: usize,
+}
+
+impl Model for Mask {
+    ghost use Rattle.std.specs.Prelude.{List, Bool};
+    ghost use Rattle.hy_kernel.specs.Bits.{bits_below, Lies};
+
+    ghost Value = { List Bool };
+
+    ghost view = { λ a. bits_below a.bits a.words.items };
+
+    ghost invariant = { λ a. Lies a.bits a.words.items };
+}
+
+/// A word with another bit at a place.
+fn with_bit(word: u64, place: usize, bit: bool) -> u64
+    requires { place < 64 }
+    ensures here { (bit_at result place == 1) ≡ bit }
+    ensures others { (i : ℕ) → i < 64 → i ≢ place → bit_at result i ≡ bit_at word i }
+{
+    if bit {
+        word | (1 << place)
+    } else {
+        word & !(1 << place)
+    }
+}
+
+impl Mask {
+    /// So many bits, none of them set. Err is for want of memory.
+    pub fn new(alloc: Global, bits: usize) -> Result<Mask, AllocError>
+        ensures { IfOk result (λ mask. mask ≡ replicate bits false) }
+    {
+        let words = vec![in alloc; 0u64; bits / 64 + 1]?;
+        Ok(Mask { words, bits })
+    }
+
+    /// How many bits there are, set or not.
+    pub fn len(&self) -> usize
+        ensures { result ≡ length self.now }
+    {
+        self.bits
+    }
+
+    /// Whether the bit at a place is set.
+    pub fn get(&self, place: usize) -> bool
+        requires { place < length self.now }
+        ensures { result ≡ slice_index_or self.now place false }
+    {
+        let words = self.words.as_slice();
+        (words[place / 64] >> (place % 64)) & 1 == 1
+    }
+
+    /// Sets the bit at a place, or clears it.
+    pub fn set(&mut self, place: usize, bit: bool)
+        requires { place < length self.old }
+        ensures { self.new ≡ slice_set self.old place bit }
+    {
+        let words = self.words.as_mut_slice();
+        words[place / 64] = with_bit(words[place / 64], place % 64, bit);
+    }
+
+    /// Makes each bit say whether the comparison holds of the number at its place.
+    pub fn compare(&mut self, values: &[i64], op: Cmp, right: i64)
+        requires { length values.now ≡ length self.old }
+        ensures { self.new ≡ map (compares op right) values.now }
+    {
+        words::compare(values, op, right, self.words.as_mut_slice());
+    }
+
+    /// Keeps the bits that are set in another mask of as many too.
+    pub fn and_with(&mut self, other: &Mask)
+        requires { length other.now ≡ length self.old }
+        ensures { self.new ≡ zip2 (λ bit other. bit && other) self.old other.now }
+    {
+        words::and(self.words.as_mut_slice(), other.words.as_slice());
+    }
+
+    /// Sets the bits that are set in another mask of as many.
+    pub fn or_with(&mut self, other: &Mask)
+        requires { length other.now ≡ length self.old }
+        ensures { self.new ≡ zip2 (λ bit other. bit || other) self.old other.now }
+    {
+        words::or(self.words.as_mut_slice(), other.words.as_slice());
+    }
+
+    /// Turns every bit about.
+    pub fn invert(&mut self)
+        ensures { self.new ≡ map negated self.old }
+    {
+        let bits = self.bits;
+        words::not(self.words.as_mut_slice(), bits);
+    }
+
+    /// How many bits are set.
+    pub fn count(&self) -> usize
+        ensures { result ≡ count_by (λ bit. bit) self.now }
+    {
+        let _bits = self.bits;
+        words::count(self.words.as_slice())
+    }
+}

@@ -1,0 +1,92 @@
+//! Masks in words of 64 bits. Bit i stands in word i / 64, the least bit first.
+
+ghost use Rattle.std.specs.Prelude.{◌≡◌, ◌+◌, ◌-◌, ◌*◌, ◌^◌, ◌≤◌, ◌<◌, ◌&&◌, ◌||◌};
+ghost use Rattle.std.specs.Prelude.{ℕ, length, map, not as negated, nat_lt, slice_index_or};
+ghost use Rattle.std.specs.Prelude.{false};
+ghost use lib.Lanes.{mask_l};
+ghost use Rattle.hy_kernel.specs.Bits.{is_bit, compares, count_set};
+
+use hy_value::Cmp;
+
+/// One bit for each of at most 64 numbers: whether the comparison holds.
+fn pack(values: &[i64], op: Cmp, right: i64) -> u64
+    requires { length values.now ≤ 64 }
+    ensures { result ≡ mask_l (map (compares op right) values.now) }
+{
+    let mut word = 0u64;
+    for i in (0..values.len()).rev() {
+        word = word * 2 + u64::from(op.holds(values[i].cmp(&right)));
+    }
+    word
+}
+
+/// Compares each number of a column with another: bit i says whether the comparison holds of number i. No bit
+/// behind the last number is set.
+pub fn compare(values: &[i64], op: Cmp, right: i64, into: &mut [u64])
+    requires { length values.now ≤ 64 * length into.old }
+    ensures { (i : ℕ) → is_bit into.new i ≡ slice_index_or (map (compares op right) values.now) i false }
+{
+    let mut rest = values;
+    for k in 0..into.len() {
+        let (now, later) = rest.split_at(rest.len().min(64));
+        into[k] = pack(now, op, right);
+        rest = later;
+    }
+}
+
+/// Keeps the bits that are set in another mask too.
+pub fn and(into: &mut [u64], other: &[u64])
+    requires { length other.now ≡ length into.old }
+    ensures { (i : ℕ) → is_bit into.new i ≡ (is_bit into.old i && is_bit other.now i) }
+{
+    for k in 0..into.len() {
+        into[k] &= other[k];
+    }
+}
+
+/// Sets the bits that are set in another mask.
+pub fn or(into: &mut [u64], other: &[u64])
+    requires { length other.now ≡ length into.old }
+    ensures { (i : ℕ) → is_bit into.new i ≡ (is_bit into.old i || is_bit other.now i) }
+{
+    for k in 0..into.len() {
+        into[k] |= other[k];
+    }
+}
+
+/// So many ones, from the least bit on.
+fn low_ones(bits: usize) -> u64
+    requires { bits ≤ 64 }
+    ensures { result ≡ 2 ^ bits - 1 }
+{
+    if bits == 64 {
+        u64::MAX
+    } else {
+        (1 << bits) - 1
+    }
+}
+
+/// Turns the first bits of a mask about, and clears those behind them.
+pub fn not(into: &mut [u64], bits: usize)
+    requires { bits ≤ 64 * length into.old }
+    ensures { (i : ℕ) → is_bit into.new i ≡ (nat_lt i bits && negated (is_bit into.old i)) }
+{
+    let mut left = bits;
+    for k in 0..into.len() {
+        let now = left.min(64);
+        into[k] = !into[k] & low_ones(now);
+        left -= now;
+    }
+}
+
+/// How many bits are set.
+pub fn count(mask: &[u64]) -> usize
+    requires { count_set mask.now < 2 ^ 64 }
+    ensures { result ≡ count_set mask.now }
+{
+    let mut total = 0;
+    for word in mask {
+        total += word.count_ones() as usize;
+    }
+    total
+}

@@ -1,0 +1,95 @@
+//! What pruning does with a chain of versions, by the starts that were open when a transaction began.
+//!
+//! Eager pruning of version chains against the active starts is Steam's (Böttcher, Leis, Neumann, Kemper,
+//! "Scalable Garbage Collection for In-Memory MVCC Systems", PVLDB 2019). The groups and the merge are this
+//! project's own: of the records between two neighbouring starts no viewer ever stops between them, so they
+//! become one.
+#![tactic(auto)]
+
+ghost use Rattle.std.specs.Prelude.{◌≡◌, ℕ, length};
+ghost use Rattle.hy_prune.specs.Fates.{group, fate_of, fates_of, watermark_of};
+
+mod starts;
+
+pub use starts::Starts;
+
+/// The starts that were open when a transaction had begun, its own among them, and the time that the
+/// clock would have given next.
+#[derive(Drop)]
+pub struct Cover {
+    /// The open starts, ascending.
+    pub starts: Starts,
+    /// The next time.
+    pub next: u64,
+}
+
+/// What becomes of a record of a chain.
+#[derive(Clone, Copy, Debug, PartialEq, Eq)]
+pub enum Fate {
+    /// It stays.
+    Keep,
+    /// It becomes a part of the next newer record that stays.
+    Merge,
+    /// It goes.
+    Drop,
+}
+
+/// How many starts are below a time.
+fn count_below(cover: &Cover, time: u64) -> usize
+    ensures { result ≡ group cover.now time }
+{
+    cover
+        .starts
+        .as_slice()
+        .iter()
+        .filter(|start| **start < time)
+        .count()
+}
+
+/// The fate of a record of this time, behind a record of the chain that stays and has the time `kept`, if
+/// there is one. A chain that lies in no array is pruned with it, record by record.
+pub fn fate_behind(kept: Option<u64>, time: u64, cover: &Cover) -> Fate
+    ensures { result ≡ fate_of cover.now kept time }
+{
+    if cover.next <= time {
+        return Fate::Keep;
+    }
+    let below = count_below(cover, time);
+    if below == 0 {
+        return Fate::Drop;
+    }
+    match kept {
+        Some(newer) if newer < cover.next && count_below(cover, newer) == below => Fate::Merge,
+        _ => Fate::Keep,
+    }
+}
+
+/// The fates of the records of a chain, whose times stand newest first. They are put into `fates`, one for
+/// each time.
+pub fn plan(times: &[u64], cover: &Cover, fates: &mut [Fate])
+    requires { length fates.old ≡ length times.now }
+    ensures { fates.new ≡ fates_of cover.now None times.now }
+{
+    let mut kept = None;
+    for i in 0..times.len() {
+        let time = times[i];
+        let now = fate_behind(kept, time, cover);
+        fates[i] = now;
+        if now == Fate::Keep {
+            kept = Some(time);
+        }
+    }
+}
+
+/// The watermark: the least open start, or the next time where none is open. What is older is seen alike by
+/// every viewer.
+pub fn watermark(cover: &Cover) -> u64
+    ensures { result ≡ watermark_of cover.now }
+{
+    cover
+        .starts
+        .as_slice()
+        .first()
+        .copied()
+        .unwrap_or(cover.next)
+}

@@ -1,0 +1,4 @@
+pub mod Draws
+pub mod Accounts
+pub mod Transactions
+pub mod Made

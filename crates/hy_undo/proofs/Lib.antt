@@ -1,3 +1,4 @@
 pub mod Others
 pub mod Putting
 pub mod MergedLists
+pub mod Stepping

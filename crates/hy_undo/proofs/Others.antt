@@ -13,23 +13,23 @@ both_false : (x y : Bool) → x ≡ false → y ≡ false → (x || y) ≡ false
 both_false true y h k = h
 both_false false y h k = k
 
-or_true : (x y : Bool) → y ≡ true → (x || y) ≡ true
+pub or_true : (x y : Bool) → y ≡ true → (x || y) ≡ true
 or_true true y h = refl
 or_true false y h = h
 
-left_true : (x y : Bool) → x ≡ true → (x || y) ≡ true
+pub left_true : (x y : Bool) → x ≡ true → (x || y) ≡ true
 left_true true y h = refl
 left_true false y h = absurd (cc)
 
 -- a viewer goes past a record that is neither its own nor older than its start
-goes : (viewer : Viewer) (mark : ℕ) → mark ≢ viewer.id → viewer.start ≤ mark → stops viewer mark ≡ false
+pub goes : (viewer : Viewer) (mark : ℕ) → mark ≢ viewer.id → viewer.start ≤ mark → stops viewer mark ≡ false
 goes viewer mark other le = both_false (mark == viewer.id) (nat_lt mark viewer.start) (ne_eqb mark viewer.id other) (le-ltb mark viewer.start le)
 
-past : (viewer : Viewer) (version : Version) (undo : Undo Image) (rest : List (Undo Image)) → stops viewer undo.stamp.mark ≡ false
+pub past : (viewer : Viewer) (version : Version) (undo : Undo Image) (rest : List (Undo Image)) → stops viewer undo.stamp.mark ≡ false
     → seen before viewer version (undo ∷ rest) ≡ seen before viewer (before undo.image version) rest
 past viewer version undo rest e = ap (λ (b : Bool). cond b version (seen before viewer (before undo.image version) rest)) e
 
-at_end : (viewer : Viewer) (version : Version) (undo : Undo Image) (rest : List (Undo Image)) → stops viewer undo.stamp.mark ≡ true
+pub at_end : (viewer : Viewer) (version : Version) (undo : Undo Image) (rest : List (Undo Image)) → stops viewer undo.stamp.mark ≡ true
     → seen before viewer version (undo ∷ rest) ≡ version
 at_end viewer version undo rest e = ap (λ (b : Bool). cond b version (seen before viewer (before undo.image version) rest)) e
 

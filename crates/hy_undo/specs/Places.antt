@@ -1,32 +1,48 @@
 -- A position of a chunk: what is in place, and its chain.
-use Rattle.std.specs.Prelude.{◌≡◌, ◌≢◌, ℕ, ◌≤◌, ◌<◌, List, ◌∷◌, Bool, Option, None, Some, map, if◌then◌else◌}
+use Rattle.std.specs.Prelude.{◌≡◌, nat_lt, ◌≢◌, ℕ, ◌≤◌, ◌<◌, List, ◌∷◌, Bool, Option, None, Some, map, if◌then◌else◌, true, not, ◌&&◌, ◌||◌}
 use Rattle.hy_value.specs.declared.Value.{Value}
 use Rattle.hy_stamp.specs.declared.Label.{Label}
 use Rattle.hy_stamp.specs.declared.Stamp.{Stamp}
 use Rattle.hy_stamp.specs.declared.Viewer.{Viewer}
-use Rattle.hy_chain.specs.Chains.{Undo, seen, marked}
+use Rattle.hy_chain.specs.Chains.{Undo, seen, newest, marked}
 use Rattle.hy_undo.specs.declared.version.Version.{Version}
 use Rattle.hy_undo.specs.Images.{Image, before}
 
+-- what stands at a position, whether the position is used, when its row went (the death time: the commit time of
+-- the writer that left it without a row, or 0), and the chain of the versions before
 pub record Place : Type 0 where
   pub version : Version
   pub used : Bool
   pub death : ℕ
   pub chain : List (Undo Image)
 
-abbrev pub cell_of : Version → Option (List Value)
+-- a row that is there or not
+abbrev pub Cell : Type 0
+Cell = Option (List Value)
+
+abbrev pub cell_of : Version → Cell
 cell_of version = if version.live then Some version.row else None
 
 -- what a viewer sees there
-abbrev pub sees : Viewer → Place → Option (List Value)
+abbrev pub sees : Viewer → Place → Cell
 sees viewer place = cell_of (seen before viewer place.version place.chain)
 
 -- what is seen by one that goes past no record
-abbrev pub in_place : Place → Option (List Value)
+abbrev pub in_place : Place → Cell
 in_place place = cell_of place.version
 
 abbrev pub stamps : Place → List Stamp
 stamps place = map (λ undo. undo.stamp) place.chain
+
+-- a stamp, if there is one, is older than a time
+abbrev pub is_older : ℕ → Option Stamp → Bool
+is_older time None = true
+is_older time (Some stamp) = nat_lt stamp.mark time
+
+-- a position may take a new row: it is unused, or its row is gone for everyone from the watermark on
+abbrev pub is_free : ℕ → Place → Bool
+is_free watermark place =
+    not place.used || (not place.version.live && (is_older watermark (newest place.chain) && nat_lt place.death watermark))
 
 -- another viewer, which goes past records of this identifier
 pub record IsOther (writer : ℕ) (viewer : Viewer) : Type 0 where

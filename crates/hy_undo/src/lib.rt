@@ -4,18 +4,28 @@
 #![tactic(auto)]
 
 ghost use Rattle.hy_undo.specs.Places.{OthersKeep};
+ghost use Rattle.hy_undo.specs.Steps.{PlacesStep};
 
 mod delta;
 mod merging;
+mod refusal;
 mod version;
 
 pub use delta::Delta;
+pub use refusal::Refusal;
 pub use version::Version;
 
 /// What viewers see at a position after a write, an undo or a stamp there.
 pub fn others_keep_their_views()
     ensures { OthersKeep }
 {}
+
+/// What pruning, a commit, an undo, a write and an insert do at a position is what visits of a chunk do there.
+pub fn places_step()
+    ensures { PlacesStep }
+{
+    hy_chain::pruning_keeps_views::<Delta>()
+}
 
 fn is_shared<T: Send + Sync>() {}
 

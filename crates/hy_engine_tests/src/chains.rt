@@ -1,0 +1,172 @@
+//! Chains of undo records, their pruning, and the starts that it heeds.
+
+ghost use Rattle.std.specs.Prelude.{◌≡◌, ◌<◌, length};
+
+use hy_active::Active;
+use hy_chain::Chains;
+use hy_journal::{Entry, Journal};
+use hy_prune::{Cover, Fate, Starts, plan, watermark};
+use hy_range::Versioned;
+use hy_stamp::{Label, Stamp, Viewer};
+use hy_undo::{Delta, Version};
+use hy_value::{Seq, Value};
+use std::alloc::{AllocError, Global};
+use std::test::Fail;
+
+/// A writer.
+const WRITER: Label = Label { session: 0, txn: 1 };
+
+/// A cover of these starts.
+fn cover(alloc: Global, starts: &[u64], next: u64) -> Result<Cover, AllocError> {
+    Ok(Cover {
+        starts: Starts::from_vec(starts.to_vec(alloc)?),
+        next,
+    })
+}
+
+/// Whether records of these times come to these fates.
+fn comes_to(alloc: Global, times: &[u64], by: &Cover, fates: &[Fate]) -> Result<bool, AllocError> {
+    let mut found = Vec::new(alloc);
+    for _ in times {
+        found.push(Fate::Keep)?;
+    }
+    if found.len() != times.len() {
+        return Ok(false);
+    }
+    plan(times, by, &mut found);
+    Ok(found.as_slice() == fates)
+}
+
+#[test]
+fn fates_are_those_of_a_cover(rt: HostRuntime) -> Result<(), Fail> {
+    let alloc = rt.alloc();
+    let two = cover(alloc, &[4, 8], 10)?;
+    let fates = [Fate::Keep, Fate::Keep, Fate::Merge, Fate::Drop];
+    assert!(rt; comes_to(alloc, &[9, 7, 5, 3], &two, &fates)?);
+    let none = cover(alloc, &[], 10)?;
+    let gone = [Fate::Drop, Fate::Drop, Fate::Drop, Fate::Drop];
+    assert!(rt; comes_to(alloc, &[9, 7, 5, 3], &none, &gone)?);
+    let one = cover(alloc, &[4], 10)?;
+    assert!(rt; comes_to(alloc, &[12, 9], &one, &[Fate::Keep, Fate::Keep])?);
+    assert_eq!(rt; (watermark(&two), watermark(&none)), (4, 10));
+    Ok(())
+}
+
+#[test]
+fn ranges_widen_and_shrink(rt: HostRuntime) {
+    let mut range = Versioned::none();
+    range.cover(5);
+    range.cover(2);
+    assert_eq!(rt; range, Versioned { first: 2, end: 6 });
+    range.shrink(3, 5);
+    assert_eq!(rt; range, Versioned { first: 3, end: 5 });
+    range.clear();
+    assert_eq!(rt; range, Versioned { first: 0, end: 0 });
+}
+
+#[test]
+fn starts_enter_and_leave(rt: HostRuntime) -> Result<(), Fail> {
+    let mut active = Active::new(rt.alloc());
+    active.reserve(2)?;
+    active.enter_reserved(1);
+    active.enter_reserved(4);
+    let both = active.cover(5)?;
+    assert_eq!(rt; both.starts.as_slice(), [1, 4].as_slice());
+    assert_eq!(rt; both.next, 5);
+    active.leave(1);
+    assert_eq!(rt; active.cover(5)?.starts.as_slice(), [4].as_slice());
+    Ok(())
+}
+
+/// A row of two numbers that is there.
+fn live(alloc: Global, id: i64, bal: i64) -> Result<Version, AllocError> {
+    let mut row = Seq::new(alloc);
+    row.push(Value::Int(id))?;
+    row.push(Value::Int(bal))?;
+    Ok(Version { row, live: true })
+}
+
+/// Puts a before-image of the balance in front of the first chain.
+fn push(alloc: Global, chains: &mut Chains<Delta>, mark: u64, bal: i64) -> Result<(), AllocError>
+    requires { 0 < length chains.old.chains }
+    ensures { length chains.new.chains ≡ length chains.old.chains }
+{
+    let mut delta = Delta::blank(alloc, 2)?;
+    delta.note(1, Value::Int(bal));
+    delta.set_live(true);
+    chains.reserve(1)?;
+    let stamp = Stamp {
+        owner: WRITER,
+        mark,
+    };
+    chains.push_reserved(0, stamp, delta);
+    Ok(())
+}
+
+/// The balance that a viewer of this start sees, where 50 is in place.
+fn balance(alloc: Global, chains: &Chains<Delta>, start: u64) -> Result<Option<i64>, AllocError>
+    requires { 0 < length chains.now.chains }
+{
+    let mut version = live(alloc, 1, 50)?;
+    let viewer = Viewer { id: 1 << 63, start };
+    chains.see(0, &viewer, &mut version);
+    match version.row.as_slice() {
+        [_, Value::Int(bal)] => Ok(Some(*bal)),
+        _ => Ok(None),
+    }
+}
+
+#[test]
+fn pruning_keeps_what_open_starts_see(rt: HostRuntime) -> Result<(), Fail> {
+    let alloc = rt.alloc();
+    let mut chains = Chains::new(alloc, 1)?;
+    push(alloc, &mut chains, 3, 10)?;
+    push(alloc, &mut chains, 5, 20)?;
+    push(alloc, &mut chains, 7, 30)?;
+    push(alloc, &mut chains, 9, 40)?;
+    for (start, bal) in [(4, 20), (8, 40), (10, 50)] {
+        assert_eq!(rt; balance(alloc, &chains, start)?, Some(bal), "{start}");
+    }
+    chains.prune(0, &cover(alloc, &[4, 8], 10)?);
+    for (start, bal) in [(4, 20), (8, 40), (10, 50)] {
+        assert_eq!(rt; balance(alloc, &chains, start)?, Some(bal), "{start}");
+    }
+    // Two are left: the newest, and one that a start before 4 would see go back to 20.
+    assert_eq!(rt; chains.head(0).map(|stamp| stamp.mark), Some(9));
+    assert_eq!(rt; balance(alloc, &chains, 2)?, Some(20));
+    chains.clear(0);
+    assert!(rt; chains.head(0).is_none());
+    Ok(())
+}
+
+#[test]
+fn an_own_record_is_stamped_or_taken_back(rt: HostRuntime) -> Result<(), Fail> {
+    let alloc = rt.alloc();
+    let mut chains = Chains::new(alloc, 1)?;
+    push(alloc, &mut chains, 3, 10)?;
+    push(alloc, &mut chains, 5, 20)?;
+    assert_eq!(rt; chains.head(0).map(|stamp| stamp.mark), Some(5));
+    chains.stamp_own(0, 5, 6);
+    assert_eq!(rt; chains.head(0).map(|stamp| stamp.mark), Some(6));
+    assert!(rt; chains.pop_own(0, 5).is_none());
+    assert!(rt; chains.pop_own(0, 6).is_some());
+    assert_eq!(rt; chains.head(0).map(|stamp| stamp.mark), Some(3));
+    Ok(())
+}
+
+#[test]
+fn the_journal_tells_what_came_since(rt: HostRuntime) -> Result<(), Fail> {
+    let alloc = rt.alloc();
+    let mut journal = Journal::new(alloc);
+    journal.reserve(1)?;
+    journal.append_reserved(Entry {
+        label: WRITER,
+        start: 1,
+        time: 2,
+        notes: Seq::new(alloc),
+    });
+    assert_eq!(rt; journal.len(), 1);
+    assert_eq!(rt; journal.since(0).len(), 1);
+    assert!(rt; journal.since(1).is_empty());
+    Ok(())
+}

@@ -1,0 +1,4 @@
+pub mod Orders
+pub mod Prefixes
+pub mod Adding
+pub mod Tells

@@ -1,0 +1,5 @@
+pub mod Notes
+pub mod Spares
+pub mod Telling
+pub mod Noted
+pub mod Sound

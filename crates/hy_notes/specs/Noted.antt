@@ -1,0 +1,17 @@
+-- What contracts see of a transaction's notes.
+use Rattle.std.specs.Prelude.{ℕ, List, refl}
+use Rattle.std.specs.Coded.{Coded, code_by, coded×, coded_list, coded_ℕ}
+use Rattle.hy_change.specs.declared.Change.{Change}
+use Rattle.hy_change.specs.contracts.Change as change
+
+-- the notes, for how many more there is room, and for rows of how many values
+pub record Noted : Type 0 where
+  pub notes : List Change
+  pub room : ℕ
+  pub width : ℕ
+
+-- they are stored as the tuple of these
+abbrev pub noted_code : Coded Noted
+noted_code =
+    code_by (List Change × (ℕ × ℕ)) (coded× (coded_list change.the_row.coded) (coded× coded_ℕ coded_ℕ))
+    (λ n. (n.notes, (n.room, n.width))) (λ p. record { notes = p.0; room = p.1.0; width = p.1.1 }) (λ _. refl)

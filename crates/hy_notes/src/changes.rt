@@ -1,0 +1,225 @@
+//! The notes of a transaction.
+
+ghost use Rattle.std.specs.Prelude.{◌≡◌, ◌⊎◌, ◌+◌, ◌<◌, ◌≤◌, [], IfOk, OnOk, OnErr, IsTrue, not as negated};
+ghost use Rattle.std.specs.Prelude.{false, length, map, slice_index_or, slice_set, vec_len, vec_capacity};
+ghost use Rattle.std.specs.List.{prefix_len, insert};
+ghost use Rattle.std.specs.Ordering.{is_eq};
+ghost use Rattle.hy_change.specs.declared.Change.{Change};
+ghost use Rattle.std.specs.Option.{option_copied};
+ghost use Rattle.hy_notes.specs.Notes.{Ascends, order_of, below, with_after, with_note, place_of};
+ghost use Rattle.hy_notes.specs.Spares.{AreSpare, cell_width};
+
+use crate::NotedPlace;
+use crate::rows::kept;
+use hy_change::{Change, Changes as ChangeList};
+use hy_value::{Row, Seq, Value};
+use std::alloc::{AllocError, Global};
+use std::cmp::Ordering;
+use std::marker::Model;
+
+/// The notes of a transaction, by table and then position, one for each position, and spare rows for more.
+#[derive(Drop)]
+pub struct Changes {
+    notes: Vec<Change>,
+    spare: Vec<Vec<Value>>,
+    width: usize,
+}
+
+impl Model for Changes {
+    ghost use Rattle.std.specs.Prelude.{vec_len, vec_capacity};
+    ghost use Rattle.hy_notes.specs.Noted.{Noted, noted_code};
+    ghost use Rattle.hy_notes.specs.Spares.{rooms};
+    ghost use Rattle.hy_notes.specs.Sound.{Sound};
+
+    ghost Value = { Noted };
+
+    ghost coded = { noted_code };
+
+    ghost view = { λ a. record {
+      notes = a.notes.items;
+      room = rooms (vec_capacity a.notes) (vec_len a.notes) (vec_len a.spare);
+      width = a.width;
+    } };
+
+    ghost invariant = { λ a. Sound a.notes.items a.spare.items a.width };
+}
+
+/// How a note stands to a position of a table.
+fn order(note: &Change, table: u32, pos: u32) -> Ordering
+    ensures { result ≡ order_of note.now table pos }
+{
+    note.table.cmp(&table).then(note.pos.cmp(&pos))
+}
+
+/// How many notes are of positions before this one.
+fn count_below(notes: &[Change], table: u32, pos: u32) -> usize
+    requires { Ascends notes.now }
+    ensures count { result ≡ prefix_len (below table pos) notes.now }
+    ensures within { result ≤ length notes.now }
+{
+    notes.partition_point(|note| order(note, table, pos).is_lt())
+}
+
+/// So many empty buffers with room for so many values. Err is for want of memory.
+fn blank_rows(alloc: Global, count: usize, width: usize) -> Result<Vec<Vec<Value>>, AllocError>
+    ensures spare { IfOk result (λ rows. AreSpare width rows.items) }
+    ensures count { IfOk result (λ rows. vec_len rows ≡ count) }
+{
+    let mut rows = Vec::with_capacity(alloc, count)?;
+    for _row in 0..count {
+        rows.push(Vec::with_capacity(alloc, width)?)?;
+    }
+    Ok(rows)
+}
+
+/// Adds empty buffers until there are so many. Err is for want of memory.
+fn add_rows(spare: &mut Vec<Vec<Value>>, count: usize, width: usize) -> Result<(), AllocError>
+    requires { AreSpare width spare.old.items }
+    ensures spare { AreSpare width spare.new.items }
+    ensures ok { OnOk result (count ≤ vec_len spare.new) }
+    ensures kept { vec_len spare.old ≤ vec_len spare.new }
+    ensures err { OnErr result (vec_len spare.old < count) }
+{
+    let alloc = *spare.allocator();
+    for _row in spare.len()..count {
+        spare.push(Vec::with_capacity(alloc, width)?)?;
+    }
+    Ok(())
+}
+
+/// Whether the note at a place is of this position.
+fn is_noted(notes: &[Change], place: usize, table: u32, pos: u32) -> bool
+    ensures noted { IsTrue result → place < length notes.now }
+    ensures same { IsTrue result → (d : Change) → order_of (slice_index_or notes.now place d) table pos ≡ Ordering.Equal }
+    ensures other { IsTrue (negated result) → place < length notes.now
+        → (d : Change) → is_eq (order_of (slice_index_or notes.now place d) table pos) ≡ false }
+{
+    place < notes.len() && order(&notes[place], table, pos).is_eq()
+}
+
+/// Puts another row after into the note at a place.
+fn put_after(notes: &mut Vec<Change>, place: usize, after: Option<Row>)
+    requires { place < vec_len notes.old }
+    ensures items { (d : Change) → notes.new.items ≡ slice_set notes.old.items place (with_after (slice_index_or notes.old.items place d) after) }
+    ensures capacity { vec_capacity notes.new ≡ vec_capacity notes.old }
+    ensures len { vec_len notes.new ≡ vec_len notes.old }
+{
+    notes[place].after = after;
+}
+
+/// Puts a note at a place, where there is room for it.
+fn put_note(notes: &mut Vec<Change>, place: usize, note: Change)
+    requires within { place ≤ vec_len notes.old }
+    requires room { vec_len notes.old < vec_capacity notes.old }
+    ensures items { notes.new.items ≡ insert notes.old.items place note }
+    ensures capacity { vec_capacity notes.old ≤ vec_capacity notes.new }
+    ensures len { vec_len notes.new ≡ vec_len notes.old + 1 }
+{
+    let _put = notes.insert(place, note);
+}
+
+impl Changes {
+    /// No notes, and room for none. It takes no memory.
+    pub fn new(alloc: Global) -> Changes
+        ensures { result.notes ≡ [] }
+    {
+        Changes {
+            notes: Vec::new(alloc),
+            spare: Vec::new(alloc),
+            width: 0,
+        }
+    }
+
+    /// Makes room for so many more notes with rows of up to so many values. It fails only where that room was
+    /// missing; the notes stay, and there is never less room.
+    pub fn reserve(&mut self, additional: usize, columns: usize) -> Result<(), AllocError>
+        ensures notes { self.new.notes ≡ self.old.notes }
+        ensures ok { OnOk result (additional ≤ self.new.room) }
+        ensures width { OnOk result (columns ≤ self.new.width) }
+        ensures kept { self.old.room ≤ self.new.room }
+        ensures wide { self.old.width ≤ self.new.width }
+        ensures err { OnErr result ((self.old.room < additional) ⊎ (self.old.width < columns)) }
+    {
+        self.notes.reserve(additional)?;
+        let count = additional.checked_mul(2).ok_or(AllocError)?;
+        if self.width < columns {
+            let alloc = *self.spare.allocator();
+            self.spare = blank_rows(alloc, count.max(self.spare.len()), columns)?;
+            self.width = columns;
+            Ok(())
+        } else {
+            add_rows(&mut self.spare, count, self.width)
+        }
+    }
+
+    /// Notes the rows before and after a write of a position, where there is room for them. At a position that
+    /// is noted the row before stays. It takes no memory, and no more room than for one note.
+    pub fn note_reserved(&mut self, table: u32, pos: u32, before: Option<&Row>, after: Option<&Row>)
+        requires room { 0 < self.old.room }
+        requires before { cell_width (option_copied before) ≤ self.old.width }
+        requires after { cell_width (option_copied after) ≤ self.old.width }
+        ensures notes { self.new.notes
+            ≡ with_note (record { table = table; pos = pos; before = option_copied before.entry; after = option_copied after.entry }) self.old.notes }
+        ensures room { self.old.room ≤ self.new.room + 1 }
+        ensures width { self.new.width ≡ self.old.width }
+    {
+        let place = count_below(self.notes.as_slice(), table, pos);
+        let noted = is_noted(self.notes.as_slice(), place, table, pos);
+        let after = kept(&mut self.spare, self.width, after);
+        if noted {
+            put_after(&mut self.notes, place, after);
+        } else {
+            let before = kept(&mut self.spare, self.width, before);
+            put_note(
+                &mut self.notes,
+                place,
+                Change {
+                    table,
+                    pos,
+                    before,
+                    after,
+                },
+            );
+        }
+    }
+
+    /// How many positions are noted.
+    pub fn len(&self) -> usize
+        ensures { result ≡ length self.now.notes }
+    {
+        self.notes.len()
+    }
+
+    /// The notes, by table and then position.
+    pub fn notes(&self) -> &[Change]
+        ensures { result.now ≡ self.now.notes }
+    {
+        self.notes.as_slice()
+    }
+
+    /// The notes as a list, without taking memory.
+    pub fn close(self) -> ChangeList
+        ensures { result ≡ self.notes }
+    {
+        let Changes {
+            notes,
+            spare: _,
+            width: _,
+        } = self;
+        Seq::from_vec(notes)
+    }
+
+    /// Every noted position, by table and then position. Err is for want of memory.
+    pub fn places(&self) -> Result<Seq<NotedPlace>, AllocError>
+        ensures { IfOk result (λ places. places ≡ map place_of self.now.notes) }
+    {
+        let mut places = Vec::with_capacity(*self.notes.allocator(), self.notes.len())?;
+        for note in self.notes.as_slice() {
+            places.push(NotedPlace {
+                table: note.table,
+                pos: note.pos,
+            })?;
+        }
+        Ok(Seq::from_vec(places))
+    }
+}

@@ -15,7 +15,7 @@ first_out start (s ∷ ss) (suc i) l here before =
     let other = before zero (omega arith) in
     ap (λ (xs : List ℕ). s ∷ xs) rest ∙ sym (ap (λ (b : Bool). cond b ss (s ∷ without start ss)) other)
 
--- what is taken out at the place of a start is that start
+-- what is taken out at the index of a start is that start
 pub removed : (start : ℕ) (starts : List ℕ) (i : ℕ) → position (λ other. other == start) starts ≡ Some i → remove starts i ≡ without start starts
 removed start starts i found =
     let at = position-Some (λ other. other == start) starts i start found in
@@ -64,7 +64,7 @@ short start (s ∷ ss) (suc k) l at =
       | false ↦ omega (arith, rest)
     ]
 
--- a start that is open has a place
+-- a start that is open has an index
 pub has_place : (start : ℕ) (starts : List ℕ) → Contains starts start → position (λ other. other == start) starts ≡ Some (position_or_len (λ other. other == start) starts)
 has_place start starts found =
     let less = lt-ltb (position_or_len (λ other. other == start) starts) (length starts) (short start starts found.0 found.1 found.2) in

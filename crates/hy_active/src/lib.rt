@@ -7,8 +7,8 @@ use hy_prune::{Cover, Starts};
 use std::alloc::{AllocError, Global};
 use std::marker::Model;
 
-/// The place of the first of these times that is this one.
-fn place_of(times: &[u64], time: u64) -> Option<usize>
+/// The index of the first of these times that is this one.
+fn index_of(times: &[u64], time: u64) -> Option<usize>
     ensures { result ≡ position (λ other. other == time) times.now }
 {
     times.iter().position(|other| *other == time)
@@ -68,14 +68,14 @@ impl Active {
         let _entered = self.starts.push(start);
     }
 
-    /// Takes a start out that is open. Its place serves the next one.
+    /// Takes a start out that is open. Its room serves the next one.
     pub fn leave(&mut self, start: u64)
         requires { Contains self.old.starts start }
         ensures starts { self.new.starts ≡ without start self.old.starts }
         ensures room { self.old.room + 1 ≤ self.new.room }
     {
-        if let Some(place) = place_of(self.starts.as_slice(), start) {
-            let _left = self.starts.remove(place);
+        if let Some(index) = index_of(self.starts.as_slice(), start) {
+            let _left = self.starts.remove(index);
         }
     }
 

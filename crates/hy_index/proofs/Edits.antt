@@ -12,7 +12,7 @@ use Rattle.hy_index.specs.Entries.{entry_cmp, Ascends, below_entry, with_entry, 
 use Rattle.hy_index.proofs.Orders.{entries_total, all_at, entry_ties}
 use Rattle.hy_index.proofs.Prefixes.{passes, fails, kept, left_out}
 
--- an entry that is put behind the lower ones is in its place
+-- an entry that is put behind the lower ones is where it belongs
 pub put_in : (e : IndexEntry) (xs : List IndexEntry) → insert xs (prefix_len (below_entry e.key e.pos) xs) e ≡ with_entry e xs
 put_in e [] = refl
 put_in e (x ∷ xs) =

@@ -35,7 +35,7 @@ up_to_key key e = not (is_gt (value_cmp e.key key))
 abbrev pub below_entry : Value → ℕ → IndexEntry → Bool
 below_entry key pos e = is_lt (order_of e key pos)
 
--- an entry in its place among others
+-- an entry, where it belongs among others
 abbrev pub with_entry : IndexEntry → List IndexEntry → List IndexEntry
 with_entry added [] = added ∷ []
 with_entry added (e ∷ entries) = if is_lt (entry_cmp e added) then e ∷ with_entry added entries else added ∷ e ∷ entries

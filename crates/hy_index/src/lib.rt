@@ -95,18 +95,18 @@ impl KeyIndex {
         ensures entries { self.new.entries ≡ with_entry (entry key pos) self.old.entries }
         ensures room { self.old.room ≤ self.new.room + 1 }
     {
-        let place = count_below(self.entries.as_slice(), &key, pos);
-        let _added = self.entries.insert(place, IndexEntry { key, pos });
+        let at = count_below(self.entries.as_slice(), &key, pos);
+        let _added = self.entries.insert(at, IndexEntry { key, pos });
     }
 
-    /// Takes the entry of a position out, which is there. Its place serves the next one.
+    /// Takes the entry of a position out, which is there. Its room serves the next one.
     pub fn remove(&mut self, key: &Value, pos: u32)
         requires { Contains self.old.entries (entry key.now pos) }
         ensures entries { self.new.entries ≡ without_entry (entry key.now pos) self.old.entries }
         ensures room { self.old.room + 1 ≤ self.new.room }
     {
-        let place = count_below(self.entries.as_slice(), key, pos);
-        let _removed = self.entries.remove(place);
+        let at = count_below(self.entries.as_slice(), key, pos);
+        let _removed = self.entries.remove(at);
     }
 
     /// The entries of a key, by position.

@@ -11,7 +11,7 @@ use hy_value::Seq;
 use std::alloc::{AllocError, Global};
 use std::marker::Model;
 
-/// An entry of the journal. Its place, from 0, is its transaction's place in the serial order.
+/// An entry of the journal. Its index, from 0, is its transaction's rank in the commit order.
 #[derive(Drop)]
 pub struct Entry {
     /// The transaction.

@@ -87,35 +87,35 @@ fn add_rows(spare: &mut Vec<Vec<Value>>, count: usize, width: usize) -> Result<(
     Ok(())
 }
 
-/// Whether the note at a place is of this position.
-fn is_noted(notes: &[Change], place: usize, table: u32, pos: u32) -> bool
-    ensures noted { IsTrue result → place < length notes.now }
-    ensures same { IsTrue result → (d : Change) → order_of (slice_index_or notes.now place d) table pos ≡ Ordering.Equal }
-    ensures other { IsTrue (negated result) → place < length notes.now
-        → (d : Change) → is_eq (order_of (slice_index_or notes.now place d) table pos) ≡ false }
+/// Whether the note at an index is of this position.
+fn is_noted(notes: &[Change], at: usize, table: u32, pos: u32) -> bool
+    ensures noted { IsTrue result → at < length notes.now }
+    ensures same { IsTrue result → (d : Change) → order_of (slice_index_or notes.now at d) table pos ≡ Ordering.Equal }
+    ensures other { IsTrue (negated result) → at < length notes.now
+        → (d : Change) → is_eq (order_of (slice_index_or notes.now at d) table pos) ≡ false }
 {
-    place < notes.len() && order(&notes[place], table, pos).is_eq()
+    at < notes.len() && order(&notes[at], table, pos).is_eq()
 }
 
-/// Puts another row after into the note at a place.
-fn put_after(notes: &mut Vec<Change>, place: usize, after: Option<Row>)
-    requires { place < vec_len notes.old }
-    ensures items { (d : Change) → notes.new.items ≡ slice_set notes.old.items place (with_after (slice_index_or notes.old.items place d) after) }
+/// Puts another row after into the note at an index.
+fn put_after(notes: &mut Vec<Change>, at: usize, after: Option<Row>)
+    requires { at < vec_len notes.old }
+    ensures items { (d : Change) → notes.new.items ≡ slice_set notes.old.items at (with_after (slice_index_or notes.old.items at d) after) }
     ensures capacity { vec_capacity notes.new ≡ vec_capacity notes.old }
     ensures len { vec_len notes.new ≡ vec_len notes.old }
 {
-    notes[place].after = after;
+    notes[at].after = after;
 }
 
-/// Puts a note at a place, where there is room for it.
-fn put_note(notes: &mut Vec<Change>, place: usize, note: Change)
-    requires within { place ≤ vec_len notes.old }
+/// Puts a note at an index, where there is room for it.
+fn put_note(notes: &mut Vec<Change>, at: usize, note: Change)
+    requires within { at ≤ vec_len notes.old }
     requires room { vec_len notes.old < vec_capacity notes.old }
-    ensures items { notes.new.items ≡ insert notes.old.items place note }
+    ensures items { notes.new.items ≡ insert notes.old.items at note }
     ensures capacity { vec_capacity notes.old ≤ vec_capacity notes.new }
     ensures len { vec_len notes.new ≡ vec_len notes.old + 1 }
 {
-    let _put = notes.insert(place, note);
+    let _put = notes.insert(at, note);
 }
 
 impl Changes {
@@ -163,16 +163,16 @@ impl Changes {
         ensures room { self.old.room ≤ self.new.room + 1 }
         ensures width { self.new.width ≡ self.old.width }
     {
-        let place = count_below(self.notes.as_slice(), table, pos);
-        let noted = is_noted(self.notes.as_slice(), place, table, pos);
+        let at = count_below(self.notes.as_slice(), table, pos);
+        let noted = is_noted(self.notes.as_slice(), at, table, pos);
         let after = kept(&mut self.spare, self.width, after);
         if noted {
-            put_after(&mut self.notes, place, after);
+            put_after(&mut self.notes, at, after);
         } else {
             let before = kept(&mut self.spare, self.width, before);
             put_note(
                 &mut self.notes,
-                place,
+                at,
                 Change {
                     table,
                     pos,

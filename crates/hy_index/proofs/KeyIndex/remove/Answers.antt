@@ -12,17 +12,17 @@ remove-removed-requires c =
     let e = entry c.args.key.now c.args.pos in
     let out = taken_out e xs c.self.invariant (subst (λ (i : Indexed). Contains i.entries e) (sym c.self.view_is) c.requires) in
     let within = out.within in
-    let place = c.count_below-place.ensures.count ∙ ap (prefix_len (below_entry c.args.key.now c.args.pos)) c.as_slice.ensures.value in
+    let at = c.count_below-at.ensures.count ∙ ap (prefix_len (below_entry c.args.key.now c.args.pos)) c.as_slice.ensures.value in
     let len = ap length c.as_slice.ensures.value in
-    omega (arith, within, place, len, c.as_slice.ensures.len)
+    omega (arith, within, at, len, c.as_slice.ensures.len)
 
 pub invariant_of-self : goal.invariant_of-self
 invariant_of-self c =
     let xs = c.self.inside.entries.items in
     let e = entry c.args.key.now c.args.pos in
     let out = taken_out e xs c.self.invariant (subst (λ (i : Indexed). Contains i.entries e) (sym c.self.view_is) c.requires) in
-    let place = c.count_below-place.ensures.count ∙ ap (prefix_len (below_entry c.args.key.now c.args.pos)) c.as_slice.ensures.value in
-    let made : c.remove-removed.new.self.items ≡ without_entry e xs = c.remove-removed.ensures.items ∙ (ap (remove xs) place ∙ out.left) in
+    let at = c.count_below-at.ensures.count ∙ ap (prefix_len (below_entry c.args.key.now c.args.pos)) c.as_slice.ensures.value in
+    let made : c.remove-removed.new.self.items ≡ without_entry e xs = c.remove-removed.ensures.items ∙ (ap (remove xs) at ∙ out.left) in
     subst Ascends (sym made) (ascends_some _ xs c.self.invariant)
 
 pub returns-clause-entries : goal.returns-clause-entries
@@ -30,5 +30,5 @@ returns-clause-entries c =
     let xs = c.self.inside.entries.items in
     let e = entry c.args.key.now c.args.pos in
     let out = taken_out e xs c.self.invariant (subst (λ (i : Indexed). Contains i.entries e) (sym c.self.view_is) c.requires) in
-    let place = c.count_below-place.ensures.count ∙ ap (prefix_len (below_entry c.args.key.now c.args.pos)) c.as_slice.ensures.value in
-    c.remove-removed.ensures.items ∙ (ap (remove xs) place ∙ (out.left ∙ ap (λ (i : Indexed). without_entry e i.entries) c.self.view_is))
+    let at = c.count_below-at.ensures.count ∙ ap (prefix_len (below_entry c.args.key.now c.args.pos)) c.as_slice.ensures.value in
+    c.remove-removed.ensures.items ∙ (ap (remove xs) at ∙ (out.left ∙ ap (λ (i : Indexed). without_entry e i.entries) c.self.view_is))

@@ -1,0 +1,10 @@
+pub mod Spreads
+pub mod Hits
+pub mod Listed
+pub mod Histories
+pub mod Snapshots
+pub mod Replaced
+pub mod Entries
+pub mod Falls
+pub mod Rounds
+pub mod Reached

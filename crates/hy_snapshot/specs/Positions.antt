@@ -1,0 +1,51 @@
+-- Lists with something at some of their positions, and what is last in a list.
+use Rattle.std.specs.Prelude.{ℕ, zero, suc, ◌<◌, ◌≤◌, List, [], ◌∷◌, ◌++◌, Option, None, Some, ◌==◌, nat_lt, if◌then◌else◌, slice_index_or}
+use Rattle.std.specs.Option.{option_or}
+
+-- what stands at a position of a table's list; nothing where there is no such position
+abbrev pub item_at : {A : Type 0} → List (List (Option A)) → ℕ → ℕ → Option A
+item_at lists table pos = slice_index_or (slice_index_or lists table []) pos None
+
+-- what the positions that have something give, ascending, the first of these positions having this number
+abbrev pub by_position : {A B : Type 0} → (ℕ → A → List B) → ℕ → List (Option A) → List B
+by_position f pos [] = []
+by_position f pos (None ∷ items) = by_position f (suc pos) items
+by_position f pos (Some item ∷ items) = f pos item ++ by_position f (suc pos) items
+
+-- the same by table and then position, the first of these tables having this number
+abbrev pub by_table : {A B : Type 0} → (ℕ → ℕ → A → List B) → ℕ → List (List (Option A)) → List B
+by_table f table [] = []
+by_table f table (items ∷ lists) = by_position (f table) 0 items ++ by_table f (suc table) lists
+
+-- the same for all tables
+abbrev pub by_place : {A B : Type 0} → (ℕ → ℕ → A → List B) → List (List (Option A)) → List B
+by_place f lists = by_table f 0 lists
+
+-- the last thing that a list's elements give, where they give one each or none
+abbrev pub last_some : {A B : Type 0} → (A → Option B) → List A → Option B
+last_some f [] = None
+last_some f (x ∷ xs) = option_or (last_some f xs) (f x)
+
+-- ---- lists that are kept as what there is
+
+-- numbered things stand at ascending positions from the first one on, before the end
+abbrev pub Ascends : {A : Type 0} → ℕ → ℕ → List (ℕ × A) → Type 0
+Ascends first end [] = Unit {0}
+Ascends first end (item ∷ items) = (first ≤ item.0) × (item.0 < end) × Ascends (suc item.0) end items
+
+-- so many positions from this one on, with numbered things at theirs and nothing elsewhere
+abbrev pub spread : {A : Type 0} → ℕ → ℕ → List (ℕ × A) → List (Option A)
+spread pos zero items = []
+spread pos (suc left) [] = None ∷ spread (suc pos) left []
+spread pos (suc left) (item ∷ items) =
+    if item.0 == pos then Some item.1 ∷ spread (suc pos) left items else None ∷ spread (suc pos) left (item ∷ items)
+
+-- how many of numbered things stand before a position
+abbrev pub count_before : {A : Type 0} → ℕ → List (ℕ × A) → ℕ
+count_before pos [] = 0
+count_before pos (item ∷ items) = if nat_lt item.0 pos then suc (count_before pos items) else 0
+
+-- what numbered things give, one after another
+abbrev pub by_items : {A B : Type 0} → (ℕ → A → List B) → List (ℕ × A) → List B
+by_items f [] = []
+by_items f (item ∷ items) = f item.0 item.1 ++ by_items f items

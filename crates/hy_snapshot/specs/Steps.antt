@@ -1,0 +1,113 @@
+-- How a turn changes the state, and what a step is.
+use Rattle.std.specs.Prelude.{ℕ, List, [], ◌∷◌, ◌++◌, Option, None, Some, slice_set, length}
+use Rattle.std.specs.Option.{option_map}
+use Rattle.hy_bound.specs.declared.Record.{Record}
+use Rattle.hy_bound.specs.declared.Reply.{Reply}
+use Rattle.hy_render.specs.declared.Ending.{Ending}
+use Rattle.hy_snapshot.specs.declared.Setting.{Setting}
+use Rattle.hy_snapshot.specs.declared.State.{State}
+use Rattle.hy_snapshot.specs.declared.Session.{Session}
+use Rattle.hy_snapshot.specs.declared.Open.{Open}
+use Rattle.hy_snapshot.specs.declared.Begun.{Begun}
+use Rattle.hy_snapshot.specs.declared.Finished.{Finished}
+use Rattle.hy_snapshot.specs.declared.Entry.{Entry}
+use Rattle.hy_snapshot.specs.declared.Write.{Write}
+use Rattle.hy_snapshot.specs.declared.Phase.{Phase}
+use Rattle.hy_snapshot.specs.declared.Phase.TheVariants.{Working, Stamping}
+use Rattle.hy_snapshot.specs.declared.Turn.{Turn}
+use Rattle.hy_snapshot.specs.declared.Turn.TheVariants.{Done, Waits, Begins, Visits, Answers, Enters, Ends}
+use Rattle.hy_snapshot.specs.declared.Stepped.{Stepped}
+use Rattle.hy_snapshot.specs.declared.Stepped.TheVariants.{Blocked, Moved, Answered, Ended}
+use Rattle.hy_snapshot.specs.Writes.{blank_own, with_writes}
+use Rattle.hy_snapshot.specs.Sessions.{session_at, least_prefix, entry_of}
+use Rattle.hy_snapshot.specs.Turns.{turn}
+
+-- the state after a step, and what the step came to
+abbrev pub Step : Type 0
+Step = State × Stepped
+
+-- the state with a session as it is then
+abbrev pub with_session : State → ℕ → Session → State
+with_session state number session = record state { sessions = slice_set state.sessions number session }
+
+-- a transaction that begins: its prefix is the whole commit order
+abbrev pub beginning : Setting → State → Begun
+beginning setting state = record {
+  prefix = length state.order;
+  low = least_prefix (length state.order) state.sessions;
+  own = blank_own setting;
+  took = [];
+  replies = [];
+  records = [];
+}
+
+-- a session that begins a transaction
+abbrev pub with_open : Begun → Session → Session
+with_open begun session = record { done = session.done; now = Some (record { begun = begun; phase = Working 0 0 }) }
+
+-- an open transaction after a visit that wrote this
+abbrev pub after_visit : List Write → Phase → Open → Open
+after_visit writes phase current = record {
+  begun = record current.begun { own = with_writes current.begun.own writes };
+  phase = phase;
+}
+
+-- an open transaction after a statement was answered
+abbrev pub after_answer : List Write → Reply → Option ℕ → List Record → Open → Open
+after_answer writes reply took records current = record {
+  begun = record current.begun {
+    own = with_writes current.begun.own writes;
+    took = current.begun.took ++ took ∷ [];
+    replies = current.begun.replies ++ reply ∷ [];
+    records = current.begun.records ++ records;
+  };
+  phase = Working 0 0;
+}
+
+-- a session whose open transaction, if it has one, is changed
+abbrev pub with_changed : (Open → Open) → Session → Session
+with_changed change session = record { done = session.done; now = option_map change session.now }
+
+-- the ended transactions of a session, and the one that ends, if one is open
+abbrev pub done_with : Ending → List Finished → Option Open → List Finished
+done_with ending done None = done
+done_with ending done (Some current) = done ++ record { begun = current.begun; ending = ending } ∷ []
+
+-- a session whose open transaction ends
+abbrev pub with_ended : Ending → Session → Session
+with_ended ending session = record { done = done_with ending session.done session.now; now = None }
+
+-- the commit order, and the entry of a session's open transaction
+abbrev pub order_with : Setting → State → ℕ → Option Open → List Entry
+order_with setting state number None = state.order
+order_with setting state number (Some current) = state.order ++ entry_of setting state number current.begun ∷ []
+
+-- the state after a session's entry goes into the commit order: the session is marked
+abbrev pub with_entry : Setting → State → ℕ → State
+with_entry setting state number = record {
+  order = order_with setting state number (session_at state number).now;
+  mark = Some number;
+  sessions = slice_set state.sessions number (with_changed (after_visit [] (Stamping 0)) (session_at state number));
+}
+
+-- the state after a session's transaction ended: no session is marked
+abbrev pub without_mark : State → State
+without_mark state = record state { mark = None }
+
+-- what a session's turn makes of the state
+abbrev pub after_turn : Setting → State → ℕ → Turn → Step
+after_turn setting state number Done = (state, Ended)
+after_turn setting state number (Waits by) = (state, Blocked by)
+after_turn setting state number Begins =
+    (with_session state number (with_open (beginning setting state) (session_at state number)), Answered)
+after_turn setting state number (Visits writes phase) =
+    (with_session state number (with_changed (after_visit writes phase) (session_at state number)), Moved)
+after_turn setting state number (Answers writes reply took records) =
+    (with_session state number (with_changed (after_answer writes reply took records) (session_at state number)), Answered)
+after_turn setting state number Enters = (with_entry setting state number, Moved)
+after_turn setting state number (Ends ending) =
+    (without_mark (with_session state number (with_ended ending (session_at state number))), Answered)
+
+-- a step of a session
+abbrev pub step_of : Setting → State → ℕ → Step
+step_of setting state number = after_turn setting state number (turn setting state number)

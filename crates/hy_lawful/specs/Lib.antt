@@ -1,3 +1,5 @@
 pub mod Scripts
+pub mod Outcomes
+pub mod Positions
+pub mod Endings
 pub mod Lawful
-pub mod FirstForm

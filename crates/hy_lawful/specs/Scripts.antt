@@ -1,12 +1,8 @@
 -- The transactions of a script, by their labels.
-use Rattle.std.specs.Prelude.{ℕ, zero, suc, List, [], ◌∷◌, ◌++◌, Option, None, Some, slice_index_or, slice_get, take, map, IsTrue, not}
+use Rattle.std.specs.Prelude.{ℕ, zero, suc, List, [], ◌∷◌, ◌++◌, Option, None, Some, slice_index_or, slice_get, IsTrue, not}
 use Rattle.hy_bound.specs.declared.Txn.{Txn}
 use Rattle.hy_bound.specs.declared.Bound.{Bound}
-use Rattle.hy_bound.specs.declared.Shape.{Shape}
 use Rattle.hy_stamp.specs.declared.Label.{Label}
-use Rattle.hy_render.specs.declared.Committed.{Committed}
-use Rattle.hy_meaning.specs.Statement.{Table, Database}
-use Rattle.hy_meaning.specs.Serial.{serial, database_of}
 
 -- the transactions of a script, by session
 abbrev pub Programs : Type 0
@@ -15,7 +11,7 @@ Programs = List (List Txn)
 -- the transaction of this number among these, the first of which has number 1
 abbrev pub numbered : List Txn → ℕ → Option Txn
 numbered txns zero = None
-numbered txns (suc n) = slice_get txns n
+numbered txns (suc before) = slice_get txns before
 
 -- the transaction of this label, if the script has it
 abbrev pub txn_of : Programs → Label → Option Txn
@@ -47,9 +43,3 @@ labels_of session number (txn ∷ txns) = record { session = session; txn = numb
 abbrev pub labels_from : ℕ → Programs → List Label
 labels_from session [] = []
 labels_from session (txns ∷ programs) = labels_of session 1 txns ++ labels_from (suc session) programs
-
--- the serial databases: the one after the first `rank` transactions of the commit order ran alone, one
--- after another, from the first rows on, for tables of these shapes
-abbrev pub database_at : List Shape → List Table → Programs → List Committed → ℕ → Database
-database_at shapes first programs order rank =
-    serial shapes (map (λ entry. statements_of programs entry.label) (take rank order)) (database_of first)

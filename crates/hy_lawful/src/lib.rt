@@ -4,13 +4,15 @@
 ghost use Rattle.std.specs.Prelude.{List};
 ghost use Rattle.hy_machine.specs.declared.Setting.{Setting};
 ghost use Rattle.hy_schedule.specs.declared.Item.{Item};
-ghost use Rattle.hy_machine.specs.Runs.{run};
-ghost use Rattle.hy_machine.specs.Outcomes.{outcome};
+ghost use Rattle.hy_machine.specs.Runs.{run_of};
+ghost use Rattle.hy_machine.specs.Outcomes.{outcome_of};
 ghost use Rattle.hy_lawful.specs.Lawful.{Lawful};
-ghost use Rattle.hy_lawful.specs.FirstForm.{IsFirstForm, IsOfWholeStatements};
 
-/// Whatever the schedule, what the machine makes of a script of the first form is lawful.
+use hy_machine::runs_are_steps;
+
+/// Whatever the script and the schedule, what the machine makes of them is lawful.
 pub fn runs_are_lawful()
-    ensures { (setting : Setting) (schedule : List Item) → IsFirstForm setting → IsOfWholeStatements schedule
-        → Lawful setting.shapes setting.first setting.programs (outcome setting (run setting schedule)) }
-{}
+    ensures { (setting : Setting) (schedule : List Item) → Lawful setting (outcome_of setting (run_of setting schedule)) }
+{
+    runs_are_steps();
+}

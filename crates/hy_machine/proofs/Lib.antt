@@ -1,4 +1,10 @@
-pub mod Overlays
-pub mod Counting
-pub mod Rows
+pub mod Spreads
+pub mod Hits
+pub mod Listed
+pub mod Histories
+pub mod Snapshots
 pub mod Replaced
+pub mod Entries
+pub mod Falls
+pub mod Rounds
+pub mod Reached

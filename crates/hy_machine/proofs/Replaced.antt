@@ -1,63 +1,40 @@
-use Rattle.std.proofs.Common.{◌≡◌, ℕ, ◌<◌, List, [], ◌∷◌, ◌++◌, length, get_or, refl, ap, ◌∙◌, sym, arith, zero, suc, Option, None}
-use Rattle.std.proofs.Math.ListN.{set}
-use Rattle.hy_machine.specs.declared.Machine.{Machine}
-use Rattle.hy_machine.specs.declared.Session.{Session}
-use Rattle.hy_machine.specs.declared.Current.{Current}
-use Rattle.hy_machine.specs.declared.Finished.{Finished}
-use Rattle.hy_machine.specs.Sessions.{session_at, fresh}
-use Rattle.hy_machine.specs.declared.Begun.{Begun}
+-- A session that is taken out, changed and put back.
+use Rattle.std.proofs.Common.{◌≡◌, ℕ, ◌∙◌, List, ap, refl, sym, Option, Some, None}
+use Rattle.std.specs.Option.{option_map}
+use Rattle.std.proofs.lemmas.List.{set-set}
 use Rattle.hy_render.specs.declared.Ending.{Ending}
-use Rattle.hy_machine.specs.Steps.{with_session, with_ended}
+use Rattle.hy_machine.specs.declared.State.{State}
+use Rattle.hy_machine.specs.declared.Session.{Session}
+use Rattle.hy_machine.specs.declared.Finished.{Finished}
+use Rattle.hy_machine.specs.declared.Open.{Open}
+use Rattle.hy_machine.specs.declared.Begun.{Begun}
+use Rattle.hy_machine.specs.declared.Phase.TheVariants.{Working}
+use Rattle.hy_machine.specs.Steps.{with_session, with_open, with_changed, with_ended, done_with}
 
--- of two elements put at a place the second stays
-pub set-set : {A : Type 0} (xs : List A) (i : ℕ) (x y : A) → set (set xs i x) i y ≡ set xs i y
-set-set [] zero x y = refl
-set-set [] (suc i) x y = refl
-set-set (z ∷ zs) zero x y = refl
-set-set (z ∷ zs) (suc i) x y = ap (λ ws. z ∷ ws) (set-set zs i x y)
+put_back : (state mid after : State) (number : ℕ) (away back other : Session) → mid ≡ with_session state number away → after ≡ with_session mid number back → back ≡ other → after ≡ with_session state number other
+put_back state mid after number away back other m a b =
+    let put : List Session → State = λ sessions. record state { sessions = sessions } in
+    a ∙ (ap (λ (one : State). with_session one number back) m ∙ (ap put (set-set state.sessions number away back) ∙ ap (with_session state number) b))
 
--- a session that is taken out and put back is put once
-replaced_sessions : (sessions : List Session) (number : ℕ) (first other : Session) (f : List Finished → Session)
-    → set (set sessions number first) number (f (get_or (set sessions number first) number other).done) ≡ set sessions number (f first.done)
-replaced_sessions [] zero first other f = refl
-replaced_sessions [] (suc number) first other f = refl
-replaced_sessions (session ∷ sessions) zero first other f = refl
-replaced_sessions (session ∷ sessions) (suc number) first other f = ap (λ rest. session ∷ rest) (replaced_sessions sessions number first other f)
+pub begun_put : (state mid after : State) (number : ℕ) (away session taken : Session) (done : List Finished) (begun expected : Begun) → mid ≡ with_session state number away
+    → after ≡ with_session mid number (record { done = done; now = Some (record { begun = begun; phase = Working 0 0 }) }) → taken ≡ session → taken.done ≡ done → begun ≡ expected
+    → after ≡ with_session state number (with_open expected session)
+begun_put state mid after number away session taken done begun expected m a t d b =
+    let same : done ≡ session.done = sym d ∙ ap (λ (s : Session). s.done) t in
+    put_back state mid after number away (record { done = done; now = Some (record { begun = begun; phase = Working 0 0 }) }) (with_open expected session) m a (rw (same, b) refl)
 
--- a session's open transaction is put back, or another one, after it was taken out
-pub replaced_twice : (machine : Machine) (number : ℕ) (first second : Option Current)
-    → with_session (with_session machine number (record { done = (session_at machine number).done; now = first })) number
-    (record { done = (session_at (with_session machine number (record { done = (session_at machine number).done; now = first })) number).done; now = second })
-    ≡ with_session machine number (record { done = (session_at machine number).done; now = second })
-replaced_twice machine number first second =
-    let put : List Session → Machine = λ sessions. record machine { sessions = sessions } in
-    ap put (replaced_sessions machine.sessions number (record { done = (session_at machine number).done; now = first }) fresh (λ done. record { done = done; now = second }))
+pub changed_put : (state mid after : State) (number : ℕ) (away session taken : Session) (done : List Finished) (now changed : Option Open) (change : Open → Open) → mid ≡ with_session state number away
+    → after ≡ with_session mid number (record { done = done; now = changed }) → taken ≡ session → taken.done ≡ done → taken.now ≡ now → changed ≡ option_map change now
+    → after ≡ with_session state number (with_changed change session)
+changed_put state mid after number away session taken done now changed change m a t d n c =
+    let same : done ≡ session.done = sym d ∙ ap (λ (s : Session). s.done) t in
+    let after_now : changed ≡ option_map change session.now = c ∙ ap (option_map change) (sym n ∙ ap (λ (s : Session). s.now) t) in
+    put_back state mid after number away (record { done = done; now = changed }) (with_changed change session) m a (rw (same, after_now) refl)
 
--- a session's open transaction ends after it was taken out
-pub replaced_ended : (machine : Machine) (number : ℕ) (first : Option Current) (begun : Begun) (ending : Ending)
-    → with_ended (with_session machine number (record { done = (session_at machine number).done; now = first })) number
-    (session_at (with_session machine number (record { done = (session_at machine number).done; now = first })) number) begun ending
-    ≡ with_ended machine number (session_at machine number) begun ending
-replaced_ended machine number first begun ending =
-    let put : List Session → Machine = λ sessions. record machine { sessions = sessions } in
-    ap put (replaced_sessions machine.sessions number (record { done = (session_at machine number).done; now = first }) fresh (λ done. record { done = done ++ record { begun = begun; ending = ending } ∷ []; now = None }))
-
--- what is read at a session's place is the session
-pub session_read : (sessions : List Session) (number : ℕ) (session : Session) → number < length sessions → session ≡ get_or sessions number session → get_or sessions number fresh ≡ session
-session_read [] number session h e = absurd (omega arith)
-session_read (first ∷ sessions) zero session h e = sym e
-session_read (first ∷ sessions) (suc number) session h e = session_read sessions number session (omega arith) e
-
--- a session that is taken out, changed and put back
-pub put_back : (machine : Machine) (number : ℕ) (without with_it : List Session) (away session back : Session) (f : List Finished → Session)
-    → number < length machine.sessions → session ≡ get_or machine.sessions number session → without ≡ set machine.sessions number away
-    → with_it ≡ set without number back → back ≡ f session.done
-    → record machine { sessions = with_it } ≡ with_session machine number (f (session_at machine number).done)
-put_back machine number without with_it away session back f h read taken put is =
-    let there : get_or machine.sessions number fresh ≡ session = session_read machine.sessions number session h read in
-    let once = set-set machine.sessions number away back in
-    let same : back ≡ f (session_at machine number).done = is ∙ ap (λ (s : Session). f s.done) (sym there) in
-    let sessions : with_it ≡ set machine.sessions number (f (session_at machine number).done) =
-    put ∙ (ap (λ (xs : List Session). set xs number back) taken ∙ (once ∙ ap (set machine.sessions number) same)) in
-    let state : List Session → Machine = λ xs. record machine { sessions = xs } in
-    ap state sessions
+pub ended_put : (state mid after : State) (number : ℕ) (away session taken : Session) (done closed : List Finished) (now : Option Open) (ending : Ending) → mid ≡ with_session state number away
+    → after ≡ with_session mid number (record { done = closed; now = None }) → taken ≡ session → taken.done ≡ done → taken.now ≡ now → closed ≡ done_with ending done now
+    → after ≡ with_session state number (with_ended ending session)
+ended_put state mid after number away session taken done closed now ending m a t d n c =
+    let same : closed ≡ done_with ending session.done session.now = c ∙ (ap (λ (list : List Finished). done_with ending list now) (sym d ∙ ap (λ (s : Session). s.done) t)
+    ∙ ap (done_with ending session.done) (sym n ∙ ap (λ (s : Session). s.now) t)) in
+    put_back state mid after number away (record { done = closed; now = None }) (with_ended ending session) m a (rw same refl)

@@ -1,82 +1,81 @@
-use Rattle.std.specs.Prelude.{ℕ, suc, List, [], ◌∷◌, ◌++◌, Bool, false, ◌==◌, Option, None, Some, count_by, map}
+-- What a state comes to.
+use Rattle.std.specs.Prelude.{ℕ, suc, ◌+◌, List, [], ◌∷◌, ◌++◌, Bool, false, ◌==◌, Option, None, Some, map, slice_get, if◌then◌else◌}
 use Rattle.hy_value.specs.declared.Value.{Value}
 use Rattle.hy_value.specs.Sorted.{sorted}
-use Rattle.hy_change.specs.declared.Change.{Change}
-use Rattle.hy_render.specs.declared.Place.{Place}
+use Rattle.hy_bound.specs.declared.Txn.{Txn}
+use Rattle.hy_bound.specs.declared.Bound.{Bound}
+use Rattle.hy_bound.specs.declared.Bound.TheVariants.{Select, Group, Insert, Update, Delete}
+use Rattle.hy_bound.specs.Changes.{present}
 use Rattle.hy_render.specs.declared.TxnOutcome.{TxnOutcome}
-use Rattle.hy_render.specs.declared.Committed.{Committed}
 use Rattle.hy_render.specs.declared.Outcome.{Outcome}
 use Rattle.hy_machine.specs.declared.Setting.{Setting}
-use Rattle.hy_machine.specs.declared.Machine.{Machine}
+use Rattle.hy_machine.specs.declared.State.{State}
 use Rattle.hy_machine.specs.declared.Session.{Session}
 use Rattle.hy_machine.specs.declared.Finished.{Finished}
-use Rattle.hy_machine.specs.declared.Entry.{Entry}
-use Rattle.hy_machine.specs.declared.Pair.{Pair}
-use Rattle.hy_machine.specs.Cells.{Cell, history, opening_tables, rows_of}
-use Rattle.hy_machine.specs.Own.{written}
+use Rattle.hy_machine.specs.Tables.{Cell, history, opening_tables}
+use Rattle.hy_machine.specs.Writes.{written}
+use Rattle.hy_machine.specs.Sessions.{program_of}
+use Rattle.hy_machine.specs.Validation.{committed_of}
 
--- whether a place is one of this table
-abbrev pub is_placed_in : ℕ → Option Place → Bool
-is_placed_in table None = false
-is_placed_in table (Some place) = place.table == table
+-- whether a statement is an INSERT into a table
+abbrev pub inserts_into : ℕ → Bound → Bool
+inserts_into table (Select tables ons pred items) = false
+inserts_into table (Group other pred key aggregate) = false
+inserts_into table (Insert other row) = other == table
+inserts_into table (Update other sets pred) = false
+inserts_into table (Delete other pred) = false
 
--- of each table how many of these places are its own, so many tables being left, the first of them
--- having this number
-abbrev pub placed_from : {A : Type 0} → ℕ → List (Option Place) → List A → List ℕ
-placed_from table took [] = []
-placed_from table took (_ ∷ tables) = count_by (is_placed_in table) took ∷ placed_from (suc table) took tables
+-- one more where a statement took a position of a table
+abbrev pub placed_by : ℕ → Bound → Option ℕ → ℕ
+placed_by table statement None = 0
+placed_by table statement (Some pos) = if inserts_into table statement then 1 else 0
 
--- what an ended transaction came to
-abbrev pub txn_outcome : Setting → ℕ → ℕ → Finished → TxnOutcome
-txn_outcome setting session txn finished = record {
-  label = record { session = session; txn = txn };
+-- how many positions of a table answered statements took
+abbrev pub placed_in : ℕ → List Bound → List (Option ℕ) → ℕ
+placed_in table [] took = 0
+placed_in table (statement ∷ statements) [] = 0
+placed_in table (statement ∷ statements) (one ∷ took) = placed_by table statement one + placed_in table statements took
+
+-- of each table, so many being left, the first of them having this number
+abbrev pub placed_from : {A : Type 0} → ℕ → List Bound → List (Option ℕ) → List A → List ℕ
+placed_from table statements took [] = []
+placed_from table statements took (_ ∷ tables) = placed_in table statements took ∷ placed_from (suc table) statements took tables
+
+abbrev pub statements_in : Option Txn → List Bound
+statements_in None = []
+statements_in (Some txn) = txn.statements
+
+-- what an ended transaction came to, whose script has so many before it
+abbrev pub txn_outcome_of : Setting → ℕ → ℕ → Finished → TxnOutcome
+txn_outcome_of setting session before finished = record {
+  label = record { session = session; txn = suc before };
   start = finished.begun.prefix;
   replies = finished.begun.replies;
   ending = finished.ending;
   wrote = written finished.begun.own;
-  placed = placed_from 0 finished.begun.took setting.first;
+  placed = placed_from 0 (statements_in (slice_get (program_of setting session) before)) finished.begun.took setting.first;
 }
 
--- the ended transactions of a session, the first of them having this number
-abbrev pub outcomes_of : Setting → ℕ → ℕ → List Finished → List TxnOutcome
-outcomes_of setting session txn [] = []
-outcomes_of setting session txn (finished ∷ others) = txn_outcome setting session txn finished ∷ outcomes_of setting session (suc txn) others
+-- the ended transactions of a session, with so many before the first of them
+abbrev pub outcomes_from : Setting → ℕ → ℕ → List Finished → List TxnOutcome
+outcomes_from setting session before [] = []
+outcomes_from setting session before (finished ∷ others) =
+    txn_outcome_of setting session before finished ∷ outcomes_from setting session (suc before) others
 
 -- of all sessions, the first of them having this number
-abbrev pub all_outcomes : Setting → ℕ → List Session → List TxnOutcome
-all_outcomes setting number [] = []
-all_outcomes setting number (session ∷ sessions) = outcomes_of setting number 1 session.done ++ all_outcomes setting (suc number) sessions
-
--- the change at a position: absent before and after is none
-abbrev pub change_of : ℕ → ℕ → Cell → Cell → List Change
-change_of table pos None None = []
-change_of table pos None (Some after) = record { table = table; pos = pos; before = None; after = Some after } ∷ []
-change_of table pos (Some before) after = record { table = table; pos = pos; before = Some before; after = after } ∷ []
-
-abbrev pub change_at : ℕ → ℕ → Option Pair → List Change
-change_at table pos None = []
-change_at table pos (Some pair) = change_of table pos pair.before pair.after
-
--- the changes of an entry in a table, from this position on
-abbrev pub changes_in_table : ℕ → ℕ → List (Option Pair) → List Change
-changes_in_table table pos [] = []
-changes_in_table table pos (pair ∷ pairs) = change_at table pos pair ++ changes_in_table table (suc pos) pairs
-
-abbrev pub changes_from : ℕ → List (List (Option Pair)) → List Change
-changes_from table [] = []
-changes_from table (pairs ∷ tables) = changes_in_table table 0 pairs ++ changes_from (suc table) tables
-
-abbrev pub committed_of : Entry → Committed
-committed_of entry = record { label = entry.label; changes = changes_from 0 entry.cells }
+abbrev pub all_outcomes_from : Setting → ℕ → List Session → List TxnOutcome
+all_outcomes_from setting number [] = []
+all_outcomes_from setting number (session ∷ sessions) =
+    outcomes_from setting number 0 session.done ++ all_outcomes_from setting (suc number) sessions
 
 -- the rows of a table, ascending
-abbrev pub sorted_rows : List Cell → List (List Value)
-sorted_rows cells = sorted (rows_of cells)
+abbrev pub rows_sorted : List Cell → List (List Value)
+rows_sorted cells = sorted (present cells)
 
--- what a machine's state comes to: its ended transactions, the commit order, the tables after it
-abbrev pub outcome : Setting → Machine → Outcome
-outcome setting machine = record {
-  txns = all_outcomes setting 0 machine.sessions;
-  order = map committed_of machine.order;
-  tables = map sorted_rows (history (opening_tables setting) machine.order);
+-- what a state comes to: its ended transactions, the commit order with its changes, the tables after it
+abbrev pub outcome_of : Setting → State → Outcome
+outcome_of setting state = record {
+  txns = all_outcomes_from setting 0 state.sessions;
+  order = map committed_of state.order;
+  tables = map rows_sorted (history (opening_tables setting) state.order);
 }

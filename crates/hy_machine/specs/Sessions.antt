@@ -1,28 +1,31 @@
+-- Where the sessions stand, what their transactions see, and what they would commit.
 use Rattle.std.specs.Prelude.{ℕ, suc, List, [], ◌∷◌, Bool, Option, None, Some, ◌==◌, slice_index_or, slice_get, length, if◌then◌else◌, min, take}
 use Rattle.hy_bound.specs.declared.Txn.{Txn}
-use Rattle.hy_bound.specs.declared.Bound.{Bound}
-use Rattle.hy_bound.specs.declared.Bound.TheVariants.{Select, Group, Insert, Update, Delete}
 use Rattle.hy_stamp.specs.declared.Label.{Label}
-use Rattle.hy_render.specs.declared.Ending.TheVariants.{RolledBack}
 use Rattle.hy_machine.specs.declared.Setting.{Setting}
-use Rattle.hy_machine.specs.declared.Machine.{Machine}
+use Rattle.hy_machine.specs.declared.State.{State}
 use Rattle.hy_machine.specs.declared.Session.{Session}
-use Rattle.hy_machine.specs.declared.Current.{Current}
+use Rattle.hy_machine.specs.declared.Open.{Open}
 use Rattle.hy_machine.specs.declared.Begun.{Begun}
-use Rattle.hy_machine.specs.declared.Phase.{Phase}
-use Rattle.hy_machine.specs.declared.Phase.TheVariants.{Reading, Writing, Closing, Undoing}
-use Rattle.hy_machine.specs.Cells.{Tables, history, opening_tables, over}
+use Rattle.hy_machine.specs.declared.Pair.{Pair}
+use Rattle.hy_machine.specs.declared.Entry.{Entry}
+use Rattle.hy_machine.specs.Positions.{item_at}
+use Rattle.hy_machine.specs.Tables.{Cell, Tables, Own, history, opening_tables, over}
 
 -- a session that has done nothing
 abbrev pub fresh : Session
 fresh = record { done = []; now = None }
 
-abbrev pub session_at : Machine → ℕ → Session
-session_at machine number = slice_index_or machine.sessions number fresh
+abbrev pub session_at : State → ℕ → Session
+session_at state number = slice_index_or state.sessions number fresh
+
+-- the transactions of a session's script
+abbrev pub program_of : Setting → ℕ → List Txn
+program_of setting number = slice_index_or setting.programs number []
 
 -- the transaction of its script that a session is at, if it isn't at its end
 abbrev pub txn_at : Setting → ℕ → Session → Option Txn
-txn_at setting number session = slice_get (slice_index_or setting.programs number []) (length session.done)
+txn_at setting number session = slice_get (program_of setting number) (length session.done)
 
 -- the label of a session's transaction that is open or comes next
 abbrev pub label_of : ℕ → Session → Label
@@ -30,38 +33,26 @@ label_of number session = record { session = number; txn = suc (length session.d
 
 -- whether a session's script is at its end
 abbrev pub has_ended : Setting → ℕ → Session → Bool
-has_ended setting number session = length session.done == length (slice_index_or setting.programs number [])
+has_ended setting number session = length session.done == length (program_of setting number)
 
 -- the transaction that stands between its entry and its end, if it is of another session
-abbrev pub blocker_of : Machine → ℕ → Option ℕ → Option Label
-blocker_of machine number None = None
-blocker_of machine number (Some marked) = if marked == number then None else Some (label_of marked (session_at machine marked))
+abbrev pub blocker_of : State → ℕ → Option ℕ → Option Label
+blocker_of state number None = None
+blocker_of state number (Some marked) = if marked == number then None else Some (label_of marked (session_at state marked))
 
-abbrev pub blocker : Machine → ℕ → Option Label
-blocker machine number = blocker_of machine number machine.mark
+abbrev pub blocker : State → ℕ → Option Label
+blocker state number = blocker_of state number state.mark
+
+-- the tables after the first entries of the commit order
+abbrev pub snapshot : Setting → State → ℕ → Tables
+snapshot setting state prefix = history (opening_tables setting) (take prefix state.order)
 
 -- the tables that a transaction sees: those after the entries of its prefix, and its own writes over them
-abbrev pub snapshot : Setting → Machine → ℕ → Tables
-snapshot setting machine prefix = history (opening_tables setting) (take prefix machine.order)
-
-abbrev pub view : Setting → Machine → Begun → Tables
-view setting machine begun = over (snapshot setting machine begun.prefix) begun.own
-
--- where a transaction stands before a statement, or before what closes it. INSERT and DELETE come to the
--- machine later: a transaction that comes to one is rolled back, and no script with one is run yet
-abbrev pub before_statement : Bool → Option Bound → Phase
-before_statement commits None = if commits then Closing else Undoing 0 RolledBack
-before_statement commits (Some (Select tables ons pred items)) = Reading 0
-before_statement commits (Some (Group table pred key aggregate)) = Reading 0
-before_statement commits (Some (Insert table row)) = Undoing 0 RolledBack
-before_statement commits (Some (Update table sets pred)) = Writing 0 0
-before_statement commits (Some (Delete table pred)) = Undoing 0 RolledBack
-
-abbrev pub start_phase : Txn → ℕ → Phase
-start_phase txn answered = before_statement txn.commits (slice_get txn.statements answered)
+abbrev pub view : Setting → State → Begun → Tables
+view setting state begun = over (snapshot setting state begun.prefix) begun.own
 
 -- the prefix of an open transaction, or the other number where it is less
-abbrev pub least_with : ℕ → Option Current → ℕ
+abbrev pub least_with : ℕ → Option Open → ℕ
 least_with least None = least
 least_with least (Some current) = min current.begun.prefix least
 
@@ -69,3 +60,23 @@ least_with least (Some current) = min current.begun.prefix least
 abbrev pub least_prefix : ℕ → List Session → ℕ
 least_prefix least [] = least
 least_prefix least (session ∷ sessions) = least_prefix (least_with least session.now) sessions
+
+-- what an entry does at a position: the cell that its transaction saw at its start, and the one that it wrote
+abbrev pub pair_of : Cell → Option Cell → Option Pair
+pair_of before None = None
+pair_of before (Some own) = Some (record { before = before; after = own })
+
+abbrev pub pairs_from : (ℕ → Cell) → ℕ → List (Option Cell) → List (Option Pair)
+pairs_from before pos [] = []
+pairs_from before pos (own ∷ owns) = pair_of (before pos) own ∷ pairs_from before (suc pos) owns
+
+abbrev pub entry_cells : Tables → ℕ → Own → List (List (Option Pair))
+entry_cells tables table [] = []
+entry_cells tables table (cells ∷ own) = pairs_from (item_at tables table) 0 cells ∷ entry_cells tables (suc table) own
+
+-- what an open transaction would commit
+abbrev pub entry_of : Setting → State → ℕ → Begun → Entry
+entry_of setting state number begun = record {
+  label = label_of number (session_at state number);
+  cells = entry_cells (snapshot setting state begun.prefix) 0 begun.own;
+}

@@ -1,110 +1,99 @@
-use Rattle.std.specs.Prelude.{ℕ, suc, List, [], ◌∷◌, ◌++◌, Option, None, Some, Result, Ok, Err, ◌==◌, ◌&&◌, slice_index_or, slice_set, replicate, if◌then◌else◌}
+-- What a statement does in a chunk that it visits.
+use Rattle.std.specs.Prelude.{ℕ, ◌*◌, List, [], ◌∷◌, ◌++◌, Bool, false, Option, None, Some, Result, Ok, Err, find, length, if◌then◌else◌}
+use Rattle.std.specs.List.{list_any}
+use Rattle.std.specs.Option.{option_map}
 use Rattle.hy_value.specs.declared.Value.{Value}
-use Rattle.hy_bound.specs.Condition.{Condition}
+use Rattle.hy_bound.specs.declared.Bound.{Bound}
+use Rattle.hy_bound.specs.declared.Bound.TheVariants.{Select, Group, Insert, Update, Delete}
 use Rattle.hy_bound.specs.declared.Assign.{Assign}
-use Rattle.hy_bound.specs.declared.Record.{Record}
+use Rattle.hy_bound.specs.declared.WriteKind.{WriteKind}
+use Rattle.hy_bound.specs.declared.WriteKind.TheVariants as kind
+use Rattle.hy_bound.specs.Condition.{Condition}
 use Rattle.hy_bound.specs.Predicate.{truth_of}
 use Rattle.hy_bound.specs.Assignment.{assigned}
-use Rattle.hy_bound.specs.Records.{is_hit}
+use Rattle.hy_meaning.specs.Statement.{has_key_of}
 use Rattle.hy_stamp.specs.declared.Label.{Label}
-use Rattle.hy_render.specs.declared.Ending.{Ending}
-use Rattle.hy_render.specs.declared.Ending.TheVariants.{Conflict, Range, Invalid}
-use Rattle.hy_machine.specs.declared.Entry.{Entry}
-use Rattle.hy_machine.specs.declared.Pair.{Pair}
-use Rattle.hy_machine.specs.Cells.{Cell, Tables, Own}
+use Rattle.hy_machine.specs.declared.Setting.{Setting}
+use Rattle.hy_machine.specs.declared.State.{State}
+use Rattle.hy_machine.specs.declared.Begun.{Begun}
+use Rattle.hy_machine.specs.declared.Write.{Write}
+use Rattle.hy_machine.specs.declared.Cause.{Cause}
+use Rattle.hy_machine.specs.declared.Cause.TheVariants.{Conflict, Range}
+use Rattle.hy_machine.specs.Positions.{item_at}
+use Rattle.hy_machine.specs.Tables.{Cell, positions_in}
+use Rattle.hy_machine.specs.Sessions.{view}
+use Rattle.hy_machine.specs.Holding.{opponent, is_free}
 
--- the new row of a position that is selected, or why it is refused: a conflict first, then a value out
--- of range
-abbrev pub new_row : ℕ → ℕ → Option Label → Option (List Value) → Result (Option (List Value)) Ending
-new_row table pos (Some other) row = Err (Conflict table pos other)
-new_row table pos None None = Err (Range table pos)
-new_row table pos None (Some row) = Ok (Some row)
+-- what a statement that sets these does with the rows that it selects; one that sets nothing removes them
+abbrev pub kind_of : Option (List Assign) → WriteKind
+kind_of None = kind.Delete
+kind_of (Some sets) = kind.Set sets
 
--- what an UPDATE does at a position: nothing where there is no row or it isn't selected
-abbrev pub verdict : List Assign → Condition → ℕ → ℕ → Option Label → Cell → Result (Option (List Value)) Ending
-verdict sets pred table pos other None = Ok None
-verdict sets pred table pos other (Some row) = if truth_of pred row then new_row table pos other (assigned sets row) else Ok None
+-- what a row that is selected becomes, or none where a value is out of range
+abbrev pub new_cell : WriteKind → List Value → Option Cell
+new_cell (kind.Set sets) row = option_map Some (assigned sets row)
+new_cell kind.Delete row = Some None
 
--- a position's new row in front of those of the positions after it
-abbrev pub and_new : Result (Option (List Value)) Ending → Result (List (Option (List Value))) Ending → Result (List (Option (List Value))) Ending
-and_new (Err ending) rest = Err ending
-and_new (Ok new) (Err ending) = Err ending
-and_new (Ok new) (Ok news) = Ok (new ∷ news)
+-- what a position that is selected becomes, or why it is refused: a conflict first, then a value out of range
+abbrev pub judged : ℕ → ℕ → Option Label → Option Cell → Result (Option Cell) Cause
+judged table pos (Some other) cell = Err (Conflict table pos other)
+judged table pos None None = Err (Range table pos)
+judged table pos None (Some cell) = Ok (Some cell)
 
--- what an UPDATE does at these cells, the first of them being at this position: the new rows, or the
--- first refusal. `opponent` tells whom a write of a position is in conflict with
-abbrev pub sweep : List Assign → Condition → ℕ → (ℕ → Option Label) → ℕ → List Cell → Result (List (Option (List Value))) Ending
-sweep sets pred table opponent pos [] = Ok []
-sweep sets pred table opponent pos (cell ∷ cells) =
-    and_new (verdict sets pred table pos (opponent pos) cell) (sweep sets pred table opponent (suc pos) cells)
+-- what an UPDATE or a DELETE makes of a position with this cell: nothing where there is no row or it isn't selected
+abbrev pub verdict : WriteKind → Condition → ℕ → ℕ → Option Label → Cell → Result (Option Cell) Cause
+verdict kind pred table pos other None = Ok None
+verdict kind pred table pos other (Some row) = if truth_of pred row then judged table pos other (new_cell kind row) else Ok None
 
--- what is own at a position after a new row came, or none
-abbrev pub own_after : Option Cell → Option (List Value) → Option Cell
-own_after own None = own
-own_after own (Some row) = Some (Some row)
+-- the write of a position's new cell, if it has one
+abbrev pub write_of : ℕ → ℕ → Option Cell → List Write
+write_of table pos None = []
+write_of table pos (Some cell) = record { table = table; pos = pos; cell = cell } ∷ []
 
--- a transaction's own cells after new rows came, from the first position on
-abbrev pub with_new_rows : List (Option Cell) → List (Option (List Value)) → List (Option Cell)
-with_new_rows cells [] = cells
-with_new_rows [] (new ∷ news) = own_after None new ∷ with_new_rows [] news
-with_new_rows (cell ∷ cells) (new ∷ news) = own_after cell new ∷ with_new_rows cells news
+-- what is written at a position, and then at others; or the first refusal
+abbrev pub and_write : ℕ → ℕ → Result (Option Cell) Cause → Result (List Write) Cause → Result (List Write) Cause
+and_write table pos (Err cause) writes = Err cause
+and_write table pos (Ok cell) (Err cause) = Err cause
+and_write table pos (Ok cell) (Ok writes) = Ok (write_of table pos cell ++ writes)
 
--- a transaction's own writes after new rows came in a table, from this position on
-abbrev pub own_with : Own → ℕ → ℕ → List (Option (List Value)) → Own
-own_with own table pos news =
-    slice_set own table (with_new_rows (slice_index_or own table []) (replicate pos None ++ news))
+-- the verdicts at positions of a table, one after another
+abbrev pub sweep : ℕ → (ℕ → Result (Option Cell) Cause) → List ℕ → Result (List Write) Cause
+sweep table judge [] = Ok []
+sweep table judge (pos ∷ positions) = and_write table pos (judge pos) (sweep table judge positions)
 
--- what an entry does at a position
-abbrev pub pair_of : Cell → Option Cell → Option Pair
-pair_of before None = None
-pair_of before (Some own) = Some (record { before = before; after = own })
+-- what a session's UPDATE or DELETE makes of a position
+abbrev pub verdict_at : Setting → State → ℕ → Begun → WriteKind → Condition → ℕ → ℕ → Result (Option Cell) Cause
+verdict_at setting state number begun kind pred table pos =
+    verdict kind pred table pos (opponent setting state number begun.prefix table pos) (item_at (view setting state begun) table pos)
 
--- what an entry does in a table
-abbrev pub pairs_of : List Cell → List (Option Cell) → List (Option Pair)
-pairs_of [] own = []
-pairs_of (cell ∷ cells) [] = []
-pairs_of (cell ∷ cells) (own ∷ owns) = pair_of cell own ∷ pairs_of cells owns
+-- what it does in a chunk: what it writes at the positions, ascending, or the first refusal
+abbrev pub swept : Setting → State → ℕ → Begun → WriteKind → Condition → ℕ → ℕ → Result (List Write) Cause
+swept setting state number begun kind pred table chunk =
+    sweep table (verdict_at setting state number begun kind pred table) (positions_in setting chunk)
 
--- what the entry of a transaction does: the cells that it saw, and those that it wrote
-abbrev pub entry_cells : Tables → Own → List (List (Option Pair))
-entry_cells [] own = []
-entry_cells (cells ∷ tables) [] = []
-entry_cells (cells ∷ tables) (own ∷ owns) = pairs_of cells own ∷ entry_cells tables owns
+-- whether a row stands in a cell that has the key of another one
+abbrev pub has_key_in : List Value → Option ℕ → Cell → Bool
+has_key_in new key None = false
+has_key_in new key (Some row) = has_key_of new key row
 
--- the first of these records on a table that is hit by a change of a row
-abbrev pub first_record : List Record → ℕ → Cell → Cell → Option ℕ
-first_record [] table before after = None
-first_record (of ∷ others) table before after =
-    if of.table == table && is_hit of before after then Some of.statement else first_record others table before after
+-- whether a transaction sees a row in a chunk that has the key of the row to insert
+abbrev pub sees_key : Setting → State → Begun → ℕ → List Value → Option ℕ → ℕ → Bool
+sees_key setting state begun table row key chunk =
+    list_any (λ pos. has_key_in row key (item_at (view setting state begun) table pos)) (positions_in setting chunk)
 
--- the first refusal found
-abbrev pub or_else : Option Ending → Option Ending → Option Ending
-or_else None other = other
-or_else (Some ending) other = Some ending
+-- the least position of a chunk that is free for a transaction
+abbrev pub free_position : Setting → State → Begun → ℕ → ℕ → Option ℕ
+free_position setting state begun table chunk = find (is_free setting state begun table) (positions_in setting chunk)
 
--- a transaction is invalid where a change hits a record
-abbrev pub invalid_at : ℕ → ℕ → Label → Option ℕ → Option Ending
-invalid_at table pos other None = None
-invalid_at table pos other (Some statement) = Some (Invalid table pos other statement)
+-- how many chunks an INSERT checks for its key before it takes a position
+abbrev pub checks_of : Setting → Option ℕ → ℕ
+checks_of setting None = 0
+checks_of setting (Some key) = setting.chunks
 
--- whether what an entry did at a position hits a record
-abbrev pub hit_at : List Record → Label → ℕ → ℕ → Option Pair → Option Ending
-hit_at records other table pos None = None
-hit_at records other table pos (Some pair) = invalid_at table pos other (first_record records table pair.before pair.after)
-
--- the first position, from this one on, at which an entry hits a record
-abbrev pub hit_in_table : List Record → Label → ℕ → ℕ → List (Option Pair) → Option Ending
-hit_in_table records other table pos [] = None
-hit_in_table records other table pos (pair ∷ pairs) =
-    or_else (hit_at records other table pos pair) (hit_in_table records other table (suc pos) pairs)
-
-abbrev pub hit_in_entry : List Record → Label → ℕ → List (List (Option Pair)) → Option Ending
-hit_in_entry records other table [] = None
-hit_in_entry records other table (pairs ∷ tables) =
-    or_else (hit_in_table records other table 0 pairs) (hit_in_entry records other (suc table) tables)
-
--- validation by precision locking: the first hit of a record by these entries, the entries in order, the
--- changes of one by table and then position, the records by number
-abbrev pub first_hit : List Record → List Entry → Option Ending
-first_hit records [] = None
-first_hit records (entry ∷ entries) = or_else (hit_in_entry records entry.label 0 entry.cells) (first_hit records entries)
+-- how many visits a statement has at most
+abbrev pub visits_of : Setting → Bound → ℕ
+visits_of setting (Select tables ons pred items) = setting.chunks * length tables
+visits_of setting (Group table pred key aggregate) = setting.chunks
+visits_of setting (Insert table row) = 2 * setting.chunks
+visits_of setting (Update table sets pred) = setting.chunks
+visits_of setting (Delete table pred) = setting.chunks

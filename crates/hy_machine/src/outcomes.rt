@@ -1,122 +1,110 @@
 //! What a machine's state comes to.
 
-ghost use Rattle.std.specs.Prelude.{◌≡◌, ◌++◌, IfOk, OnOk, count_by, map};
-ghost use Rattle.hy_machine.specs.Outcomes.{is_placed_in, placed_from, txn_outcome as txn_outcome_of, outcomes_of, all_outcomes as all_outcomes_of, change_of as changes_at, change_at as changes_of_pair, changes_in_table, changes_from, committed_of, sorted_rows as sorted_rows_of, outcome as outcome_of};
+ghost use Rattle.std.specs.Prelude.{◌≡◌, ◌++◌, [], IfOk, OnOk, map, slice_get, slice_index_or, length};
+ghost use Rattle.std.specs.Option.{option_copied};
+ghost use Rattle.hy_machine.specs.Tables.{history, opening_tables};
+ghost use Rattle.hy_machine.specs.Sessions.{snapshot, program_of};
+ghost use Rattle.hy_machine.specs.Positions.{by_items};
+ghost use Rattle.hy_machine.specs.Validation.{change_at, committed_of, change_between};
+ghost use Rattle.hy_machine.specs.Outcomes.{
+  inserts_into,
+  placed_by,
+  placed_in,
+  placed_from,
+  statements_in,
+  txn_outcome_of,
+  outcomes_from,
+  all_outcomes_from,
+  rows_sorted,
+  outcome_of,
+};
 
-use crate::lists::{next, number};
-use crate::overlay::{copy_cell, history, opening_tables, rows_of};
-use crate::writes::written;
-use crate::{Cell, Cells, Entry, Finished, Machine, Pair, Pairs, Session, Setting};
-use hy_bound::{Grouped, Groups, Replies, Reply, Rows};
+use crate::cells::{copy_cell, copy_replies};
+use crate::numbers::{next, number};
+use crate::seeing::snapshot_row;
+use crate::sessions::{positions, txn_after};
+use crate::writes::places_of;
+use crate::{Cell, Entry, Finished, Machine, Pair, Session, Setting};
+use hy_bound::{Bound, Rows};
 use hy_change::{Change, Changes};
-use hy_render::{Committed, Outcome, Place, TxnOutcome};
+use hy_render::{Committed, Outcome, TxnOutcome};
 use hy_stamp::Label;
 use hy_value::{Row, Seq, copy_row, sort_rows};
 use std::alloc::{AllocError, Global};
 
-/// A copy of rows.
-fn copy_rows(alloc: Global, rows: &[Row]) -> Result<Rows, AllocError>
-    ensures { IfOk result (λ copy. copy ≡ rows.now) }
+/// Whether a statement is an INSERT into a table.
+fn is_insert_into(table: u32, statement: &Bound) -> bool
+    ensures { result ≡ inserts_into table statement.now }
 {
-    let mut copy = Seq::new(alloc);
-    for row in rows {
-        copy.push(copy_row(alloc, row)?)?;
-    }
-    Ok(copy)
-}
-
-/// A copy of groups.
-fn copy_groups(alloc: Global, groups: &[Grouped]) -> Result<Groups, AllocError>
-    ensures { IfOk result (λ copy. copy ≡ groups.now) }
-{
-    let mut copy = Seq::new(alloc);
-    for group in groups {
-        copy.push(Grouped {
-            value: group.value.copy(),
-            total: group.total,
-        })?;
-    }
-    Ok(copy)
-}
-
-/// A copy of a reply.
-fn copy_reply(alloc: Global, reply: &Reply) -> Result<Reply, AllocError>
-    ensures { IfOk result (λ copy. copy ≡ reply.now) }
-{
-    match reply {
-        Reply::Rows(rows) => Ok(Reply::Rows(copy_rows(alloc, rows.as_slice())?)),
-        Reply::Value(total) => Ok(Reply::Value(*total)),
-        Reply::Groups(groups) => Ok(Reply::Groups(copy_groups(alloc, groups.as_slice())?)),
-        Reply::Inserted => Ok(Reply::Inserted),
-        Reply::Duplicate => Ok(Reply::Duplicate),
-        Reply::Updated(count) => Ok(Reply::Updated(*count)),
-        Reply::Deleted(count) => Ok(Reply::Deleted(*count)),
+    match statement {
+        Bound::Insert { table: other, .. } => *other == table,
+        _ => false,
     }
 }
 
-/// A copy of replies.
-fn copy_replies(alloc: Global, replies: &[Reply]) -> Result<Replies, AllocError>
-    ensures { IfOk result (λ copy. copy ≡ replies.now) }
-{
-    let mut copy = Seq::new(alloc);
-    for reply in replies {
-        copy.push(copy_reply(alloc, reply)?)?;
-    }
-    Ok(copy)
-}
-
-/// Whether a place is one of this table.
-fn is_in_table(place: &Option<Place>, table: u32) -> bool
-    ensures { result ≡ is_placed_in table place.now }
-{
-    match place {
-        Some(place) => place.table == table,
-        None => false,
-    }
-}
-
-/// How many of these places are a table's.
-fn placed_in(table: u32, took: &[Option<Place>]) -> u64
-    ensures { result ≡ count_by (is_placed_in table) took.now }
+/// How many positions of a table answered statements took.
+fn placed(table: u32, statements: &[Bound], took: &[Option<u32>]) -> u64
+    ensures { result ≡ placed_in table statements.now took.now }
 {
     let mut count = 0u64;
-    for place in took {
-        if is_in_table(place, table) {
+    for (i, statement) in statements.iter().enumerate() {
+        let Some(pos) = took.get(i) else {
+            return count;
+        };
+        if pos.is_some() && is_insert_into(table, statement) {
             count += 1;
         }
     }
     count
 }
 
-/// Of each table how many of these places are its own.
-fn placed(alloc: Global, took: &[Option<Place>], tables: &[Rows]) -> Result<Seq<u64>, AllocError>
-    ensures { IfOk result (λ counts. counts ≡ placed_from 0 took.now tables.now) }
+/// Of each table how many of its positions answered statements took.
+fn placed_each(
+    alloc: Global,
+    statements: &[Bound],
+    took: &[Option<u32>],
+    tables: &[Rows],
+) -> Result<Seq<u64>, AllocError>
+    ensures { IfOk result (λ counts. counts ≡ placed_from 0 statements.now took.now tables.now) }
 {
     let mut counts = Seq::new(alloc);
     for (i, _rows) in tables.iter().enumerate() {
-        counts.push(placed_in(number(i)?, took))?;
+        counts.push(placed(number(i)?, statements, took))?;
     }
     Ok(counts)
 }
 
-/// What an ended transaction came to.
+/// The statements of a session's transaction that has so many before it.
+fn statements_after(setting: &Setting, session: u32, before: usize) -> &[Bound]
+    ensures { result.now ≡ statements_in (slice_get (program_of setting.now session) before) }
+{
+    match txn_after(setting, session, before) {
+        Some(txn) => txn.statements.as_slice(),
+        None => &[],
+    }
+}
+
+/// What an ended transaction came to, whose session's script has so many before it.
 fn txn_outcome(
     alloc: Global,
     setting: &Setting,
     session: u32,
-    txn: u32,
+    before: usize,
     finished: &Finished,
 ) -> Result<TxnOutcome, AllocError>
-    ensures { IfOk result (λ outcome. outcome ≡ txn_outcome_of setting.now session txn finished.now) }
+    ensures { IfOk result (λ outcome. outcome ≡ txn_outcome_of setting.now session before finished.now) }
 {
     let begun = &finished.begun;
+    let txn = next(number(before)?)?;
+    let statements = statements_after(setting, session, before);
+    let first = setting.first.as_slice();
     Ok(TxnOutcome {
         label: Label { session, txn },
         start: begun.prefix,
         replies: copy_replies(alloc, begun.replies.as_slice())?,
         ending: finished.ending,
-        wrote: written(alloc, begun.own.as_slice())?,
-        placed: placed(alloc, begun.took.as_slice(), setting.first.as_slice())?,
+        wrote: places_of(alloc, &begun.own)?,
+        placed: placed_each(alloc, statements, begun.took.as_slice(), first)?,
     })
 }
 
@@ -128,11 +116,10 @@ fn add_outcomes(
     session: u32,
     done: &[Finished],
 ) -> Result<(), AllocError>
-    ensures { OnOk result (all.new ≡ all.old ++ outcomes_of setting.now session 1 done.now) }
+    ensures { OnOk result (all.new ≡ all.old ++ outcomes_from setting.now session 0 done.now) }
 {
     for (i, finished) in done.iter().enumerate() {
-        let txn = next(number(i)?)?;
-        all.push(txn_outcome(alloc, setting, session, txn, finished)?)?;
+        all.push(txn_outcome(alloc, setting, session, i, finished)?)?;
     }
     Ok(())
 }
@@ -143,7 +130,7 @@ fn all_outcomes(
     setting: &Setting,
     sessions: &[Session],
 ) -> Result<Seq<TxnOutcome>, AllocError>
-    ensures { IfOk result (λ all. all ≡ all_outcomes_of setting.now 0 sessions.now) }
+    ensures { IfOk result (λ all. all ≡ all_outcomes_from setting.now 0 sessions.now) }
 {
     let mut all = Seq::new(alloc);
     for (i, session) in sessions.iter().enumerate() {
@@ -163,15 +150,15 @@ fn add_change(
     alloc: Global,
     all: &mut Changes,
     table: u32,
-    pos: usize,
+    pos: u32,
     pair: &Pair,
 ) -> Result<(), AllocError>
-    ensures { OnOk result (all.new ≡ all.old ++ changes_at table pos pair.now.before pair.now.after) }
+    ensures { OnOk result (all.new ≡ all.old ++ change_between table pos pair.now.before pair.now.after) }
 {
     if pair.before.is_some() || pair.after.is_some() {
         all.push(Change {
             table,
-            pos: number(pos)?,
+            pos,
             before: copy_cell(alloc, &pair.before)?,
             after: copy_cell(alloc, &pair.after)?,
         })?;
@@ -180,76 +167,86 @@ fn add_change(
 }
 
 /// Adds the changes of an entry in a table.
-fn add_table(
+fn add_changes(
     alloc: Global,
     all: &mut Changes,
     table: u32,
-    pairs: &[Option<Pair>],
+    items: &[(u32, Pair)],
 ) -> Result<(), AllocError>
-    ensures { OnOk result (all.new ≡ all.old ++ changes_in_table table 0 pairs.now) }
+    ensures { OnOk result (all.new ≡ all.old ++ by_items (change_at table) items.now) }
 {
-    for (pos, pair) in pairs.iter().enumerate() {
-        if let Some(pair) = pair {
-            add_change(alloc, all, table, pos, pair)?;
-        }
+    for (pos, pair) in items {
+        add_change(alloc, all, table, *pos, pair)?;
     }
     Ok(())
 }
 
-/// The changes of an entry, by table and then position.
-fn changes(alloc: Global, tables: &[Pairs]) -> Result<Changes, AllocError>
-    ensures { IfOk result (λ all. all ≡ changes_from 0 tables.now) }
+/// An entry of the commit order with its changes.
+fn committed(alloc: Global, entry: &Entry) -> Result<Committed, AllocError>
+    ensures { IfOk result (λ one. one ≡ committed_of entry.now) }
 {
-    let mut all = Seq::new(alloc);
-    for (table, pairs) in tables.iter().enumerate() {
-        add_table(alloc, &mut all, number(table)?, pairs.as_slice())?;
+    let mut changes = Seq::new(alloc);
+    for (table, pairs) in entry.cells.as_slice().iter().enumerate() {
+        add_changes(alloc, &mut changes, number(table)?, pairs.items())?;
     }
-    Ok(all)
+    Ok(Committed {
+        label: entry.label,
+        changes,
+    })
 }
 
 /// The entries of the commit order, with their changes.
-fn committed(alloc: Global, order: &[Entry]) -> Result<Seq<Committed>, AllocError>
+fn all_committed(alloc: Global, order: &[Entry]) -> Result<Seq<Committed>, AllocError>
     ensures { IfOk result (λ all. all ≡ map committed_of order.now) }
 {
     let mut all = Seq::new(alloc);
     for entry in order {
-        all.push(Committed {
-            label: entry.label,
-            changes: changes(alloc, entry.cells.as_slice())?,
-        })?;
+        all.push(committed(alloc, entry)?)?;
     }
     Ok(all)
 }
 
-/// The rows of a table, ascending.
-fn sorted_rows(alloc: Global, cells: &[Cell]) -> Result<Rows, AllocError>
-    ensures { IfOk result (λ rows. rows ≡ sorted_rows_of cells.now) }
+/// The rows of a table after the whole commit order, ascending.
+fn last_rows(
+    alloc: Global,
+    setting: &Setting,
+    machine: &Machine,
+    table: u32,
+) -> Result<Rows, AllocError>
+    ensures { IfOk result (λ rows. rows ≡ rows_sorted (slice_index_or (history (opening_tables setting.now) machine.now.order) table [])) }
 {
-    let mut rows = rows_of(alloc, cells)?.into_vec();
+    let entries = number(machine.state().order.len())?;
+    let mut rows = Vec::new(alloc);
+    for pos in 0..number(positions(setting))? {
+        match snapshot_row(setting, machine, entries, table, pos) {
+            Some(row) => rows.push(copy_row(alloc, row)?)?,
+            None => {}
+        }
+    }
     sort_rows(&mut rows)?;
     Ok(Seq::from_vec(rows))
 }
 
-/// The rows of each table, ascending.
-fn all_rows(alloc: Global, tables: &[Cells]) -> Result<Seq<Rows>, AllocError>
-    ensures { IfOk result (λ all. all ≡ map sorted_rows_of tables.now) }
+/// The rows of each table after the whole commit order, ascending.
+fn all_rows(alloc: Global, setting: &Setting, machine: &Machine) -> Result<Seq<Rows>, AllocError>
+    ensures { IfOk result (λ all. all ≡ map rows_sorted (history (opening_tables setting.now) machine.now.order)) }
 {
     let mut all = Seq::new(alloc);
-    for cells in tables {
-        all.push(sorted_rows(alloc, cells.as_slice())?)?;
+    for table in 0..number(setting.first.len())? {
+        all.push(last_rows(alloc, setting, machine, table)?)?;
     }
     Ok(all)
 }
 
-/// What a machine's state comes to: its ended transactions, the commit order, the tables after it.
+/// What a machine's state comes to: its ended transactions, the commit order with its changes, the tables
+/// after it.
 pub fn outcome(alloc: Global, setting: &Setting, machine: &Machine) -> Result<Outcome, AllocError>
     ensures { IfOk result (λ outcome. outcome ≡ outcome_of setting.now machine.now) }
 {
-    let order = machine.order.as_slice();
-    let tables = history(alloc, opening_tables(alloc, setting)?, order)?;
+    let state = machine.state();
     Ok(Outcome {
-        txns: all_outcomes(alloc, setting, machine.sessions.as_slice())?,
-        order: committed(alloc, order)?,
-        tables: all_rows(alloc, tables.as_slice())?,
+        txns: all_outcomes(alloc, setting, state.sessions.as_slice())?,
+        order: all_committed(alloc, state.order.as_slice())?,
+        tables: all_rows(alloc, setting, machine)?,
     })
 }

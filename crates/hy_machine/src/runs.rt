@@ -1,22 +1,32 @@
 //! Runs of a schedule.
 
-ghost use Rattle.std.specs.Prelude.{◌≡◌, [], IfOk, OnOk, length};
-ghost use Rattle.hy_machine.specs.Runs.{opening as opening_of, has_moved as has_moved_of, whole as whole_of, most_steps, run_item as run_item_of, run_items as run_items_of, round_from, all_ended as all_ended_of, rounds as rounds_of, most_rounds, run as run_of};
+ghost use Rattle.std.specs.Prelude.{◌≡◌, ◌<◌, ℕ, [], true, false, IfOk, OnOk, length};
+ghost use Rattle.hy_machine.specs.Sessions.{session_at};
+ghost use Rattle.hy_machine.specs.Measures.{steps_left, measure_of};
+ghost use Rattle.hy_machine.specs.Runs.{
+  opening_of,
+  is_moved,
+  whole_of,
+  item_of,
+  items_of,
+  round_from,
+  round_of,
+  all_ended_from,
+  repeated,
+  rounds_of,
+  run_of,
+  RunsAreSteps,
+  StepsFall,
+};
 
-use crate::lists::number;
-use crate::states::has_ended;
-use crate::stepping::step;
+use crate::measures::all_steps;
+use crate::numbers::number;
+use crate::sessions::is_at_end;
+use crate::steps::step;
 use crate::{Machine, Session, Setting, Stepped};
 use hy_schedule::Item;
 use hy_value::Seq;
 use std::alloc::{AllocError, Global};
-
-/// No statement takes more steps than this: there are at most 16 tables of 64 chunks.
-const MOST_STEPS: u32 = 2048;
-
-/// No run takes more rounds than this: there are at most 64 sessions of 65,535 transactions of 256
-/// statements.
-const MOST_ROUNDS: u32 = 2_147_483_648;
 
 /// The machine before anything has happened.
 pub fn opening(alloc: Global, setting: &Setting) -> Result<Machine, AllocError>
@@ -29,52 +39,30 @@ pub fn opening(alloc: Global, setting: &Setting) -> Result<Machine, AllocError>
             now: None,
         })?;
     }
-    Ok(Machine {
-        order: Seq::new(alloc),
-        mark: None,
-        sessions,
-    })
+    Ok(Machine::of_sessions(alloc, sessions))
 }
 
 /// Whether a session went on without an answer.
 fn has_moved(stepped: Stepped) -> bool
-    ensures { result ≡ has_moved_of stepped }
+    ensures { result ≡ is_moved stepped }
 {
-    match stepped {
-        Stepped::Moved => true,
-        _ => false,
-    }
+    matches!(stepped, Stepped::Moved)
 }
 
-/// A session's steps until it answers, is blocked or has ended, but no more than so many.
+/// A session's steps until it answers, is blocked or has ended.
 fn whole(
     alloc: Global,
     setting: &Setting,
     machine: &mut Machine,
     session: u32,
-    most: u32,
 ) -> Result<(), AllocError>
-    ensures { OnOk result (machine.new ≡ whole_of most setting.now machine.old session) }
+    ensures { OnOk result (machine.new ≡ whole_of setting.now machine.old session) }
 {
-    for _step in 0..most {
-        if !has_moved(step(alloc, setting, machine, session)?) {
-            return Ok(());
-        }
+    let mut stepped = step(alloc, setting, machine, session)?;
+    'moving: while has_moved(stepped) {
+        stepped = step(alloc, setting, machine, session)?;
     }
     Ok(())
-}
-
-/// A session's steps until it answers, is blocked or has ended.
-#[tactic(auto, unfolding(crate::specs::Runs::most_steps))]
-fn whole_statement(
-    alloc: Global,
-    setting: &Setting,
-    machine: &mut Machine,
-    session: u32,
-) -> Result<(), AllocError>
-    ensures { OnOk result (machine.new ≡ whole_of most_steps setting.now machine.old session) }
-{
-    whole(alloc, setting, machine, session, MOST_STEPS)
 }
 
 /// An item of a schedule.
@@ -84,10 +72,10 @@ fn run_item(
     machine: &mut Machine,
     item: Item,
 ) -> Result<(), AllocError>
-    ensures { OnOk result (machine.new ≡ run_item_of setting.now machine.old item) }
+    ensures { OnOk result (machine.new ≡ item_of setting.now machine.old item) }
 {
     if item.whole {
-        return whole_statement(alloc, setting, machine, item.session);
+        return whole(alloc, setting, machine, item.session);
     }
     let _ = step(alloc, setting, machine, item.session)?;
     Ok(())
@@ -100,7 +88,7 @@ fn run_items(
     machine: &mut Machine,
     items: &[Item],
 ) -> Result<(), AllocError>
-    ensures { OnOk result (machine.new ≡ run_items_of setting.now machine.old items.now) }
+    ensures { OnOk result (machine.new ≡ items_of setting.now machine.old items.now) }
 {
     for item in items {
         run_item(alloc, setting, machine, *item)?;
@@ -110,21 +98,21 @@ fn run_items(
 
 /// A round: each session, in order, as far as it answers.
 fn round(alloc: Global, setting: &Setting, machine: &mut Machine) -> Result<(), AllocError>
-    ensures { OnOk result (machine.new ≡ round_from setting.now machine.old 0 (length machine.old.sessions)) }
+    ensures { OnOk result (machine.new ≡ round_of setting.now machine.old) }
 {
-    let sessions = number(machine.sessions.len())?;
+    let sessions = number(machine.state().sessions.len())?;
     for session in 0..sessions {
-        whole_statement(alloc, setting, machine, session)?;
+        whole(alloc, setting, machine, session)?;
     }
     Ok(())
 }
 
 /// Whether every session has ended.
 fn all_ended(setting: &Setting, sessions: &[Session]) -> Result<bool, AllocError>
-    ensures { IfOk result (λ ended. ended ≡ all_ended_of setting.now 0 sessions.now) }
+    ensures { IfOk result (λ ended. ended ≡ all_ended_from setting.now 0 sessions.now) }
 {
     for (i, session) in sessions.iter().enumerate() {
-        if !has_ended(setting, number(i)?, session) {
+        if !is_at_end(setting, number(i)?, session) {
             return Ok(false);
         }
     }
@@ -136,12 +124,12 @@ fn rounds(
     alloc: Global,
     setting: &Setting,
     machine: &mut Machine,
-    most: u32,
+    most: u64,
 ) -> Result<(), AllocError>
-    ensures { OnOk result (machine.new ≡ rounds_of most setting.now machine.old) }
+    ensures { OnOk result (machine.new ≡ repeated most setting.now machine.old) }
 {
     for _round in 0..most {
-        if all_ended(setting, machine.sessions.as_slice())? {
+        if all_ended(setting, machine.state().sessions.as_slice())? {
             return Ok(());
         }
         round(alloc, setting, machine)?;
@@ -149,13 +137,20 @@ fn rounds(
     Ok(())
 }
 
+/// Rounds until every session has ended: there are no more of them than steps are left.
+fn run_rounds(alloc: Global, setting: &Setting, machine: &mut Machine) -> Result<(), AllocError>
+    ensures { OnOk result (machine.new ≡ rounds_of setting.now machine.old) }
+{
+    let most = all_steps(setting, machine.state().sessions.as_slice())?;
+    rounds(alloc, setting, machine, most)
+}
+
 /// A run: the schedule's items, and then rounds until every session has ended.
-#[tactic(auto, unfolding(crate::specs::Runs::most_rounds))]
 pub fn run(alloc: Global, setting: &Setting, schedule: &[Item]) -> Result<Machine, AllocError>
     ensures { IfOk result (λ machine. machine ≡ run_of setting.now schedule.now) }
 {
     let mut machine = opening(alloc, setting)?;
     run_items(alloc, setting, &mut machine, schedule)?;
-    rounds(alloc, setting, &mut machine, MOST_ROUNDS)?;
+    run_rounds(alloc, setting, &mut machine)?;
     Ok(machine)
 }

@@ -1,18 +1,24 @@
-use Rattle.std.proofs.Common.{arith, sym, ◌∙◌}
-use Rattle.hy_machine.proofs.Counting.{whole_goes_on, whole_ends, whole_over}
+use Rattle.std.proofs.Common.{◌≡◌, ◌∙◌, sym, ap, cond}
+use Rattle.std.specs.Prelude.{Bool}
+use Rattle.hy_machine.specs.declared.State.{State}
+use Rattle.hy_machine.specs.Runs.{whole_of}
+use Rattle.hy_machine.proofs.Falls.{whole_after, smaller_after}
 use Rattle.hy_machine.proofs.runs.whole.Goals as goal
 
-pub returns-then-not-has_moved : goal.returns-then-not-has_moved
-returns-then-not-has_moved c =
-    sym (whole_ends c.args.most c.loop-step._step c.args.setting.now c.loop-step.machine c.args.session c.step.new.machine c.in_ok-step.field-0
-    (omega arith) c.in_ok-step.ensures (sym c.if-not-has_moved.ensures))
-    ∙ c.loop-step.invariant
+pub moving-init : goal.moving-init
+moving-init c = sym (whole_after c.args.setting.now c.args.machine.now c.step.new.machine c.args.session c.in_ok-stepped.stepped c.in_ok-stepped.ensures)
 
-pub loop-step-preserved : goal.loop-step-preserved
-loop-step-preserved c =
-    sym (whole_goes_on c.args.most c.loop-step._step c.args.setting.now c.loop-step.machine c.args.session c.step.new.machine c.in_ok-step.field-0
-    (omega arith) c.in_ok-step.ensures (sym c.if-not-has_moved.ensures))
-    ∙ c.loop-step.invariant
+pub moving-preserved : goal.moving-preserved
+moving-preserved c =
+    let choice : Bool → State = λ b. cond b (whole_of c.args.setting.now c.moving.machine c.args.session) c.moving.machine in
+    let rest : whole_of c.args.setting.now c.moving.machine c.args.session ≡ whole_of c.args.setting.now c.args.machine.now c.args.session = ap choice c.moving-test.ensures ∙ c.moving.invariant in
+    sym (whole_after c.args.setting.now c.moving.machine c.step-in-moving.new.machine c.args.session c.in_ok-stepped-2.stepped c.in_ok-stepped-2.ensures) ∙ rest
+
+pub moving-smaller : goal.moving-smaller
+moving-smaller c = smaller_after c.args.setting.now c.moving.machine c.step-in-moving.new.machine c.args.session c.moving.stepped c.in_ok-stepped-2.stepped (sym c.moving-test.ensures) c.in_ok-stepped-2.ensures
 
 pub returns : goal.returns
-returns c = sym (whole_over c.args.most c.loop-step._step c.args.setting.now c.loop-step.machine c.args.session (omega arith)) ∙ c.loop-step.invariant
+returns c =
+    let choice : Bool → State = λ b. cond b (whole_of c.args.setting.now c.moving.machine c.args.session) c.moving.machine in
+    let last : c.moving.machine ≡ whole_of c.args.setting.now c.args.machine.now c.args.session = ap choice c.moving-test.ensures ∙ c.moving.invariant in
+    last

@@ -1,6 +1,7 @@
 use Rattle.std.proofs.Common.{◌≡◌, ◌++◌, drop}
-use Rattle.hy_machine.specs.Own.{places_from}
+use Rattle.hy_machine.specs.Positions.{by_items}
+use Rattle.hy_machine.specs.Writes.{place_at}
 use Rattle.hy_machine.proofs.writes.add_places.Given as goal
 
 abbrev pub invariant-loop-pos : goal.invariant-loop-pos
-invariant-loop-pos l = l.places ++ places_from l.table l.pos (drop l.pos l.cells) ≡ l.fn.places ++ places_from l.table 0 l.cells
+invariant-loop-pos l = l.places ++ by_items (place_at l.table) (drop l.pos-index l.items) ≡ l.fn.places ++ by_items (place_at l.table) l.items

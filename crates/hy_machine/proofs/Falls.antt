@@ -1,0 +1,399 @@
+-- A step that goes on brings its session nearer to its end.
+use Rattle.std.proofs.Common.{◌≡◌, ℕ, ◌+◌, ◌-◌, ◌*◌, ◌<◌, ◌≤◌, List, [], ◌∷◌, ◌++◌, length, drop, map, get_or, refl, ap, ◌∙◌, sym, arith, zero, suc, Option, None, Some, Bool, true, false, cond, inl, inr, ltb, Result, Ok, Err, subst}
+use Rattle.std.proofs.Math.ListN.{set}
+use Rattle.std.specs.Prelude.{slice_get}
+use Rattle.std.specs.List.{filter, range_with_len}
+use Rattle.std.proofs.lemmas.Bool.{cases_Bool, cases_lt, ltb-true}
+use Rattle.std.proofs.lemmas.List.{length-append, length-map, length-set, get_or-set_same, get_or_past}
+use Rattle.std.proofs.lemmas.Option.{same_Some, none-some}
+use Rattle.hy_bound.specs.declared.Txn.{Txn}
+use Rattle.hy_bound.specs.declared.Bound.{Bound}
+use Rattle.hy_bound.specs.declared.Bound.TheVariants.{Select, Group, Insert, Update, Delete}
+use Rattle.hy_bound.specs.declared.WriteKind.{WriteKind}
+use Rattle.hy_bound.specs.declared.WriteKind.TheVariants as kind
+use Rattle.hy_bound.specs.declared.Reply.{Reply}
+use Rattle.hy_bound.specs.Records.{shape_of}
+use Rattle.hy_meaning.specs.Statement.{answer_of, grouped}
+use Rattle.hy_value.specs.declared.Value.{Value}
+use Rattle.hy_stamp.specs.declared.Label.{Label}
+use Rattle.hy_render.specs.declared.Ending.TheVariants as ending
+use Rattle.hy_machine.specs.declared.Setting.{Setting}
+use Rattle.hy_machine.specs.declared.State.{State}
+use Rattle.hy_machine.specs.declared.Session.{Session}
+use Rattle.hy_machine.specs.declared.Finished.{Finished}
+use Rattle.hy_machine.specs.declared.Open.{Open}
+use Rattle.hy_machine.specs.declared.Begun.{Begun}
+use Rattle.hy_machine.specs.declared.Write.{Write}
+use Rattle.hy_machine.specs.declared.Cause.{Cause}
+use Rattle.hy_machine.specs.declared.Cause.TheVariants.{RolledBack}
+use Rattle.hy_machine.specs.declared.Phase.{Phase}
+use Rattle.hy_machine.specs.declared.Phase.TheVariants.{Working, Stamping, Undoing}
+use Rattle.hy_machine.specs.declared.Turn.{Turn}
+use Rattle.hy_machine.specs.declared.Turn.TheVariants.{Done, Waits, Begins, Visits, Answers, Enters, Ends}
+use Rattle.hy_machine.specs.Tables.{Own}
+use Rattle.hy_machine.specs.Writes.{with_write, with_writes, chunks_in_table, chunks_from, written_chunks, has_written_in, wrote_nothing}
+use Rattle.hy_machine.specs.Sessions.{fresh, session_at, program_of, txn_at, blocker, view}
+use Rattle.hy_machine.specs.declared.Stepped.{Stepped}
+use Rattle.hy_machine.specs.declared.Stepped.TheVariants.{Ended}
+use Rattle.hy_machine.specs.Runs.{is_moved, moves, whole_of}
+use Rattle.hy_machine.specs.Visits.{visits_of, checks_of, swept, sees_key, free_position}
+use Rattle.hy_machine.specs.Validation.{committed_of, first_hit}
+use Rattle.hy_machine.specs.Turns.{read_turn, write_turn, check_turn, place_turn, insert_turn, statement_turn, undo_turn, stamp_turn, validated_turn, commit_turn, closing_turn, working_turn, phase_turn, session_turn, unless_blocked, rows_seen, ending_of}
+use Rattle.hy_machine.specs.Steps.{Step, with_session, after_turn, step_of, after_visit, after_answer, with_changed, with_ended}
+use Rattle.hy_machine.specs.Measures.{parts_of, open_left, later_left, txns_left, steps_left}
+
+-- ---- what a statement's turn may be
+
+-- it goes on in its statement, is refused, or answers
+abbrev pub Advances : ℕ → ℕ → Turn → Type 0
+Advances visited most Done = ⊥
+Advances visited most (Waits by) = ⊥
+Advances visited most Begins = ⊥
+Advances visited most (Visits writes (Working next count)) = (next ≡ suc visited) × (visited < most)
+Advances visited most (Visits writes (Stamping next)) = ⊥
+Advances visited most (Visits writes (Undoing next cause)) = next ≡ 0
+Advances visited most (Answers writes reply took records) = Unit {0}
+Advances visited most Enters = ⊥
+Advances visited most (Ends ending) = ⊥
+
+read_advances : (setting : Setting) (begun : Begun) (visited tables most : ℕ) (statement : Bound) (gathered : List (List (List Value))) (reply : Reply) → setting.chunks * tables ≤ most
+    → Advances visited most (read_turn setting begun visited tables statement gathered reply)
+read_advances setting begun visited tables most statement gathered reply h = elim (cases_Bool (ltb (suc visited) (setting.chunks * tables))) [
+  | inl t ↦ rw t (refl, omega (arith, h, ltb-true (suc visited) (setting.chunks * tables) t))
+  | inr f ↦ rw f tt
+]
+
+write_advances : (setting : Setting) (begun : Begun) (visited count : ℕ) (statement : Bound) (kind : WriteKind) (writes : Result (List Write) Cause)
+    → Advances visited setting.chunks (write_turn setting begun visited count statement kind writes)
+write_advances setting begun visited count statement kind (Err cause) = refl
+write_advances setting begun visited count statement kind (Ok writes) = elim (cases_Bool (ltb (suc visited) setting.chunks)) [
+  | inl t ↦ rw t (refl, omega (arith, ltb-true (suc visited) setting.chunks t))
+  | inr f ↦ rw f tt
+]
+
+place_advances : (setting : Setting) (begun : Begun) (visited chunk most : ℕ) (statement : Bound) (table : ℕ) (row : List Value) (pos : Option ℕ) → (suc chunk < setting.chunks → visited < most)
+    → Advances visited most (place_turn setting begun visited chunk statement table row pos)
+place_advances setting begun visited chunk most statement table row (Some pos) h = tt
+place_advances setting begun visited chunk most statement table row None h = elim (cases_Bool (ltb (suc chunk) setting.chunks)) [
+  | inl t ↦ rw t (refl, h (ltb-true (suc chunk) setting.chunks t))
+  | inr f ↦ rw f refl
+]
+
+check_advances : (setting : Setting) (begun : Begun) (visited most : ℕ) (statement : Bound) (found : Bool) → visited < most → Advances visited most (check_turn setting begun visited statement found)
+check_advances setting begun visited most statement true h = tt
+check_advances setting begun visited most statement false h = (refl, h)
+
+insert_advances : (setting : Setting) (state : State) (begun : Begun) (visited checks : ℕ) (statement : Bound) (table : ℕ) (row : List Value) (key : Option ℕ) → checks_of setting key ≤ setting.chunks
+    → Advances visited (2 * setting.chunks) (insert_turn setting state begun visited statement table row key)
+insert_advances setting state begun visited checks statement table row key h = elim (cases_Bool (ltb visited (checks_of setting key))) [
+  | inl t ↦ rw t (check_advances setting begun visited (2 * setting.chunks) statement (sees_key setting state begun table row key visited) (omega (arith, h, ltb-true visited (checks_of setting key) t)))
+  | inr f ↦ rw f (place_advances setting begun visited (visited - checks_of setting key) (2 * setting.chunks) statement table row (free_position setting state begun table (visited - checks_of setting key)) (λ more. omega (arith, more, h)))
+]
+
+few_checks : (setting : Setting) (key : Option ℕ) → checks_of setting key ≤ setting.chunks
+few_checks setting None = omega arith
+few_checks setting (Some key) = omega arith
+
+statement_advances : (setting : Setting) (state : State) (number : ℕ) (begun : Begun) (visited count : ℕ) (statement : Bound)
+    → Advances visited (visits_of setting statement) (statement_turn setting state number begun visited count statement)
+statement_advances setting state number begun visited count (Select tables ons pred items) =
+    read_advances setting begun visited (length tables) (setting.chunks * length tables) (Select tables ons pred items) (map (rows_seen (view setting state begun)) tables) (answer_of ons pred items (map (rows_seen (view setting state begun)) tables)) (omega arith)
+statement_advances setting state number begun visited count (Group table pred key aggregate) =
+    read_advances setting begun visited 1 setting.chunks (Group table pred key aggregate) [] (grouped pred key aggregate (rows_seen (view setting state begun) table)) (omega arith)
+statement_advances setting state number begun visited count (Insert table row) =
+    insert_advances setting state begun visited 0 (Insert table row) table row (shape_of setting.shapes table).key (few_checks setting (shape_of setting.shapes table).key)
+statement_advances setting state number begun visited count (Update table sets pred) =
+    write_advances setting begun visited count (Update table sets pred) (kind.Set sets) (swept setting state number begun (kind.Set sets) pred table visited)
+statement_advances setting state number begun visited count (Delete table pred) =
+    write_advances setting begun visited count (Delete table pred) kind.Delete (swept setting state number begun kind.Delete pred table visited)
+
+-- ---- how many chunks may be written
+
+filter_few : {A : Type 0} (p : A → Bool) (xs : List A) → length (filter p xs) ≤ length xs
+filter_few p [] = omega arith
+filter_few p (x ∷ xs) = elim (cases_Bool (p x)) [
+  | inl t ↦ rw t (omega (arith, filter_few p xs))
+  | inr f ↦ rw f (omega (arith, filter_few p xs))
+]
+
+range_length : (a n : ℕ) → length (range_with_len a n) ≡ n
+range_length a zero = refl
+range_length a (suc n) = ap suc (range_length (a + 1) n)
+
+chunks_few : (setting : Setting) (table : ℕ) (own : Own) → length (chunks_from setting table own) ≤ setting.chunks * length own
+chunks_few setting table [] = omega arith
+chunks_few setting table (cells ∷ own) =
+    let one : length (chunks_in_table setting table cells) ≤ setting.chunks =
+    rw (length-map {B = ℕ × ℕ} (filter (has_written_in setting cells) (range_with_len 0 setting.chunks)) (λ (chunk : ℕ). (table, chunk)))
+    (omega (arith, filter_few (has_written_in setting cells) (range_with_len 0 setting.chunks), range_length 0 setting.chunks)) in
+    let rest = chunks_few setting (suc table) own in
+    rw (length-append (chunks_in_table setting table cells) (chunks_from setting (suc table) own)) (grind (arith, one, rest))
+
+written_few : (setting : Setting) (begun : Begun) → length (written_chunks setting begun.own) ≤ parts_of setting begun
+written_few setting begun = chunks_few setting 0 begun.own
+
+with_writes_length : (own : Own) (writes : List Write) → length (with_writes own writes) ≡ length own
+with_writes_length own [] = refl
+with_writes_length own (write ∷ writes) = with_writes_length (with_write own write) writes ∙ length-set own write.table (set (get_or own write.table []) write.pos (Some write.cell))
+
+-- ---- what is left after a turn of an open transaction
+
+-- the steps left of a session whose open transaction takes a turn, its script having these transactions behind it
+abbrev pub left_after : Setting → Txn → Begun → ℕ → Turn → ℕ
+left_after setting txn begun rest Done = 0
+left_after setting txn begun rest (Waits by) = 0
+left_after setting txn begun rest Begins = 0
+left_after setting txn begun rest (Visits writes phase) = open_left setting txn (record begun { own = with_writes begun.own writes }) phase + rest
+left_after setting txn begun rest (Answers writes reply took records) =
+    open_left setting txn (after_answer writes reply took records (record { begun = begun; phase = Working 0 0 })).begun (Working 0 0) + rest
+left_after setting txn begun rest Enters = open_left setting txn begun (Stamping 0) + rest
+left_after setting txn begun rest (Ends ending) = rest
+
+-- a turn that changes something
+abbrev pub IsActing : Turn → Type 0
+IsActing Done = ⊥
+IsActing (Waits by) = ⊥
+IsActing Begins = ⊥
+IsActing (Visits writes phase) = Unit {0}
+IsActing (Answers writes reply took records) = Unit {0}
+IsActing Enters = Unit {0}
+IsActing (Ends ending) = Unit {0}
+
+drop_more_of : (statements : List Bound) (n : ℕ) (statement : Bound) → slice_get statements n ≡ Some statement → drop n statements ≡ statement ∷ drop (suc n) statements
+drop_more_of [] n statement e = absurd (cc e)
+drop_more_of (one ∷ statements) zero statement e = ap (λ (s : Bound). s ∷ statements) (cc e)
+drop_more_of (one ∷ statements) (suc n) statement e = drop_more_of statements n statement e
+
+advance_falls : (setting : Setting) (txn : Txn) (begun : Begun) (visited count rest : ℕ) (statement : Bound) (turn : Turn) → slice_get txn.statements (length begun.replies) ≡ Some statement
+    → Advances visited (visits_of setting statement) turn → left_after setting txn begun rest turn < open_left setting txn begun (Working visited count) + rest
+advance_falls setting txn begun visited count rest statement (Visits writes (Working next more)) e a =
+    let left = drop_more_of txn.statements (length begun.replies) statement e in
+    rw (left, with_writes_length begun.own writes, a.0) (omega (arith, a.1))
+advance_falls setting txn begun visited count rest statement (Visits writes (Undoing next cause)) e a =
+    rw (with_writes_length begun.own writes) (omega (arith, a))
+advance_falls setting txn begun visited count rest statement (Answers writes reply took records) e a =
+    let left = drop_more_of txn.statements (length begun.replies) statement e in
+    let one : length (begun.replies ++ reply ∷ []) ≡ suc (length begun.replies) = omega (arith, length-append begun.replies (reply ∷ [])) in
+    rw (left, with_writes_length begun.own writes, one) (omega arith)
+advance_falls setting txn begun visited count rest statement Done e a = absurd a
+advance_falls setting txn begun visited count rest statement (Waits by) e a = absurd a
+advance_falls setting txn begun visited count rest statement Begins e a = absurd a
+advance_falls setting txn begun visited count rest statement (Visits writes (Stamping next)) e a = absurd a
+advance_falls setting txn begun visited count rest statement Enters e a = absurd a
+advance_falls setting txn begun visited count rest statement (Ends how) e a = absurd a
+
+undo_falls : (setting : Setting) (state : State) (number : ℕ) (txn : Txn) (begun : Begun) (visited rest bound : ℕ) (cause : Cause) → suc (parts_of setting begun - visited) ≤ bound
+    → IsActing (undo_turn setting state number begun visited cause) → left_after setting txn begun rest (undo_turn setting state number begun visited cause) < bound + rest
+undo_falls setting state number txn begun visited rest bound cause h a = elim (cases_Bool (ltb visited (length (written_chunks setting begun.own)))) [
+  | inl t ↦
+      let within : visited < parts_of setting begun = omega (arith, written_few setting begun, ltb-true visited (length (written_chunks setting begun.own)) t) in
+      rw t (omega (arith, h, within))
+  | inr f ↦ rw f (ended (blocker state number) (rw f at a))
+]
+  where
+    ended : (by : Option Label) → IsActing (unless_blocked by (Ends (ending_of cause))) → left_after setting txn begun rest (unless_blocked by (Ends (ending_of cause))) < bound + rest
+    ended None a = omega (arith, h)
+    ended (Some by) a = absurd a
+
+stamp_falls : (setting : Setting) (state : State) (txn : Txn) (begun : Begun) (visited rest : ℕ)
+    → left_after setting txn begun rest (stamp_turn setting state begun visited) < suc (parts_of setting begun - visited) + rest
+stamp_falls setting state txn begun visited rest = elim (cases_Bool (ltb visited (length (written_chunks setting begun.own)))) [
+  | inl t ↦
+      let within : visited < parts_of setting begun = omega (arith, written_few setting begun, ltb-true visited (length (written_chunks setting begun.own)) t) in
+      rw t (omega (arith, within))
+  | inr f ↦ rw f (omega arith)
+]
+
+commit_falls : (setting : Setting) (state : State) (number : ℕ) (txn : Txn) (begun : Begun) (rest bound : ℕ) → suc (suc (parts_of setting begun)) ≤ bound
+    → IsActing (commit_turn setting state number begun) → left_after setting txn begun rest (commit_turn setting state number begun) < bound + rest
+commit_falls setting state number txn begun rest bound h = by_blocker (blocker state number)
+  where
+    validated : (cause : Option Cause) → left_after setting txn begun rest (validated_turn cause) < bound + rest
+    validated None = omega (arith, h)
+    validated (Some cause) = omega (arith, h)
+
+    closed : (nothing : Bool) → left_after setting txn begun rest (cond nothing (Ends ending.Read) (validated_turn (first_hit begun.records (map committed_of (drop begun.prefix state.order))))) < bound + rest
+    closed true = omega (arith, h)
+    closed false = validated (first_hit begun.records (map committed_of (drop begun.prefix state.order)))
+
+    by_blocker : (by : Option Label) → IsActing (unless_blocked by (cond (wrote_nothing begun.own) (Ends ending.Read) (validated_turn (first_hit begun.records (map committed_of (drop begun.prefix state.order))))))
+        → left_after setting txn begun rest (unless_blocked by (cond (wrote_nothing begun.own) (Ends ending.Read) (validated_turn (first_hit begun.records (map committed_of (drop begun.prefix state.order)))))) < bound + rest
+    by_blocker None a = closed (wrote_nothing begun.own)
+    by_blocker (Some by) a = absurd a
+
+working_falls : (setting : Setting) (state : State) (number : ℕ) (txn : Txn) (begun : Begun) (visited count rest : ℕ) (statement : Option Bound) → slice_get txn.statements (length begun.replies) ≡ statement
+    → IsActing (working_turn setting state number txn begun visited count statement)
+    → left_after setting txn begun rest (working_turn setting state number txn begun visited count statement) < open_left setting txn begun (Working visited count) + rest
+working_falls setting state number txn begun visited count rest (Some statement) e a =
+    advance_falls setting txn begun visited count rest statement (statement_turn setting state number begun visited count statement) e (statement_advances setting state number begun visited count statement)
+working_falls setting state number txn begun visited count rest None e a = closing txn.commits a
+  where
+    closing : (commits : Bool) → IsActing (closing_turn setting state number begun commits)
+        → left_after setting txn begun rest (closing_turn setting state number begun commits) < open_left setting txn begun (Working visited count) + rest
+    closing true a = commit_falls setting state number txn begun rest (open_left setting txn begun (Working visited count)) (omega arith) a
+    closing false a = undo_falls setting state number txn begun 0 rest (open_left setting txn begun (Working visited count)) RolledBack (omega arith) a
+
+pub phase_falls : (setting : Setting) (state : State) (number : ℕ) (txn : Txn) (begun : Begun) (phase : Phase) (rest : ℕ)
+    → IsActing (phase_turn setting state number txn begun phase) → left_after setting txn begun rest (phase_turn setting state number txn begun phase) < open_left setting txn begun phase + rest
+phase_falls setting state number txn begun (Working visited count) rest a =
+    working_falls setting state number txn begun visited count rest (slice_get txn.statements (length begun.replies)) refl a
+phase_falls setting state number txn begun (Stamping visited) rest a = stamp_falls setting state txn begun visited rest
+phase_falls setting state number txn begun (Undoing visited cause) rest a = undo_falls setting state number txn begun visited rest (suc (parts_of setting begun - visited)) cause (omega arith) a
+
+-- ---- what is left of the session after a step
+
+drop_next : {A : Type 0} (xs : List A) (n : ℕ) (x : A) (rest : List A) → drop n xs ≡ x ∷ rest → drop (suc n) xs ≡ rest
+drop_next [] zero x rest e = absurd (cc e)
+drop_next [] (suc n) x rest e = absurd (cc e)
+drop_next (y ∷ ys) zero x rest e = cc e
+drop_next (y ∷ ys) (suc n) x rest e = drop_next ys n x rest e
+
+none_open : (setting : Setting) (txns : List Txn) → txns_left setting None txns ≡ later_left setting txns
+none_open setting [] = refl
+none_open setting (txn ∷ txns) = refl
+
+session_set : (state : State) (number : ℕ) (session : Session) → number < length state.sessions → session_at (with_session state number session) number ≡ session
+session_set state number session l = get_or-set_same state.sessions number session fresh l
+
+left_is : (setting : Setting) (state : State) (number : ℕ) (done : List Finished) (current : Open) (txn : Txn) (txns : List Txn) (turn : Turn) → number < length state.sessions
+    → session_at state number ≡ record { done = done; now = Some current } → drop (length done) (program_of setting number) ≡ txn ∷ txns → IsActing turn
+    → steps_left setting number (session_at (after_turn setting state number turn).0 number) ≡ left_after setting txn current.begun (later_left setting txns) turn
+left_is setting state number done current txn txns (Visits writes phase) l s d a =
+    ap (steps_left setting number) (session_set state number (with_changed (after_visit writes phase) (session_at state number)) l ∙ ap (with_changed (after_visit writes phase)) s)
+    ∙ ap (txns_left setting (Some (after_visit writes phase current))) d
+left_is setting state number done current txn txns (Answers writes reply took records) l s d a =
+    ap (steps_left setting number) (session_set state number (with_changed (after_answer writes reply took records) (session_at state number)) l ∙ ap (with_changed (after_answer writes reply took records)) s)
+    ∙ ap (txns_left setting (Some (after_answer writes reply took records current))) d
+left_is setting state number done current txn txns Enters l s d a =
+    ap (steps_left setting number) (session_set state number (with_changed (after_visit [] (Stamping 0)) (session_at state number)) l ∙ ap (with_changed (after_visit [] (Stamping 0))) s)
+    ∙ ap (txns_left setting (Some (after_visit [] (Stamping 0) current))) d
+left_is setting state number done current txn txns (Ends how) l s d a =
+    let one : length (done ++ record { begun = current.begun; ending = how } ∷ []) ≡ suc (length done) = omega (arith, length-append done (record { begun = current.begun; ending = how } ∷ [])) in
+    ap (steps_left setting number) (session_set state number (with_ended how (session_at state number)) l ∙ ap (with_ended how) s)
+    ∙ (ap (λ n. txns_left setting None (drop n (program_of setting number))) one ∙ (ap (txns_left setting None) (drop_next (program_of setting number) (length done) txn txns d) ∙ none_open setting txns))
+left_is setting state number done current txn txns Done l s d a = absurd a
+left_is setting state number done current txn txns (Waits by) l s d a = absurd a
+left_is setting state number done current txn txns Begins l s d a = absurd a
+
+moved_acts : (setting : Setting) (state : State) (number : ℕ) (turn : Turn) → is_moved (after_turn setting state number turn).1 ≡ true → IsActing turn
+moved_acts setting state number Done e = absurd (cc e)
+moved_acts setting state number (Waits by) e = absurd (cc e)
+moved_acts setting state number Begins e = absurd (cc e)
+moved_acts setting state number (Visits writes phase) e = tt
+moved_acts setting state number (Answers writes reply took records) e = tt
+moved_acts setting state number Enters e = tt
+moved_acts setting state number (Ends how) e = tt
+
+-- only an open transaction moves
+not_begun : (setting : Setting) (state : State) (number : ℕ) (by : Option Label) → is_moved (after_turn setting state number (unless_blocked by Begins)).1 ≡ true → ⊥
+not_begun setting state number None e = absurd (cc e)
+not_begun setting state number (Some by) e = absurd (cc e)
+
+drop_at : {A : Type 0} (xs : List A) (n : ℕ) (x : A) → slice_get xs n ≡ Some x → drop n xs ≡ x ∷ drop (suc n) xs
+drop_at [] n x e = absurd (cc e)
+drop_at (y ∷ ys) zero x e = ap (λ z. z ∷ ys) (same_Some y x e)
+drop_at (y ∷ ys) (suc n) x e = drop_at ys n x e
+
+fresh_past : (state : State) (number : ℕ) → length state.sessions ≤ number → session_at state number ≡ fresh
+fresh_past state number h = get_or_past state.sessions number fresh h
+
+falls_by : (setting : Setting) (state : State) (number : ℕ) (done : List Finished) (now : Option Open) (txn : Option Txn) → session_at state number ≡ record { done = done; now = now }
+    → slice_get (program_of setting number) (length done) ≡ txn → is_moved (after_turn setting state number (session_turn setting state number txn now)).1 ≡ true
+    → steps_left setting number (session_at (after_turn setting state number (session_turn setting state number txn now)).0 number) < txns_left setting now (drop (length done) (program_of setting number))
+falls_by setting state number done now None s t m = absurd (cc m)
+falls_by setting state number done None (Some txn) s t m = absurd (not_begun setting state number (blocker state number) m)
+falls_by setting state number done (Some current) (Some txn) s t m =
+    let turn = phase_turn setting state number txn current.begun current.phase in
+    let a = moved_acts setting state number turn m in
+    let d = drop_at (program_of setting number) (length done) txn t in
+    let within : number < length state.sessions = elim (cases_lt number (length state.sessions)) [
+      | inl lt ↦ lt
+      | inr ge ↦ absurd (now_none (sym s ∙ fresh_past state number ge))
+    ] in
+    rw (left_is setting state number done current txn (drop (suc (length done)) (program_of setting number)) turn within s d a, d)
+    (phase_falls setting state number txn current.begun current.phase (later_left setting (drop (suc (length done)) (program_of setting number))) a)
+  where
+    now_none : ◌≡◌ {A = Session} (record { done = done; now = Some current }) fresh → ⊥
+    now_none e =
+        let same : ◌≡◌ {A = Option Open} (Some current) None = ap (λ (one : Session). one.now) e in
+        none-some current (sym same)
+
+-- a step that goes on brings its session nearer to its end
+pub step_falls : (setting : Setting) (state : State) (number : ℕ) → is_moved (step_of setting state number).1 ≡ true
+    → steps_left setting number (session_at (step_of setting state number).0 number) < steps_left setting number (session_at state number)
+step_falls setting state number m =
+    falls_by setting state number (session_at state number).done (session_at state number).now (txn_at setting number (session_at state number)) refl refl m
+
+-- ---- the steps of a whole statement
+
+-- where no steps are left the session has ended
+none_left : (setting : Setting) (state : State) (number : ℕ) (now : Option Open) (txns : List Txn) (n : ℕ) (txn : Option Txn) → slice_get txns n ≡ txn → txns_left setting now (drop n txns) ≡ 0
+    → after_turn setting state number (session_turn setting state number txn now) ≡ (state, Ended)
+none_left setting state number now txns n None e h = refl
+none_left setting state number None txns n (Some txn) e h =
+    let d = drop_at txns n txn e in
+    absurd (omega (arith, rw d at h))
+none_left setting state number (Some current) txns n (Some txn) e h =
+    let d = drop_at txns n txn e in
+    absurd (open_some current.phase (rw d at h))
+  where
+    open_some : (phase : Phase) → open_left setting txn current.begun phase + later_left setting (drop (suc n) txns) ≡ 0 → ⊥
+    open_some (Working visited count) h = omega (arith, h)
+    open_some (Stamping visited) h = omega (arith, h)
+    open_some (Undoing visited cause) h = omega (arith, h)
+
+pub over : (setting : Setting) (state : State) (number : ℕ) → steps_left setting number (session_at state number) ≡ 0 → step_of setting state number ≡ (state, Ended)
+over setting state number h =
+    none_left setting state number (session_at state number).now (program_of setting number) (length (session_at state number).done) (txn_at setting number (session_at state number)) refl h
+
+-- more fuel than steps are left makes no difference
+moves_same : (a b : ℕ) (setting : Setting) (state : State) (number : ℕ) → steps_left setting number (session_at state number) ≤ a → steps_left setting number (session_at state number) ≤ b
+    → moves a setting state number ≡ moves b setting state number
+unfolding moves
+moves_same zero zero setting state number h k = refl
+moves_same zero (suc b) setting state number h k = rw (over setting state number (omega arith)) refl
+moves_same (suc a) zero setting state number h k = rw (over setting state number (omega arith)) refl
+moves_same (suc a) (suc b) setting state number h k = elim (cases_Bool (is_moved (step_of setting state number).1)) [
+  | inl t ↦
+      let f = step_falls setting state number t in
+      rw t (moves_same a b setting (step_of setting state number).0 number (omega arith) (omega arith))
+  | inr f ↦ rw f refl
+]
+
+-- a whole statement is its first step and what is left of it
+whole_more : (fuel : ℕ) (setting : Setting) (state : State) (number : ℕ) → steps_left setting number (session_at state number) ≡ fuel
+    → moves fuel setting state number ≡ cond (is_moved (step_of setting state number).1) (whole_of setting (step_of setting state number).0 number) (step_of setting state number).0
+unfolding moves
+whole_more zero setting state number e = rw (over setting state number e) refl
+whole_more (suc fuel) setting state number e = elim (cases_Bool (is_moved (step_of setting state number).1)) [
+  | inl t ↦
+      let f = step_falls setting state number t in
+      rw t (moves_same fuel (steps_left setting number (session_at (step_of setting state number).0 number)) setting (step_of setting state number).0 number (omega arith) (omega arith))
+  | inr f ↦ rw f refl
+]
+
+pub whole_first : (setting : Setting) (state : State) (number : ℕ)
+    → whole_of setting state number ≡ cond (is_moved (step_of setting state number).1) (whole_of setting (step_of setting state number).0 number) (step_of setting state number).0
+whole_first setting state number = whole_more (steps_left setting number (session_at state number)) setting state number refl
+
+-- after a step of this answer
+pub whole_after : (setting : Setting) (state next : State) (number : ℕ) (stepped : Stepped) → (let step : Step = (next, stepped) in step ≡ step_of setting state number)
+    → whole_of setting state number ≡ cond (is_moved stepped) (whole_of setting next number) next
+whole_after setting state next number stepped e =
+    let choice : Step → State = λ step. cond (is_moved step.1) (whole_of setting step.0 number) step.0 in
+    whole_first setting state number ∙ ap choice (sym e)
+
+pub falls_after : (setting : Setting) (state next : State) (number : ℕ) (stepped : Stepped) → (let step : Step = (next, stepped) in step ≡ step_of setting state number) → is_moved stepped ≡ true
+    → steps_left setting number (session_at next number) < steps_left setting number (session_at state number)
+falls_after setting state next number stepped e m =
+    let P : Step → Type 0 = λ step. is_moved step.1 ≡ true → steps_left setting number (session_at step.0 number) < steps_left setting number (session_at state number) in
+    subst P (sym e) (step_falls setting state number) m
+
+pub smaller_after : (setting : Setting) (state next : State) (number : ℕ) (before stepped : Stepped) → is_moved before ≡ true → (let step : Step = (next, stepped) in step ≡ step_of setting state number)
+    → cond (is_moved stepped) (suc (steps_left setting number (session_at next number))) 0 < cond (is_moved before) (suc (steps_left setting number (session_at state number))) 0
+smaller_after setting state next number before stepped b e = elim (cases_Bool (is_moved stepped)) [
+  | inl t ↦
+      let f = falls_after setting state next number stepped e t in
+      rw (b, t) (omega arith)
+  | inr f ↦ rw (b, f) (omega arith)
+]

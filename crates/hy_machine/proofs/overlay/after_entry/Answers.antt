@@ -1,7 +1,0 @@
-use Rattle.std.proofs.Common.{arith}
-use Rattle.std.proofs.lemmas.Grind.{common_steps}
-use Rattle.hy_machine.proofs.Overlays.{after_step}
-use Rattle.hy_machine.proofs.overlay.after_entry.Goals as goal
-
-pub loop-table-preserved : goal.loop-table-preserved
-loop-table-preserved c = grind (arith, common_steps, after_step c.args.tables.now c.args.entry.now.cells c.loop-table.table c.index-tables-table.result (omega arith))

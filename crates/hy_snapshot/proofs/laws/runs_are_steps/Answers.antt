@@ -1,9 +1,0 @@
-use Rattle.hy_snapshot.proofs.Falls.{step_falls}
-use Rattle.hy_snapshot.proofs.Reached.{run_is_steps}
-use Rattle.hy_snapshot.proofs.laws.runs_are_steps.Goals as goal
-
-pub returns-clause-steps : goal.returns-clause-steps
-returns-clause-steps c = run_is_steps
-
-pub returns-clause-falls : goal.returns-clause-falls
-returns-clause-falls c = step_falls

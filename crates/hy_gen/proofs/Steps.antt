@@ -9,7 +9,6 @@ use Rattle.hy_bound.specs.declared.Txn.{Txn}
 use Rattle.hy_script.specs.declared.NamedTxns.{NamedTxns}
 use Rattle.hy_schema.specs.declared.TableDef.{TableDef}
 use Rattle.hy_schedule.specs.declared.Item.{Item}
-use Rattle.hy_script.specs.declared.Dialect.TheVariants.{Whole}
 use Rattle.hy_gen.specs.Draws.{next_state}
 use Rattle.hy_gen.specs.Transactions.{audit, transfer, transfer_from, is_audit, txn_from, state_after_txn, txns_from, state_after_txns}
 use Rattle.hy_gen.specs.Accounts.{account_table, first_row, first_rows}
@@ -83,7 +82,7 @@ no_more_sessions txns count i state end = let e : count - i ≡ 0 = omega arith 
 -- a script is the one that is made where its parts are
 pub made_by_parts : (seed sessions txns state : ℕ) (catalog : List TableDef) (rows : List (List (List Value))) (all : List NamedTxns) (schedule : List Item)
     → catalog ≡ account_table ∷ [] → rows ≡ first_rows ∷ [] → all ≡ sessions_from txns 1 sessions state → state ≡ seed → schedule ≡ []
-    → record { catalog = catalog; rows = rows; sessions = all; schedule = schedule; options = record { chunks = 4; rows = 16; dialect = Whole } }
+    → record { catalog = catalog; rows = rows; sessions = all; schedule = schedule; options = record { chunks = 4; rows = 16 } }
     ≡ made seed sessions txns
 unfolding made
 made_by_parts seed sessions txns state catalog rows all schedule tables filled runs begun empty = rw (tables, filled, runs, begun, empty) refl

@@ -1,7 +1,6 @@
 -- The script that is made from a number: sessions of transfers between accounts, with audits among them.
 use Rattle.std.specs.Prelude.{ℕ, zero, suc, ◌+◌, List, [], ◌∷◌, ◌++◌, codes}
 use Rattle.std.specs.Fmt.{decimal}
-use Rattle.hy_script.specs.declared.Dialect.TheVariants.{Whole}
 use Rattle.hy_script.specs.declared.NamedTxns.{NamedTxns}
 use Rattle.hy_script.specs.declared.Script.{Script}
 use Rattle.hy_gen.specs.Accounts.{account_table, first_rows}
@@ -24,5 +23,5 @@ made seed sessions txns = record {
   rows = first_rows ∷ [];
   sessions = sessions_from txns 1 sessions seed;
   schedule = [];
-  options = record { chunks = 4; rows = 16; dialect = Whole };
+  options = record { chunks = 4; rows = 16 };
 }

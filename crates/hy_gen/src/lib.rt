@@ -13,7 +13,7 @@ mod transactions;
 use draws::Draws;
 use hy_bound::Rows;
 use hy_schema::{AddError, Catalog, Column, TableDef};
-use hy_script::{Dialect, NamedTxns, Options, Script};
+use hy_script::{NamedTxns, Options, Script};
 use hy_value::{Kind, Row, Seq, Text, Value};
 use std::alloc::{AllocError, Global};
 
@@ -42,7 +42,6 @@ pub fn make(alloc: Global, seed: u32, sessions: u32, txns: u32) -> Result<Script
         options: Options {
             chunks: 4,
             rows: 16,
-            dialect: Dialect::Whole,
         },
     })
 }

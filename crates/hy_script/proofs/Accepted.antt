@@ -17,7 +17,7 @@ use Rattle.hy_script.specs.declared.codes.Code.{Code}
 use Rattle.hy_script.specs.declared.sofar.OpenTxn.{OpenTxn}
 use Rattle.hy_script.specs.declared.sofar.SoFar.{SoFar}
 use Rattle.hy_script.specs.Codes.{rank, first_of_two, code_if_so, code_of}
-use Rattle.hy_script.specs.Refusals.{refusal_of, refusal_in, create_code, first_row_code, session_code, begin_code, statement_code, schedule_code, any_unknown_in, stock_of, writes_in, groups_in}
+use Rattle.hy_script.specs.Refusals.{create_code, first_row_code, session_code, begin_code, statement_code, schedule_code, any_unknown_in, stock_of, writes_in, groups_in}
 use Rattle.hy_script.specs.Stocks.{key_there}
 use Rattle.hy_limits.specs.declared.TheConstants.{MOST_ITEMS, MOST_SESSIONS, MOST_STATEMENTS, MOST_TXNS}
 
@@ -40,10 +40,6 @@ not_so so x h = (unless so x None h).0
 without_fault : (fault : Option BindFault) → option_map code_of fault ≡ None → fault ≡ None
 without_fault None h = refl
 without_fault (Some f) h = absurd cc
-
--- a statement that is taken has no cause
-pub accepted : (script : List ℕ) (options : Options) (sofar : SoFar) (s : Statement) → refusal_in script options sofar s ≡ None → refusal_of script options sofar s ≡ None
-accepted script options sofar s h = (unless _ _ (refusal_of script options sofar s) h).1
 
 -- a table more
 pub table_taken : (script : List ℕ) (sofar : SoFar) (table : Span) (columns : List ColumnDef) → create_code script sofar table columns ≡ None → (length sofar.catalog < 16) × (length columns ≤ 32)

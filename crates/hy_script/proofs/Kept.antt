@@ -36,7 +36,7 @@ use Rattle.hy_script.specs.declared.sofar.SoFar.{SoFar}
 use Rattle.hy_script.specs.declared.stocks.Stock.{Stock}
 use Rattle.hy_script.specs.Stocks.{key_there, no_rows, with_row}
 use Rattle.hy_script.specs.Growing.{nothing, table_def, with_table, with_first_row, with_statement, with_insert, with_session, with_schedule, begun, closed, and_bound, all_sessions, after, script_of}
-use Rattle.hy_script.specs.Refusals.{refusal_of, name_in, insert_code_at, first_row_code, stock_at, statement_code_at, create_code, session_code, schedule_code}
+use Rattle.hy_script.specs.Refusals.{refusal_in, name_in, insert_code_at, first_row_code, stock_at, statement_code_at, create_code, session_code, schedule_code}
 use Rattle.hy_script.proofs.Accepted.{table_taken, row_taken, session_taken, schedule_taken}
 use Rattle.hy_script.proofs.Defined.{table_fits}
 use Rattle.hy_script.proofs.FirstRows.{IsStock, none_stocked, row_stocked}
@@ -213,7 +213,7 @@ schedule_more script options sofar turns h good =
     }
 
 -- what is read stays good with a statement that is taken
-pub kept : Laws → (script : List ℕ) (options : Options) (sofar : SoFar) (s : Statement) → IsGrouped s → refusal_of script options sofar s ≡ None → IsGood options sofar → IsGood options (after script sofar s)
+pub kept : Laws → (script : List ℕ) (options : Options) (sofar : SoFar) (s : Statement) → IsGrouped s → refusal_in script options sofar s ≡ None → IsGood options sofar → IsGood options (after script sofar s)
 kept laws script options sofar (tree.Create table columns) grouped h good = create_kept script options sofar table columns grouped h good
 kept laws script options sofar (tree.Insert table values) grouped h good = insert_kept laws script options sofar sofar.section table values refl h good
 kept laws script options sofar (tree.Session name) grouped h good = session_more script options sofar name h good

@@ -16,7 +16,6 @@ use Rattle.hy_script.specs.declared.sofar.SoFar.{SoFar}
 use Rattle.hy_script.specs.Refusals.{refusal_in}
 use Rattle.hy_script.specs.Growing.{nothing, after, script_of}
 use Rattle.hy_script.specs.Reading.{may_stand_at, Stop, Next, Read, Refuse, GoOn, at_end_of, is_last_of, taken, unless_refused, judged, next_from, next_at, answer_within, answered, Reads, too_long, not_utf8, statements}
-use Rattle.hy_script.proofs.Accepted.{accepted}
 use Rattle.hy_script.proofs.Kept.{Laws, IsGood, nothing_good, kept, ScriptFits, script_fits}
 
 -- what comes next fits
@@ -33,7 +32,7 @@ end_fine options (Ok (_, span)) read fits = tt
 taken_fine : Laws → (script : List ℕ) (options : Options) (sofar : SoFar) (s : Statement) (end : ℕ) (last : Bool) → IsGrouped s → refusal_in script options sofar s ≡ None → IsGood options sofar
     → IsFine options (cond last (at_end_of (token_at script end) (script_of options sofar)) (GoOn (after script sofar s) end))
 taken_fine laws script options sofar s end true grouped h good = end_fine options (token_at script end) (script_of options sofar) (script_fits options sofar good)
-taken_fine laws script options sofar s end false grouped h good = kept laws script options sofar s grouped (accepted script options sofar s h) good
+taken_fine laws script options sofar s end false grouped h good = kept laws script options sofar s grouped h good
 
 unless_fine : Laws → (script : List ℕ) (options : Options) (sofar : SoFar) (s : Statement) (at end : ℕ) (refusal : Option Code) → refusal_in script options sofar s ≡ refusal → IsGrouped s → IsGood options sofar
     → IsFine options (unless_refused refusal at (taken script options sofar s end))

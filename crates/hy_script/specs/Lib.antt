@@ -1,6 +1,5 @@
 pub mod Codes
 pub mod Stocks
-pub mod Later
 pub mod Refusals
 pub mod Growing
 pub mod Reading

@@ -19,7 +19,6 @@ use Rattle.hy_script.specs.declared.sofar.Section.TheVariants.{Between, Within}
 use Rattle.hy_script.specs.declared.sofar.SoFar.{SoFar}
 use Rattle.hy_script.specs.declared.codes.Code.{Code}
 use Rattle.hy_script.specs.declared.codes.Code.TheVariants as code
-use Rattle.hy_script.specs.Later.{is_outside_in}
 use Rattle.hy_script.specs.Codes.{first_of_two, code_if_so, code_of}
 use Rattle.hy_script.specs.declared.stocks.Stock.{Stock}
 use Rattle.hy_script.specs.Stocks.{no_rows, key_there}
@@ -111,20 +110,15 @@ abbrev pub begin_code_at : Section → Option Code
 begin_code_at (Between session) = begin_code session
 begin_code_at _ = None
 
-abbrev pub refusal_of : List ℕ → Options → SoFar → Statement → Option Code
-refusal_of script options sofar (tree.Create table columns) = create_code script sofar table columns
-refusal_of script options sofar (tree.Insert table values) = insert_code_at script options sofar sofar.section (tree.Insert table values) table values
-refusal_of script options sofar (tree.Session name) = session_code script sofar name
-refusal_of script options sofar (tree.Begin read_only) = begin_code_at sofar.section
-refusal_of script options sofar tree.Commit = None
-refusal_of script options sofar tree.Rollback = None
-refusal_of script options sofar (tree.Select selection) = statement_code_at script sofar sofar.section (tree.Select selection)
-refusal_of script options sofar (tree.Update table sets test) = statement_code_at script sofar sofar.section (tree.Update table sets test)
-refusal_of script options sofar (tree.Delete table test) = statement_code_at script sofar sofar.section (tree.Delete table test)
-refusal_of script options sofar (tree.Schedule turns) = schedule_code script sofar turns
-refusal_of script options sofar tree.End = None
-
--- a statement outside the dialect is a syntax error; else the first of its causes
 abbrev pub refusal_in : List ℕ → Options → SoFar → Statement → Option Code
-refusal_in script options sofar statement =
-    if is_outside_in options.dialect sofar statement then Some code.Syntax else refusal_of script options sofar statement
+refusal_in script options sofar (tree.Create table columns) = create_code script sofar table columns
+refusal_in script options sofar (tree.Insert table values) = insert_code_at script options sofar sofar.section (tree.Insert table values) table values
+refusal_in script options sofar (tree.Session name) = session_code script sofar name
+refusal_in script options sofar (tree.Begin read_only) = begin_code_at sofar.section
+refusal_in script options sofar tree.Commit = None
+refusal_in script options sofar tree.Rollback = None
+refusal_in script options sofar (tree.Select selection) = statement_code_at script sofar sofar.section (tree.Select selection)
+refusal_in script options sofar (tree.Update table sets test) = statement_code_at script sofar sofar.section (tree.Update table sets test)
+refusal_in script options sofar (tree.Delete table test) = statement_code_at script sofar sofar.section (tree.Delete table test)
+refusal_in script options sofar (tree.Schedule turns) = schedule_code script sofar turns
+refusal_in script options sofar tree.End = None

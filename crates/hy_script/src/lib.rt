@@ -16,7 +16,6 @@ use std::alloc::{AllocError, Global};
 
 mod codes;
 mod fitting;
-mod later;
 mod laws;
 mod reading;
 mod sofar;
@@ -30,26 +29,13 @@ pub use laws::{
 use reading::{Halt, Step, line_of};
 use sofar::SoFar;
 
-/// Which statements a script may have.
-#[derive(Clone, Copy, Debug, PartialEq, Eq)]
-pub enum Dialect {
-    /// All of the language.
-    Whole,
-    /// Those that run today: sessions of one transaction that commits, SELECT of one table without groups,
-    /// UPDATE with values in at most one session, turns of whole statements. Any other is a syntax error at
-    /// its first byte.
-    FirstForm,
-}
-
-/// The chunks of a table, the rows of a chunk, and which statements a script may have.
+/// The chunks of a table and the rows of a chunk.
 #[derive(Clone, Copy, Debug, PartialEq, Eq)]
 pub struct Options {
     /// How many chunks each table has.
     pub chunks: u32,
     /// How many rows each chunk has.
     pub rows: u32,
-    /// The statements that the script may have.
-    pub dialect: Dialect,
 }
 
 /// A session and its transactions.

@@ -2,7 +2,7 @@
 
 ghost use Rattle.std.specs.Prelude.{◌≡◌, ◌<◌, ◌≤◌, length, count_by, IfOk};
 ghost use Rattle.hy_ast.specs.Trees.{statement_of, Insert};
-ghost use Rattle.hy_script.specs.Refusals.{refusal_of, refusal_in, insert_code_at};
+ghost use Rattle.hy_script.specs.Refusals.{refusal_in, insert_code_at};
 ghost use Rattle.hy_script.specs.Growing.{nothing, after, with_insert, script_of, Takes};
 ghost use Rattle.hy_script.specs.Reading.{may_stand_at, next_at, judged, taken, unless_refused, is_last_of, is_feed, at_end_of, line_at, Comes, Goes, Ends};
 ghost use Rattle.hy_script.specs.declared.Script.{Script};
@@ -111,7 +111,7 @@ impl SoFar {
         input: &Input,
         ast: &Statement,
     ) -> Result<Option<Code>, AllocError>
-        ensures { IfOk result (λ code. Takes code (refusal_of input.now.script.now input.now.options.now self.old (statement_of ast.now)) self.new
+        ensures { IfOk result (λ code. Takes code (refusal_in input.now.script.now input.now.options.now self.old (statement_of ast.now)) self.new
             (after input.now.script.now self.old (statement_of ast.now))) }
     {
         match ast {
@@ -153,12 +153,6 @@ impl SoFar {
             (taken input.now.script.now input.now.options.now self.old (statement_of ast.now) end)) input.now.options.now self.new }
         ensures goes { IfOk result (λ step. Goes at (length input.now.script.now) step) }
     {
-        if self.is_outside(input.options.dialect, ast) {
-            return Err(Halt::Refused {
-                code: Code::Syntax,
-                at,
-            });
-        }
         if let Some(code) = self.take(alloc, input, ast)? {
             return Err(Halt::Refused { code, at });
         }

@@ -8,7 +8,7 @@ use hy_meaning::{Tables, copy_rows};
 use hy_plan::records;
 use hy_render::{Ending, Names, Outcome, TxnOutcome, render};
 use hy_schema::TableDef;
-use hy_script::{Dialect, Options, Script};
+use hy_script::{Options, Script};
 use hy_stamp::Label;
 use hy_value::{Cmp, Row, Seq, Text, Value, copy_values, print_row};
 use std::alloc::{AllocError, Global};
@@ -104,7 +104,6 @@ fn read_given(alloc: Global, tables: &str, begin: &str, statements: &str) -> Res
     let options = Options {
         chunks: 1,
         rows: 1024,
-        dialect: Dialect::Whole,
     };
     let Ok(script) = hy_script::read(alloc, script.as_str().as_bytes(), &options) else {
         return Err(Fail::from("the script is read"));

@@ -11,16 +11,14 @@ use Rattle.hy_script.specs.declared.codes.Code.TheVariants.{TooLong}
 use Rattle.hy_script.specs.Reading.{Reads, too_long}
 use Rattle.hy_render.specs.declared.Outcome.{Outcome}
 use Rattle.hy_machine.specs.declared.Setting.{Setting}
-use Rattle.hy_machine.specs.Runs.{run}
-use Rattle.hy_machine.specs.Outcomes.{outcome}
+use Rattle.hy_machine.specs.Runs.{run_of}
+use Rattle.hy_machine.specs.Outcomes.{outcome_of}
 use Rattle.hy_lawful.specs.Lawful.{Lawful}
-use Rattle.hy_lawful.specs.FirstForm.{IsFirstForm, IsOfWholeStatements}
 use Rattle.hy_words.specs.declared.Command.{Command}
 use Rattle.hy_words.specs.declared.Command.TheVariants.{Run, Check}
 use Rattle.hy_top.specs.Lines.{refusal_line_of}
 use Rattle.hy_top.specs.Program.{bytes_read, bytes_left, options_by}
 use Rattle.hy_top.specs.Settings.{setting_at}
-use Rattle.hy_script.specs.declared.Dialect.TheVariants.{FirstForm}
 use Rattle.hy_top.specs.Reports.{IsRefused, Spells, IsRun, Writes, Answers, Runs, Checks, Does}
 use Rattle.hy_limits.specs.declared.TheConstants.{MOST_BYTES}
 
@@ -50,7 +48,7 @@ same_refusal : (s t : Refused) → ◌≡◌ {A = Result Script Refused} (Err s)
 same_refusal s t h = cc
 
 abbrev IsLawful : Script → Option Outcome → Type 0
-IsLawful script given = IfSome given (λ o. Lawful (setting_at script).shapes script.rows (setting_at script).programs o)
+IsLawful script given = IfSome given (λ o. Lawful (setting_at script) o)
 
 no_outcome : (script : Script) (given : Option Outcome) → IsNone given → IsLawful script given
 no_outcome script None h = tt
@@ -68,18 +66,9 @@ refused_answers command bytes why status given before after once is w nothing =
       outcome_there = λ h. absurd (none_is_not_some given nothing h);
     }
 
--- the machine's theorem, and what it asks of a script that is read to be run
+-- what the machine's runs come to is lawful
 abbrev pub Theorem : Type 0
-Theorem = (setting : Setting) (schedule : List Item) → IsFirstForm setting → IsOfWholeStatements schedule → Lawful setting.shapes setting.first setting.programs (outcome setting (run setting schedule))
-
-abbrev pub ReadsFirst : Command → List ℕ → Type 0
-ReadsFirst command bytes = (script : Script) → IsRun command → Spells command bytes script → IsFirstForm (setting_at script) × IsOfWholeStatements script.schedule
-
--- what is read to be run is of the first form
-pub reads_first : (command : Command) (bytes : List ℕ) → ((all : List ℕ) (options : Options) (script : Script) → options.dialect ≡ FirstForm → Reads all options (Ok script) → IsFirstForm (setting_at script) × IsOfWholeStatements script.schedule)
-    → ReadsFirst command bytes
-reads_first (Run prune chunks rows) bytes law script run s = law bytes (options_by (Run prune chunks rows)) script refl s
-reads_first (Check chunks rows) bytes law script run s = absurd run
+Theorem = (setting : Setting) (schedule : List Item) → Lawful setting (outcome_of setting (run_of setting schedule))
 
 -- nothing was done for want of memory
 gave_up : (command : Command) (bytes : List ℕ) (script : Script) (status : ℕ) (given : Option Outcome) (before after : Option (List ℕ)) → Once → Spells command bytes script → status ≡ 5 → IsNone given → Answers command bytes status given before after
@@ -96,18 +85,17 @@ not_two : (status : ℕ) → (status ≡ 0) ⊎ (status ≡ 4) → status ≡ 2 
 not_two status ends two = ⊎_elim (λ e. let never : ⊥ = omega arith in never) (λ e. let never : ⊥ = omega arith in never) ends
 
 -- a run is an answer
-ran_answers : (prune : _) (chunks rows : ℕ) (bytes : List ℕ) (script : Script) (status : ℕ) (given : Option Outcome) (before after : Option (List ℕ)) → Once → Theorem → ReadsFirst (Run prune chunks rows) bytes
+ran_answers : (prune : _) (chunks rows : ℕ) (bytes : List ℕ) (script : Script) (status : ℕ) (given : Option Outcome) (before after : Option (List ℕ)) → Once → Theorem
     → Spells (Run prune chunks rows) bytes script → Runs script status given before after → Answers (Run prune chunks rows) bytes status given before after
-ran_answers prune chunks rows bytes script status given before after once law first s ran =
+ran_answers prune chunks rows bytes script status given before after once law s ran =
     let ends : (status ≡ 0) ⊎ (status ≡ 4) = done_or_four 0 status before after _ ran.writes in
     let only : (other : Script) → Spells (Run prune chunks rows) bytes other → script ≡ other = λ other t. same_script script other (once bytes (options_by (Run prune chunks rows)) (Ok script) (Ok other) s t) in
-    let is_first = first script tt s in
     record {
       refused = λ why h. absurd (not_both script why (once bytes (options_by (Run prune chunks rows)) (Ok script) (Err why) s h));
       refuses = λ h. absurd (not_two status ends h);
       does = λ other t. inr (subst (λ (x : Script). Runs x status given before after) (only other t) ran);
       lawful = λ other t. subst (λ (x : Script). IsLawful x given) (only other t)
-          (subst (λ (o : Option Outcome). IsLawful script o) (sym ran.outcome_is) (law (setting_at script) script.schedule is_first.0 is_first.1));
+          (subst (λ (o : Option Outcome). IsLawful script o) (sym ran.outcome_is) (law (setting_at script) script.schedule));
       outcome_there = λ h. (tt, (script, s), ends);
     }
 
@@ -126,11 +114,11 @@ checked_answers chunks rows bytes script status given before after once s done =
     }
 
 -- what was done with a script is an answer to the bytes that spell it
-pub done_answers : (command : Command) (bytes : List ℕ) (script : Script) (status : ℕ) (given : Option Outcome) (before after : Option (List ℕ)) → Once → Theorem → ReadsFirst command bytes → Spells command bytes script
+pub done_answers : (command : Command) (bytes : List ℕ) (script : Script) (status : ℕ) (given : Option Outcome) (before after : Option (List ℕ)) → Once → Theorem → Spells command bytes script
     → ((status ≡ 5) × IsNone given) ⊎ Does command script status given before after → Answers command bytes status given before after
-done_answers command bytes script status given before after once law first s (inl none) = gave_up command bytes script status given before after once s none.0 none.1
-done_answers (Run prune chunks rows) bytes script status given before after once law first s (inr ran) = ran_answers prune chunks rows bytes script status given before after once law first s ran
-done_answers (Check chunks rows) bytes script status given before after once law first s (inr done) = checked_answers chunks rows bytes script status given before after once s done
+done_answers command bytes script status given before after once law s (inl none) = gave_up command bytes script status given before after once s none.0 none.1
+done_answers (Run prune chunks rows) bytes script status given before after once law s (inr ran) = ran_answers prune chunks rows bytes script status given before after once law s ran
+done_answers (Check chunks rows) bytes script status given before after once law s (inr done) = checked_answers chunks rows bytes script status given before after once s done
 
 whole_is_read : (all : List ℕ) → length all ≤ MOST_BYTES → bytes_read all ≡ all
 whole_is_read all h = take_all (MOST_BYTES + 1) all (omega arith)

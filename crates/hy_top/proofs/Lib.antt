@@ -1,9 +1,1 @@
-pub mod Lists
-pub mod Words
-pub mod Causes
-pub mod Bound
-pub mod Sections
-pub mod Sessions
-pub mod Kept
-pub mod Reading
 pub mod Answering

@@ -2,12 +2,11 @@
 use Rattle.std.specs.Prelude.{ℕ, ◌+◌, List, take, drop, map}
 use Rattle.hy_script.specs.declared.Script.{Script}
 use Rattle.hy_script.specs.declared.Options.{Options}
-use Rattle.hy_script.specs.declared.Dialect.TheVariants.{Whole, FirstForm}
 use Rattle.hy_render.specs.declared.Names.{Names}
 use Rattle.hy_render.specs.declared.Outcome.{Outcome}
 use Rattle.hy_top.specs.Settings.{setting_at}
-use Rattle.hy_machine.specs.Runs.{run}
-use Rattle.hy_machine.specs.Outcomes.{outcome}
+use Rattle.hy_machine.specs.Runs.{run_of}
+use Rattle.hy_machine.specs.Outcomes.{outcome_of}
 use Rattle.hy_words.specs.declared.Command.{Command}
 use Rattle.hy_words.specs.declared.Command.TheVariants.{Run, Check}
 use Rattle.hy_limits.specs.declared.TheConstants.{MOST_BYTES}
@@ -20,15 +19,15 @@ bytes_read all = take (MOST_BYTES + 1) all
 abbrev pub bytes_left : List ℕ → List ℕ
 bytes_left all = drop (MOST_BYTES + 1) all
 
--- how a command reads a script: what is run has the statements that run today
+-- how a command reads a script
 abbrev pub options_by : Command → Options
-options_by (Run prune chunks rows) = record { chunks = chunks; rows = rows; dialect = FirstForm }
-options_by (Check chunks rows) = record { chunks = chunks; rows = rows; dialect = Whole }
+options_by (Run prune chunks rows) = record { chunks = chunks; rows = rows }
+options_by (Check chunks rows) = record { chunks = chunks; rows = rows }
 
 -- the names that its outcome is printed with
 abbrev pub names_at : Script → Names
 names_at script = record { tables = map (λ table. table.name) script.catalog; sessions = map (λ session. session.name) script.sessions }
 
--- the outcome of the machine's run of the script
-abbrev pub outcome_of : Script → Outcome
-outcome_of script = outcome (setting_at script) (run (setting_at script) script.schedule)
+-- what the machine's run of the script comes to
+abbrev pub comes_to : Script → Outcome
+comes_to script = outcome_of (setting_at script) (run_of (setting_at script) script.schedule)

@@ -10,7 +10,7 @@ use Rattle.hy_lawful.specs.Lawful.{Lawful}
 use Rattle.hy_words.specs.declared.Command.{Command}
 use Rattle.hy_words.specs.declared.Command.TheVariants.{Run, Check}
 use Rattle.hy_top.specs.Lines.{refusal_line_of, checked_line}
-use Rattle.hy_top.specs.Program.{options_by, names_at, outcome_of}
+use Rattle.hy_top.specs.Program.{options_by, names_at, comes_to}
 use Rattle.hy_top.specs.Settings.{setting_at}
 
 -- the bytes are refused by a command, and how
@@ -31,8 +31,8 @@ Writes done status before after bytes = ((status ≡ done) × Takes before after
 
 -- the script was run: the outcome is there, and its text was written
 pub record Runs (script : Script) (status : ℕ) (outcome : Option Outcome) (before after : Option (List ℕ)) : Type 0 where
-  pub outcome_is : outcome ≡ Some (outcome_of script)
-  pub writes : Writes 0 status before after (text (names_at script) (outcome_of script))
+  pub outcome_is : outcome ≡ Some (comes_to script)
+  pub writes : Writes 0 status before after (text (names_at script) (comes_to script))
 
 -- the script was read: what it has was written
 pub record Checks (script : Script) (status : ℕ) (outcome : Option Outcome) (before after : Option (List ℕ)) : Type 0 where
@@ -52,6 +52,6 @@ pub record Answers (command : Command) (bytes : List ℕ) (status : ℕ) (outcom
   -- where they spell a script, what the command asks for is done, unless memory ran out
   pub does : (script : Script) → Spells command bytes script → (status ≡ 5) ⊎ Does command script status outcome before after
   -- the outcome is lawful
-  pub lawful : (script : Script) → Spells command bytes script → IfSome outcome (λ given. Lawful (setting_at script).shapes script.rows (setting_at script).programs given)
+  pub lawful : (script : Script) → Spells command bytes script → IfSome outcome (λ given. Lawful (setting_at script) given)
   -- an outcome is there only of a script that was run
   pub outcome_there : IsSome outcome → IsRun command × ((script : Script) × Spells command bytes script) × ((status ≡ 0) ⊎ (status ≡ 4))

@@ -1,15 +1,14 @@
 -- A script as the machine runs it.
-use Rattle.std.specs.Prelude.{◌*◌, map}
+use Rattle.std.specs.Prelude.{map}
 use Rattle.hy_bind.specs.Shapes.{catalog_shapes}
 use Rattle.hy_script.specs.declared.Script.{Script}
 use Rattle.hy_machine.specs.declared.Setting.{Setting}
 
--- what of a script does not change while it runs. A table is run as one chunk that is as large as all its
--- chunks together: with whole statements the outcome doesn't depend on the chunks
+-- what of a script does not change while it runs
 abbrev pub setting_at : Script → Setting
 setting_at script = record {
-  chunks = 1;
-  rows = script.options.chunks * script.options.rows;
+  chunks = script.options.chunks;
+  rows = script.options.rows;
   shapes = catalog_shapes script.catalog;
   first = script.rows;
   programs = map (λ session. session.txns) script.sessions;

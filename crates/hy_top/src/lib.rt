@@ -5,17 +5,11 @@ ghost use Rattle.std.specs.Prelude.{◌≡◌, ◌≢◌, ℕ, ◌+◌, ◌<◌,
 ghost use Rattle.std.specs.String.{string_bytes};
 ghost use Rattle.hy_outside.specs.Faults.{Rose};
 ghost use Rattle.hy_outside.specs.Telling.{GivesAtMost};
-ghost use Rattle.hy_script.specs.declared.Script.{Script};
-ghost use Rattle.hy_script.specs.declared.Options.{Options};
-ghost use Rattle.hy_script.specs.declared.Dialect.TheVariants.{FirstForm};
-ghost use Rattle.hy_script.specs.Reading.{Reads};
-ghost use Rattle.hy_lawful.specs.FirstForm.{IsFirstForm, IsOfWholeStatements};
-ghost use Rattle.hy_top.specs.Settings.{setting_at};
 ghost use Rattle.hy_render.specs.Report.{text};
 ghost use Rattle.hy_words.specs.declared.Command.{Command};
 ghost use Rattle.hy_words.specs.Words.{command_of};
 ghost use Rattle.hy_top.specs.Lines.{usage_line, refusal_line_of, checked_line};
-ghost use Rattle.hy_top.specs.Program.{bytes_read, bytes_left, options_by, names_at, outcome_of};
+ghost use Rattle.hy_top.specs.Program.{bytes_read, bytes_left, options_by, names_at, comes_to};
 ghost use Rattle.hy_top.specs.Reports.{Writes, Answers, Runs, Checks, Does};
 
 mod lines;
@@ -24,9 +18,8 @@ mod settings;
 use hy_lawful::runs_are_lawful;
 use hy_limits::MOST_BYTES;
 use hy_outside::{ReadAllError, Sink, Source, read_all, write_all};
-use hy_parse::scripts_are_parsed;
 use hy_render::{Outcome, render};
-use hy_script::{Code, Dialect, Options, ReadError, Refused, Script, read_once};
+use hy_script::{Code, Options, ReadError, Refused, Script, read_once};
 use hy_words::{Command, WordsError};
 use lines::{checked, refusal_line};
 use settings::setting_of;
@@ -181,16 +174,8 @@ fn options_of(command: Command) -> Options
             prune: _,
             chunks,
             rows,
-        } => Options {
-            chunks,
-            rows,
-            dialect: Dialect::FirstForm,
-        },
-        Command::Check { chunks, rows } => Options {
-            chunks,
-            rows,
-            dialect: Dialect::Whole,
-        },
+        } => Options { chunks, rows },
+        Command::Check { chunks, rows } => Options { chunks, rows },
     }
 }
 
@@ -204,7 +189,6 @@ fn answer<W: Sink>(alloc: Global, command: Command, bytes: &[u8], sink: &mut W) 
 {
     read_once();
     runs_are_lawful();
-    first_form_is_read();
     match hy_script::read(alloc, bytes, &options_of(command)) {
         Ok(script) => perform(alloc, command, script, sink),
         Err(ReadError::Refused(refused)) => refuse(alloc, refused, sink),
@@ -268,7 +252,7 @@ fn check_script<W: Sink>(alloc: Global, script: Script, sink: &mut W) -> Report
 
 /// The outcome of the machine's run of a script, and its text.
 fn outcome_and_text(alloc: Global, script: Script) -> Result<(Outcome, Vec<u8>), AllocError>
-    ensures { IfOk result (λ given. (given.0 ≡ outcome_of script) × (given.1.items ≡ text (names_at script) (outcome_of script))) }
+    ensures { IfOk result (λ given. (given.0 ≡ comes_to script) × (given.1.items ≡ text (names_at script) (comes_to script))) }
 {
     let (setting, names, schedule) = setting_of(alloc, script)?;
     let machine = hy_machine::run(alloc, &setting, schedule.as_slice())?;
@@ -276,13 +260,4 @@ fn outcome_and_text(alloc: Global, script: Script) -> Result<(Outcome, Vec<u8>),
     let mut written = Vec::new(alloc);
     render(&names, &outcome, &mut written)?;
     Ok((outcome, written))
-}
-
-/// A law: what is read of the first form is of the first form for the machine, and its schedule is of whole
-/// statements.
-pub fn first_form_is_read()
-    ensures { (bytes : List ℕ) (options : Options) (script : Script) → options.dialect ≡ FirstForm → Reads bytes options (Ok script)
-        → IsFirstForm (setting_at script) × IsOfWholeStatements script.schedule }
-{
-    scripts_are_parsed();
 }

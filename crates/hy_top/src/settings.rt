@@ -38,16 +38,13 @@ pub fn setting_of(alloc: Global, script: Script) -> Result<(Setting, Names, Sche
         schedule,
         options,
     } = script;
-    let Some(room) = options.chunks.checked_mul(options.rows) else {
-        return Err(AllocError);
-    };
     let shapes = shapes_of(alloc, catalog.tables())?;
     let tables = table_names(alloc, catalog.tables())?;
     let names = session_names(alloc, sessions.as_slice())?;
     let programs = programs_of(alloc, sessions)?;
     let setting = Setting {
-        chunks: 1,
-        rows: room,
+        chunks: options.chunks,
+        rows: options.rows,
         shapes,
         first: rows,
         programs,

@@ -1,5 +1,5 @@
 -- Why a statement is refused, where all its tokens fit: the first of its causes in their order.
-use Rattle.std.specs.Prelude.{ℕ, ◌*◌, Bool, true, false, not, ◌&&◌, ◌||◌, is_some, nat_le, nat_lt, List, [], ◌∷◌, Option, Some, None, length, map, count_by, slice_index_or, if◌then◌else◌}
+use Rattle.std.specs.Prelude.{ℕ, ◌*◌, Bool, true, false, not, ◌&&◌, ◌||◌, is_some, nat_le, nat_lt, List, [], ◌∷◌, Option, Some, None, length, map, count_by, slice_index_or}
 use Rattle.std.specs.Option.{option_map}
 use Rattle.hy_value.specs.TextBytes.{text_of}
 use Rattle.hy_schema.specs.Names.{number_of, table_number}

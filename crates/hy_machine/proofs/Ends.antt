@@ -78,7 +78,7 @@ begin_falls : (setting : Setting) (state : State) (number : ℕ) (done : List Fi
 begin_falls setting state number done txn txns l s d =
     let opened : Session → Session = with_open (beginning setting state) in
     let after : left_then setting state number Begins ≡ left_of setting number (opened (record { done = done; now = None })).now done =
-        ap (steps_left setting number) (session_set state number (opened (session_at state number)) l ∙ ap opened s) in
+    ap (steps_left setting number) (session_set state number (opened (session_at state number)) l ∙ ap opened s) in
     rw (after, d) (simp length-map (omega arith))
 
 turn_falls : (setting : Setting) (state : State) (number : ℕ) (done : List Finished) (now : Option Open) (txn : Option Txn) → IsKept setting state
@@ -93,8 +93,11 @@ turn_falls setting state number done None (Some txn) k s t = by_blocker (blocker
         × (left_then setting state number (unless_blocked by Begins) < left_of setting number None done))
     by_blocker None =
         let l = has_script setting state number done txn k t in
-        inr (l, begin_falls setting state number done txn (drop (suc (length done)) (program_of setting number)) l s
-        (drop_at (program_of setting number) (length done) txn t))
+        inr (
+          l,
+          begin_falls setting state number done txn (drop (suc (length done)) (program_of setting number)) l s
+              (drop_at (program_of setting number) (length done) txn t),
+        )
     by_blocker (Some by) = inl tt
 turn_falls setting state number done (Some current) (Some txn) k s t =
     let turn = phase_turn setting state number txn current.begun current.phase in
@@ -102,8 +105,11 @@ turn_falls setting state number done (Some current) (Some txn) k s t =
     let d = drop_at (program_of setting number) (length done) txn t in
     elim (idle_or_acting (blocker state number) current.phase turn (phase_follows setting state number txn current.begun current.phase)) [
       | inl i ↦ inl i
-      | inr a ↦ inr (l, rw (left_is setting state number done current txn (drop (suc (length done)) (program_of setting number)) turn l s d a, d)
-        (phase_falls setting state number txn current.begun current.phase (later_left setting (drop (suc (length done)) (program_of setting number))) a))
+      | inr a ↦ inr (
+        l,
+        rw (left_is setting state number done current txn (drop (suc (length done)) (program_of setting number)) turn l s d a, d)
+            (phase_falls setting state number txn current.begun current.phase (later_left setting (drop (suc (length done)) (program_of setting number))) a),
+      )
     ]
 
 -- ---- what one step does to the measure
@@ -136,7 +142,7 @@ measure_falls : (setting : Setting) (state next : State) (number : ℕ) (session
     → measure_of setting next < measure_of setting state
 measure_falls setting state next number session l s f =
     let here : session_at next number ≡ session =
-        ap (λ (sessions : List Session). get_or sessions number fresh) s ∙ get_or-set_same state.sessions number session fresh l in
+    ap (λ (sessions : List Session). get_or sessions number fresh) s ∙ get_or-set_same state.sessions number session fresh l in
     let less : steps_left setting number session < steps_left setting number (session_at state number) = rw here at f in
     rw s (omega (arith, less, all_left_set setting 0 number number state.sessions session (omega arith) l))
 
@@ -167,7 +173,7 @@ moves_no_more zero setting state number k = omega arith
 moves_no_more (suc most) setting state number k =
     let next = (step_of setting state number).0 in
     let one : measure_of setting next ≤ measure_of setting state =
-        no_more setting state next (IsIdle (turn setting state number)) (step_falls_or_idles setting state number k) in
+    no_more setting state next (IsIdle (turn setting state number)) (step_falls_or_idles setting state number k) in
     elim (cases_Bool (is_moved (step_of setting state number).1)) [
       | inl t ↦ rw t (omega (arith, one, moves_no_more most setting next number (kept_step setting state number k)))
       | inr f ↦ rw f one
@@ -223,10 +229,13 @@ round_falls_or_idles (suc left) setting state first k = elim (whole_falls_or_idl
   where
     others : IsIdle (turn setting state first) → StaysOrFalls setting state (AllIdle setting state (suc first) left) (round_from setting state (suc first) left)
         → StaysOrFalls setting state (AllIdle setting state first (suc left)) (round_from setting state (suc first) left)
-    others i (inl stays) = inl (stays.0, λ number a b. elim (cases_eq number first) [
-      | inl e ↦ rw e i
-      | inr n ↦ stays.1 number (omega (arith, a, n)) (omega (arith, b))
-    ])
+    others i (inl stays) = inl (
+      stays.0,
+      λ number a b. elim (cases_eq number first) [
+        | inl e ↦ rw e i
+        | inr n ↦ stays.1 number (omega (arith, a, n)) (omega (arith, b))
+      ],
+    )
     others i (inr falls) = inr falls
 
 -- ---- where all sessions idle, all have ended
@@ -268,10 +277,10 @@ marked_acts : (setting : Setting) (number : ℕ) (state : State) (now : Option O
     → IsIdle (session_turn setting state number (slice_get (program_of setting number) (length done)) now) → ⊥
 marked_acts setting number state None done w m i = absurd (cc m)
 marked_acts setting number state (Some current) done w m i =
-  elim (idle_why setting state number (Some current) (slice_get (program_of setting number) (length done)) i) [
-  | inl e ↦ absurd (omega (arith, w, past_end (program_of setting number) (length done) e))
-  | inr why ↦ absurd (both_ways (is_stamping current.phase) why.1 m)
-]
+    elim (idle_why setting state number (Some current) (slice_get (program_of setting number) (length done)) i) [
+      | inl e ↦ absurd (omega (arith, w, past_end (program_of setting number) (length done) e))
+      | inr why ↦ absurd (both_ways (is_stamping current.phase) why.1 m)
+    ]
 
 none_of : (mark : Option ℕ) → ((number : ℕ) → is_marked mark number ≡ true → ⊥) → mark ≡ None
 none_of None h = refl
@@ -311,7 +320,7 @@ idle_ended setting state k idle = each_ended setting 0 state.sessions (λ number
     at_end number session e w =
         let most = length (program_of setting number) in
         let all : length session.done ≡ most =
-            omega (arith, past_end (program_of setting number) (length session.done) e, fits_most session.now (length session.done) most w) in
+        omega (arith, past_end (program_of setting number) (length session.done) e, fits_most session.now (length session.done) most w) in
         eq-eqb (length session.done) most all
 
     ended : (number : ℕ) → number < length state.sessions → has_ended setting number (session_at state number) ≡ true
@@ -368,7 +377,7 @@ pub all_closed : (setting : Setting) (state : State) → IsKept setting state �
     → (number : ℕ) → (session_at state number).now ≡ None
 all_closed setting state k a number = elim (cases_lt number (length state.sessions)) [
   | inl l ↦ ended_closed (session_at state number).now (length (session_at state number).done) (length (program_of setting number)) (k.within number)
-    (one_ended setting 0 number number state.sessions a (omega arith) l)
+      (one_ended setting 0 number number state.sessions a (omega arith) l)
   | inr ge ↦ ap (λ (session : Session). session.now) (get_or_past state.sessions number fresh ge)
 ]
 

@@ -37,23 +37,15 @@ IsIdle (Answers writes reply took records) = ⊥
 IsIdle Enters = ⊥
 IsIdle (Ends how) = ⊥
 
-idle_stays : (setting : Setting) (state : State) (number : ℕ) (turn : Turn) → IsIdle turn → (after_turn setting state number turn).0 ≡ state
-idle_stays setting state number Done i = refl
-idle_stays setting state number (Waits by) i = refl
+idle_stays : (setting : Setting) (state : State) (number : ℕ) (turn : Turn) → IsIdle turn
+    → ((after_turn setting state number turn).0 ≡ state) × (is_moved (after_turn setting state number turn).1 ≡ false)
+idle_stays setting state number Done i = (refl, refl)
+idle_stays setting state number (Waits by) i = (refl, refl)
 idle_stays setting state number Begins i = absurd i
 idle_stays setting state number (Visits writes phase) i = absurd i
 idle_stays setting state number (Answers writes reply took records) i = absurd i
 idle_stays setting state number Enters i = absurd i
 idle_stays setting state number (Ends how) i = absurd i
-
-idle_not_moved : (setting : Setting) (state : State) (number : ℕ) (turn : Turn) → IsIdle turn → is_moved (after_turn setting state number turn).1 ≡ false
-idle_not_moved setting state number Done i = refl
-idle_not_moved setting state number (Waits by) i = refl
-idle_not_moved setting state number Begins i = absurd i
-idle_not_moved setting state number (Visits writes phase) i = absurd i
-idle_not_moved setting state number (Answers writes reply took records) i = absurd i
-idle_not_moved setting state number Enters i = absurd i
-idle_not_moved setting state number (Ends how) i = absurd i
 
 idle_or_acting : (by : Option Label) (phase : Phase) (turn : Turn) → Follows by phase turn → IsIdle turn ⊎ IsActing turn
 idle_or_acting by phase Done f = absurd f
@@ -160,7 +152,7 @@ step_falls_or_idles setting state number k =
     let one = session_at state number in
     let put = put_by setting state number (turn setting state number) in
     elim (turn_falls setting state number one.done one.now (txn_at setting number one) k refl refl) [
-      | inl i ↦ inl (idle_stays setting state number (turn setting state number) i, i)
+      | inl i ↦ inl ((idle_stays setting state number (turn setting state number) i).0, i)
       | inr falls ↦ inr (measure_falls setting state (step_of setting state number).0 number put.0 falls.0 put.1 falls.1)
     ]
 
@@ -201,8 +193,7 @@ whole_falls_or_idles setting state number k = elim (cases_Bool (is_moved (step_o
     moving : is_moved (step_of setting state number).1 ≡ true → StaysOrFalls setting state Idle next
         → StaysOrFalls setting state Idle (whole_of setting next number)
     moving t (inl stays) =
-        let still = idle_not_moved setting state number (turn setting state number) stays.1 in
-        absurd (both_ways (is_moved (step_of setting state number).1) still t)
+        absurd (both_ways (is_moved (step_of setting state number).1) (idle_stays setting state number (turn setting state number) stays.1).1 t)
     moving t (inr falls) =
         inr (omega (arith, falls, moves_no_more (steps_left setting number (session_at next number)) setting next number (kept_step setting state number k)))
 

@@ -94,7 +94,7 @@ few_checks : (setting : Setting) (key : Option ℕ) → checks_of setting key �
 few_checks setting None = omega arith
 few_checks setting (Some key) = omega arith
 
-statement_advances : (setting : Setting) (state : State) (number : ℕ) (begun : Begun) (visited count : ℕ) (statement : Bound)
+pub statement_advances : (setting : Setting) (state : State) (number : ℕ) (begun : Begun) (visited count : ℕ) (statement : Bound)
     → Advances visited (visits_of setting statement) (statement_turn setting state number begun visited count statement)
 statement_advances setting state number begun visited count (Select tables ons pred items) =
     read_advances setting begun visited (length tables) (setting.chunks * length tables) (Select tables ons pred items) (map (rows_seen (view setting state begun)) tables) (answer_of ons pred items (map (rows_seen (view setting state begun)) tables)) (omega arith)
@@ -252,10 +252,10 @@ none_open : (setting : Setting) (txns : List Txn) → txns_left setting None txn
 none_open setting [] = refl
 none_open setting (txn ∷ txns) = refl
 
-session_set : (state : State) (number : ℕ) (session : Session) → number < length state.sessions → session_at (with_session state number session) number ≡ session
+pub session_set : (state : State) (number : ℕ) (session : Session) → number < length state.sessions → session_at (with_session state number session) number ≡ session
 session_set state number session l = get_or-set_same state.sessions number session fresh l
 
-left_is : (setting : Setting) (state : State) (number : ℕ) (done : List Finished) (current : Open) (txn : Txn) (txns : List Txn) (turn : Turn) → number < length state.sessions
+pub left_is : (setting : Setting) (state : State) (number : ℕ) (done : List Finished) (current : Open) (txn : Txn) (txns : List Txn) (turn : Turn) → number < length state.sessions
     → session_at state number ≡ record { done = done; now = Some current } → drop (length done) (program_of setting number) ≡ txn ∷ txns → IsActing turn
     → steps_left setting number (session_at (after_turn setting state number turn).0 number) ≡ left_after setting txn current.begun (later_left setting txns) turn
 left_is setting state number done current txn txns (Visits writes phase) l s d a =
@@ -289,7 +289,7 @@ not_begun : (setting : Setting) (state : State) (number : ℕ) (by : Option Labe
 not_begun setting state number None e = absurd (cc e)
 not_begun setting state number (Some by) e = absurd (cc e)
 
-drop_at : {A : Type 0} (xs : List A) (n : ℕ) (x : A) → slice_get xs n ≡ Some x → drop n xs ≡ x ∷ drop (suc n) xs
+pub drop_at : {A : Type 0} (xs : List A) (n : ℕ) (x : A) → slice_get xs n ≡ Some x → drop n xs ≡ x ∷ drop (suc n) xs
 drop_at [] n x e = absurd (cc e)
 drop_at (y ∷ ys) zero x e = ap (λ z. z ∷ ys) (same_Some y x e)
 drop_at (y ∷ ys) (suc n) x e = drop_at ys n x e

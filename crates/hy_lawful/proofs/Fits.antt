@@ -1,5 +1,5 @@
 -- What holds of every state that the machine comes to.
-use Rattle.std.proofs.Common.{◌≡◌, ℕ, zero, suc, ◌+◌, ◌-◌, ◌<◌, ◌≤◌, List, [], ◌∷◌, ◌++◌, Option, None, Some, length}
+use Rattle.std.proofs.Common.{◌≡◌, ℕ, zero, suc, ◌-◌, ◌<◌, ◌≤◌, List, [], ◌∷◌, Option, None, Some, length}
 use Rattle.std.specs.Prelude.{slice_get, IsTrue, IsFalse, ◌==◌}
 use Rattle.std.specs.List.{AllByRecursion}
 use Rattle.hy_stamp.specs.declared.Label.{Label}

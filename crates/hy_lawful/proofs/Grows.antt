@@ -1,5 +1,5 @@
 -- What holds of sessions stays true as the commit order grows and as another session is marked.
-use Rattle.std.proofs.Common.{◌≡◌, ℕ, zero, suc, ◌+◌, ◌-◌, ◌<◌, ◌≤◌, List, [], ◌∷◌, ◌++◌, Option, None, Some, length, refl, ap, sym, ◌∙◌, subst, arith, inl, inr, ◌⊎◌}
+use Rattle.std.proofs.Common.{◌≡◌, ℕ, zero, suc, ◌<◌, ◌≤◌, List, [], ◌∷◌, ◌++◌, Option, None, Some, length, refl, ap, arith, inl, inr, ◌⊎◌}
 use Rattle.std.proofs.lemmas.List.{length-append}
 use Rattle.std.proofs.lemmas.Option.{same_Some}
 use Rattle.hy_stamp.specs.declared.Label.{Label}
@@ -16,9 +16,8 @@ use Rattle.hy_machine.specs.declared.Phase.{Phase}
 use Rattle.hy_machine.specs.declared.Phase.TheVariants.{Working, Stamping, Undoing}
 use Rattle.hy_machine.specs.Turns.{ending_of}
 use Rattle.hy_machine.specs.Outcomes.{txn_outcome_of}
-use Rattle.hy_lawful.specs.Outcomes.{EachFrom}
 use Rattle.hy_lawful.proofs.Lists.{each_so}
-use Rattle.hy_lawful.proofs.Fits.{label_at, IsCommitted, IsInvalid, Ends, EndsAs, DoneFits, PhaseFits, OpenFits, NowFits, SessionFits}
+use Rattle.hy_lawful.proofs.Fits.{label_at, Ends, EndsAs, DoneFits, PhaseFits, NowFits, SessionFits}
 
 -- an order has the entries of another one at their ranks
 pub record Grows (order grown : List Entry) : Type 0 where

@@ -1,19 +1,18 @@
 -- The outcome of a run is lawful, clause by clause.
-use Rattle.std.proofs.Common.{◌≡◌, ℕ, zero, suc, ◌+◌, ◌-◌, ◌<◌, ◌≤◌, List, [], ◌∷◌, ◌++◌, Option, None, Some, Bool, true, false, length, map, get_or, ltb, refl, ap, sym, ◌∙◌, subst, arith, inl, inr, ◌⊎◌, zero-add, add-zero}
+use Rattle.std.proofs.Common.{◌≡◌, ℕ, zero, suc, ◌+◌, ◌<◌, ◌≤◌, List, [], ◌∷◌, Option, None, Some, Bool, true, false, length, map, get_or, refl, ap, sym, ◌∙◌, subst, arith, inl, inr, zero-add, add-zero}
 use Rattle.std.specs.Prelude.{slice_get, ◌==◌, ◌&&◌, nat_lt, IfSome, IsFalse}
 use Rattle.std.specs.List.{AllByRecursion}
 use Rattle.std.specs.Option.{option_map, IsSomeAnd}
 use Rattle.std.proofs.Math.ListN.{get_or-eq_default}
 use Rattle.std.proofs.lemmas.Bool.{cases_lt, eqb-true, ltb-true}
 use Rattle.std.proofs.lemmas.List.{length-map}
-use Rattle.std.proofs.lemmas.Option.{same_Some, slice_get_within}
+use Rattle.std.proofs.lemmas.Option.{same_Some}
 use Rattle.hy_bound.specs.declared.Txn.{Txn}
 use Rattle.hy_stamp.specs.declared.Label.{Label}
 use Rattle.hy_render.specs.declared.Ending.{Ending}
 use Rattle.hy_render.specs.declared.Ending.TheVariants.{Committed, Read, RolledBack, Conflict, Invalid, Range, Full}
 use Rattle.hy_render.specs.declared.TxnOutcome.{TxnOutcome}
 use Rattle.hy_render.specs.declared.Committed.{Committed as Committing}
-use Rattle.hy_render.specs.declared.Outcome.{Outcome}
 use Rattle.hy_machine.specs.declared.Setting.{Setting}
 use Rattle.hy_machine.specs.declared.State.{State}
 use Rattle.hy_machine.specs.declared.Session.{Session}
@@ -24,12 +23,12 @@ use Rattle.hy_machine.specs.Sessions.{fresh, session_at, program_of, has_ended}
 use Rattle.hy_machine.specs.Validation.{committed_of}
 use Rattle.hy_machine.specs.Outcomes.{txn_outcome_of, outcome_of}
 use Rattle.hy_machine.specs.Runs.{IsReached, all_ended_from}
-use Rattle.hy_lawful.specs.Outcomes.{EachFrom, outcome_at, committed_at, is_later, later_than}
+use Rattle.hy_lawful.specs.Outcomes.{outcome_at, committed_at, is_later, later_than}
 use Rattle.hy_lawful.specs.Positions.{ArePositions, places_of}
 use Rattle.hy_lawful.specs.Endings.{MayEnd}
 use Rattle.hy_lawful.specs.Lawful.{StandsAt, Follows, Lawful}
-use Rattle.hy_lawful.proofs.Lists.{all_so, all_mapped, all_kept, item_at_number, item_from}
-use Rattle.hy_lawful.proofs.Fits.{label_at, HasTxn, Ends, EndsAs, FitsTables, DoneFits, reach, reach_of, Climbs, OpenFits, NowFits, SessionFits, Placed, ended, entered, NowStamps, Fits}
+use Rattle.hy_lawful.proofs.Lists.{all_so, all_mapped, all_kept, item_at_number}
+use Rattle.hy_lawful.proofs.Fits.{label_at, HasTxn, Ends, FitsTables, DoneFits, reach, reach_of, Climbs, OpenFits, NowFits, Placed, ended, entered, NowStamps, Fits}
 use Rattle.hy_lawful.proofs.Places.{written_positions, changed_positions}
 use Rattle.hy_lawful.proofs.Reached.{reached_fits}
 use Rattle.hy_lawful.proofs.Outcomes.{each_outcome, each_entry, label_committed, outcome_found, labels_all}

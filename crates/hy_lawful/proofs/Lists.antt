@@ -1,9 +1,8 @@
 -- Lists item by item: what a longer list keeps, and what is said of every item.
-use Rattle.std.proofs.Common.{◌≡◌, ℕ, zero, suc, ◌+◌, ◌<◌, ◌≤◌, List, [], ◌∷◌, ◌++◌, Option, None, Some, Bool, true, false, length, drop, map, cond, refl, ap, sym, ◌∙◌, subst, arith, inl, inr, ◌⊎◌, zero-add, add-zero}
-use Rattle.std.specs.Prelude.{slice_get, filter, find}
+use Rattle.std.proofs.Common.{◌≡◌, ℕ, zero, suc, ◌+◌, ◌≤◌, List, [], ◌∷◌, ◌++◌, Option, None, Some, Bool, true, false, length, map, cond, refl, sym, subst, arith, inl, inr, ◌⊎◌, zero-add, add-zero}
+use Rattle.std.specs.Prelude.{slice_get, filter}
 use Rattle.std.specs.List.{AllByRecursion}
 use Rattle.std.specs.Option.{option_or}
-use Rattle.std.proofs.lemmas.Bool.{cases_Bool}
 use Rattle.std.proofs.lemmas.Option.{same_Some}
 use Rattle.hy_lawful.specs.Outcomes.{EachFrom}
 

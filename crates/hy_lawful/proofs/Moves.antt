@@ -1,9 +1,8 @@
 -- What holds of a state holds after a session's transaction goes on, after its entry goes into the commit order, and
 -- after it ends.
-use Rattle.std.proofs.Common.{◌≡◌, ℕ, zero, suc, ◌+◌, ◌-◌, ◌<◌, ◌≤◌, List, [], ◌∷◌, ◌++◌, Option, None, Some, length, get_or, refl, ap, sym, ◌∙◌, subst, arith, inl, inr, ◌⊎◌}
+use Rattle.std.proofs.Common.{◌≡◌, ℕ, suc, ◌+◌, ◌-◌, ◌<◌, ◌≤◌, List, [], ◌∷◌, ◌++◌, Option, None, Some, length, refl, ap, sym, ◌∙◌, subst, arith, inl, inr}
 use Rattle.std.proofs.Math.ListN.{set}
 use Rattle.std.specs.Prelude.{slice_get}
-use Rattle.std.specs.List.{AllByRecursion}
 use Rattle.std.proofs.lemmas.Bool.{cases_eq}
 use Rattle.std.proofs.lemmas.List.{length-append, length-set, get_or-set_same, get_or-set_other}
 use Rattle.std.proofs.lemmas.Option.{same_Some}
@@ -20,7 +19,7 @@ use Rattle.hy_machine.specs.declared.Entry.{Entry}
 use Rattle.hy_machine.specs.Sessions.{fresh, session_at, entry_of}
 use Rattle.hy_lawful.specs.Outcomes.{EachFrom, committed_at}
 use Rattle.hy_lawful.proofs.Lists.{kept_in_front, last_item, all_more, each_more}
-use Rattle.hy_lawful.proofs.Grows.{Grows, grows_not, grows_by, label_of_more, last_label, label_within, session_grows}
+use Rattle.hy_lawful.proofs.Grows.{grows_not, grows_by, label_of_more, label_within, session_grows}
 use Rattle.hy_lawful.proofs.Fits.{label_at, EndsAs, FitsTables, DoneFits, reach, reach_of, top_of, Climbs, OpenFits, NowFits, SessionFits, Placed, ended, entered, NowStamps, Fits}
 
 -- a state with another order and mark, and one session in place of another
@@ -96,6 +95,7 @@ placed_entered setting state number begun now fits there free rank label e =
   where
     grown : List Entry
     grown = order_more setting state number begun
+
     before : Placed state rank label → Placed (moved_to state (order_more setting state number begun) (Some number) number (with_now state number now)) rank label
     before (ended b finished e at is) =
         ended b finished e (ap (λ (done : List Finished). slice_get done b) (done_same state (order_more setting state number begun) (Some number) number now there label.session) ∙ at) is

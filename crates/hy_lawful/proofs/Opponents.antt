@@ -1,11 +1,9 @@
 -- Whom a refusal names: a transaction of another session that the script has.
-use Rattle.std.proofs.Common.{◌≡◌, ℕ, zero, suc, ◌+◌, ◌-◌, ◌<◌, ◌≤◌, List, [], ◌∷◌, ◌++◌, Option, None, Some, Bool, true, false, not, length, drop, get_or, cond, refl, ap, sym, ◌∙◌, subst, arith, inl, inr, ◌⊎◌, zero-add, add-zero}
+use Rattle.std.proofs.Common.{◌≡◌, ℕ, zero, suc, ◌+◌, ◌<◌, ◌≤◌, List, [], ◌∷◌, Option, None, Some, Bool, true, false, not, length, drop, get_or, cond, refl, ap, sym, ◌∙◌, subst, arith, inl, inr, zero-add, add-zero}
 use Rattle.std.specs.Prelude.{slice_get, ◌&&◌, ◌==◌}
-use Rattle.std.specs.Option.{option_or}
-use Rattle.std.proofs.lemmas.Bool.{cases_Bool, cases_eq, eq-eqb, ne_eqb}
+use Rattle.std.proofs.lemmas.Bool.{cases_Bool, eq-eqb}
 use Rattle.std.proofs.lemmas.Option.{same_Some, slice_get_within}
 use Rattle.hy_stamp.specs.declared.Label.{Label}
-use Rattle.hy_render.specs.declared.Ending.TheVariants.{Committed}
 use Rattle.hy_machine.specs.declared.Setting.{Setting}
 use Rattle.hy_machine.specs.declared.State.{State}
 use Rattle.hy_machine.specs.declared.Session.{Session}
@@ -13,11 +11,10 @@ use Rattle.hy_machine.specs.declared.Open.{Open}
 use Rattle.hy_machine.specs.declared.Finished.{Finished}
 use Rattle.hy_machine.specs.declared.Entry.{Entry}
 use Rattle.hy_machine.specs.Positions.{item_at, last_some}
-use Rattle.hy_machine.specs.Sessions.{fresh, session_at, program_of, label_of}
+use Rattle.hy_machine.specs.Sessions.{fresh, session_at, label_of}
 use Rattle.hy_machine.specs.Holding.{holds, holder_from, changes_row, changer_at, opponent}
 use Rattle.hy_lawful.specs.Outcomes.{committed_at}
 use Rattle.hy_lawful.proofs.Lists.{or_some, chosen}
-use Rattle.hy_lawful.proofs.Grows.{label_within}
 use Rattle.hy_lawful.proofs.Fits.{label_at, HasTxn, reach, reach_of, top_of, Climbs, NowFits, SessionFits, Placed, ended, entered, NowStamps, Fits}
 
 and_left : (b c : Bool) → (b && c) ≡ true → b ≡ true

@@ -1,5 +1,5 @@
 -- What holds of the opening and stays true along steps holds of each state that the machine comes to.
-use Rattle.std.proofs.Common.{◌≡◌, ℕ, zero, suc, ◌+◌, ◌-◌, ◌<◌, ◌≤◌, List, [], ◌∷◌, ◌++◌, Option, None, Some, Bool, true, false, length, map, get_or, refl, ap, sym, ◌∙◌, subst, arith, inl, inr, ◌⊎◌}
+use Rattle.std.proofs.Common.{◌≡◌, ℕ, ◌+◌, ◌-◌, ◌<◌, ◌≤◌, List, [], ◌∷◌, ◌++◌, Option, None, Some, length, refl, ap, sym, ◌∙◌, subst, arith, inl, inr}
 use Rattle.std.specs.Prelude.{slice_get}
 use Rattle.std.specs.Option.{option_map}
 use Rattle.std.proofs.Math.ListN.{get_or-map, get_or-eq_default}
@@ -7,32 +7,20 @@ use Rattle.std.proofs.lemmas.Bool.{cases_lt}
 use Rattle.std.proofs.lemmas.List.{length-append, length-map}
 use Rattle.std.proofs.lemmas.Option.{slice_get_within}
 use Rattle.hy_bound.specs.declared.Txn.{Txn}
-use Rattle.hy_bound.specs.declared.Record.{Record}
-use Rattle.hy_bound.specs.declared.Reply.{Reply}
 use Rattle.hy_stamp.specs.declared.Label.{Label}
-use Rattle.hy_render.specs.declared.Ending.{Ending}
 use Rattle.hy_render.specs.declared.Ending.TheVariants.{Committed}
 use Rattle.hy_machine.specs.declared.Setting.{Setting}
 use Rattle.hy_machine.specs.declared.State.{State}
-use Rattle.hy_machine.specs.declared.Session.{Session}
 use Rattle.hy_machine.specs.declared.Open.{Open}
-use Rattle.hy_machine.specs.declared.Begun.{Begun}
-use Rattle.hy_machine.specs.declared.Finished.{Finished}
-use Rattle.hy_machine.specs.declared.Entry.{Entry}
-use Rattle.hy_machine.specs.declared.Write.{Write}
-use Rattle.hy_machine.specs.declared.Phase.{Phase}
-use Rattle.hy_machine.specs.declared.Phase.TheVariants.{Working, Stamping, Undoing}
+use Rattle.hy_machine.specs.declared.Phase.TheVariants.{Working, Stamping}
 use Rattle.hy_machine.specs.declared.Turn.{Turn}
 use Rattle.hy_machine.specs.declared.Turn.TheVariants.{Done, Waits, Begins, Visits, Answers, Enters, Ends}
-use Rattle.hy_machine.specs.Writes.{with_writes}
-use Rattle.hy_machine.specs.Sessions.{fresh, session_at, program_of, txn_at, blocker, label_of, entry_of}
+use Rattle.hy_machine.specs.Sessions.{fresh, session_at, program_of, txn_at, blocker, entry_of}
 use Rattle.hy_machine.specs.Turns.{unless_blocked, session_turn, phase_turn}
 use Rattle.hy_machine.specs.Steps.{with_session, beginning, after_visit, after_answer, done_with, order_with, after_turn, step_of}
 use Rattle.hy_machine.specs.Runs.{opening_of, after_steps, IsReached}
-use Rattle.hy_lawful.specs.Scripts.{statements_of, txn_of}
-use Rattle.hy_lawful.specs.Endings.{EndsCommitted}
-use Rattle.hy_lawful.proofs.Grows.{grows_by, last_label}
-use Rattle.hy_lawful.proofs.Fits.{label_at, EndsAs, FitsTables, top_of, PhaseFits, OpenFits, NowFits, SessionFits, NowStamps, Fits}
+use Rattle.hy_lawful.proofs.Grows.{last_label}
+use Rattle.hy_lawful.proofs.Fits.{EndsAs, FitsTables, PhaseFits, OpenFits, NowFits, SessionFits, NowStamps, Fits}
 use Rattle.hy_lawful.proofs.Moves.{moved_to, fits_now, fits_entered, fits_ended}
 use Rattle.hy_lawful.proofs.Tables.{writes_fit, blank_fits, entry_fits}
 use Rattle.hy_lawful.proofs.Turns.{before_of, FitsTurn, phase_fits}

@@ -1,24 +1,21 @@
 -- What a transaction writes fits the tables, and its places are positions, in order.
-use Rattle.std.proofs.Common.{◌≡◌, ℕ, zero, suc, ◌+◌, ◌*◌, ◌<◌, ◌≤◌, List, [], ◌∷◌, ◌++◌, Option, None, Some, Bool, true, false, not, length, map, get_or, replicate, cond, is_some, refl, ap, sym, ◌∙◌, subst, arith, inl, inr, ◌⊎◌}
+use Rattle.std.proofs.Common.{◌≡◌, ℕ, zero, suc, ◌<◌, ◌≤◌, List, [], ◌∷◌, ◌++◌, Option, None, Some, Bool, true, false, not, length, map, get_or, replicate, is_some, refl, ap, sym, ◌∙◌, arith, inl, inr}
 use Rattle.std.proofs.Math.ListN.{set}
-use Rattle.std.specs.Prelude.{◌&&◌, ◌||◌, ◌==◌, nat_lt}
-use Rattle.std.specs.List.{AllByRecursion, list_any, list_all}
-use Rattle.std.proofs.lemmas.Bool.{cases_Bool, eq-eqb, lt-ltb}
+use Rattle.std.specs.Prelude.{◌||◌}
+use Rattle.std.specs.List.{AllByRecursion, list_any}
+use Rattle.std.proofs.lemmas.Bool.{cases_Bool}
 use Rattle.std.proofs.lemmas.List.{length-append, length-map, length-set}
 use Rattle.hy_value.specs.declared.Value.{Value}
-use Rattle.hy_change.specs.declared.Change.{Change}
 use Rattle.hy_render.specs.declared.Place.{Place}
 use Rattle.hy_machine.specs.declared.Setting.{Setting}
 use Rattle.hy_machine.specs.declared.State.{State}
 use Rattle.hy_machine.specs.declared.Begun.{Begun}
 use Rattle.hy_machine.specs.declared.Write.{Write}
 use Rattle.hy_machine.specs.declared.Pair.{Pair}
-use Rattle.hy_machine.specs.Positions.{by_position, by_table, by_place, item_at}
+use Rattle.hy_machine.specs.Positions.{by_position, by_table, item_at}
 use Rattle.hy_machine.specs.Tables.{Cell, Tables, Own, capacity}
 use Rattle.hy_machine.specs.Writes.{blank_own, with_write, with_writes, wrote_nothing, place_at, written}
-use Rattle.hy_machine.specs.Sessions.{pair_of, pairs_from, entry_cells, entry_of, snapshot}
-use Rattle.hy_machine.specs.Validation.{change_between, change_at}
-use Rattle.hy_lawful.specs.Positions.{places_of, is_position, comes_before, ascend, ArePositions}
+use Rattle.hy_machine.specs.Sessions.{pairs_from, entry_cells, entry_of, snapshot}
 use Rattle.hy_lawful.proofs.Fits.{FitsTables}
 
 -- ---- what a transaction writes fits the tables
@@ -37,8 +34,11 @@ write_fits : (setting : Setting) (own : Own) (write : Write) → FitsTables sett
 write_fits setting own write h = record {
   tables = omega (arith, h.tables, length-set own write.table (set (get_or own write.table []) write.pos (Some write.cell)));
   positions = set_all (λ (items : List (Option Cell)). length items ≤ capacity setting) own write.table (set (get_or own write.table []) write.pos (Some write.cell)) h.positions
-      (omega (arith, length-set (get_or own write.table []) write.pos (Some write.cell),
-      got_of (λ (items : List (Option Cell)). length items ≤ capacity setting) own write.table [] h.positions (omega arith)));
+      (omega (
+        arith,
+        length-set (get_or own write.table []) write.pos (Some write.cell),
+        got_of (λ (items : List (Option Cell)). length items ≤ capacity setting) own write.table [] h.positions (omega arith),
+      ));
 }
 
 pub writes_fit : (setting : Setting) (own : Own) (writes : List Write) → FitsTables setting own → FitsTables setting (with_writes own writes)
@@ -112,8 +112,11 @@ some_from : (table : ℕ) (own : Own) → list_any (list_any is_some) own ≡ tr
 some_from table [] h = absurd cc
 some_from table (cells ∷ own) h = elim (cases_Bool (list_any is_some cells)) [
   | inl t ↦ omega (arith, some_places table 0 cells t, length-append (by_position (place_at table) 0 cells) (by_table place_at (suc table) own))
-  | inr f ↦ omega (arith, some_from (suc table) own (ap (λ b. b || list_any (list_any is_some) own) (sym f) ∙ h),
-      length-append (by_position (place_at table) 0 cells) (by_table place_at (suc table) own))
+  | inr f ↦ omega (
+    arith,
+    some_from (suc table) own (ap (λ b. b || list_any (list_any is_some) own) (sym f) ∙ h),
+    length-append (by_position (place_at table) 0 cells) (by_table place_at (suc table) own),
+  )
 ]
 
 not_false : (b : Bool) → not b ≡ false → b ≡ true

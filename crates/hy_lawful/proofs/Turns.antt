@@ -1,14 +1,12 @@
 -- What a session's turn makes of its open transaction fits.
-use Rattle.std.proofs.Common.{◌≡◌, ℕ, zero, suc, ◌+◌, ◌-◌, ◌*◌, ◌<◌, ◌≤◌, List, [], ◌∷◌, ◌++◌, Option, None, Some, Bool, true, false, not, Result, Ok, Err, length, drop, map, get_or, cond, ltb, refl, ap, sym, ◌∙◌, subst, arith, inl, inr, ◌⊎◌}
-use Rattle.std.specs.Prelude.{slice_get, ◌==◌, IsTrue}
-use Rattle.std.proofs.lemmas.Bool.{cases_Bool, cases_eq, eq-eqb, eqb-true, ne_eqb}
-use Rattle.std.proofs.lemmas.List.{length-append}
+use Rattle.std.proofs.Common.{◌≡◌, ℕ, suc, ◌+◌, ◌-◌, ◌*◌, ◌<◌, ◌≤◌, List, [], Option, None, Some, Bool, true, false, not, Result, Ok, Err, length, drop, map, cond, ltb, refl, ap, sym, ◌∙◌, subst, arith, inl, inr}
+use Rattle.std.specs.Prelude.{slice_get, ◌==◌}
+use Rattle.std.proofs.lemmas.Bool.{cases_Bool, eq-eqb, eqb-true, ne_eqb}
 use Rattle.std.proofs.lemmas.Option.{same_Some, slice_get_within}
 use Rattle.hy_value.specs.declared.Value.{Value}
 use Rattle.hy_bound.specs.declared.Txn.{Txn}
 use Rattle.hy_bound.specs.declared.Bound.{Bound}
 use Rattle.hy_bound.specs.declared.Bound.TheVariants.{Select, Group, Insert, Update, Delete}
-use Rattle.hy_bound.specs.declared.Record.{Record}
 use Rattle.hy_bound.specs.declared.Reply.{Reply}
 use Rattle.hy_bound.specs.declared.WriteKind.{WriteKind}
 use Rattle.hy_bound.specs.declared.WriteKind.TheVariants as kind
@@ -18,14 +16,9 @@ use Rattle.hy_meaning.specs.Statement.{answer_of, grouped}
 use Rattle.hy_stamp.specs.declared.Label.{Label}
 use Rattle.hy_render.specs.declared.Ending.{Ending}
 use Rattle.hy_render.specs.declared.Ending.TheVariants as ways
-use Rattle.hy_render.specs.declared.TxnOutcome.{TxnOutcome}
 use Rattle.hy_machine.specs.declared.Setting.{Setting}
 use Rattle.hy_machine.specs.declared.State.{State}
-use Rattle.hy_machine.specs.declared.Session.{Session}
-use Rattle.hy_machine.specs.declared.Open.{Open}
 use Rattle.hy_machine.specs.declared.Begun.{Begun}
-use Rattle.hy_machine.specs.declared.Finished.{Finished}
-use Rattle.hy_machine.specs.declared.Entry.{Entry}
 use Rattle.hy_machine.specs.declared.Write.{Write}
 use Rattle.hy_machine.specs.declared.Cause.{Cause}
 use Rattle.hy_machine.specs.declared.Cause.TheVariants.{RolledBack, Conflict, Invalid, Range, Full}
@@ -39,14 +32,13 @@ use Rattle.hy_machine.specs.Sessions.{session_at, blocker_of, blocker, label_of,
 use Rattle.hy_machine.specs.Positions.{item_at}
 use Rattle.hy_machine.specs.Holding.{opponent}
 use Rattle.hy_machine.specs.Validation.{committed_of, first_hit}
-use Rattle.hy_machine.specs.Visits.{verdict_at, sweep, swept, sees_key, free_position, checks_of}
+use Rattle.hy_machine.specs.Visits.{verdict_at, swept, sees_key, free_position, checks_of}
 use Rattle.hy_machine.specs.Turns.{rows_seen, read_turn, write_turn, check_turn, place_turn, insert_turn, statement_turn, ending_of, unless_blocked, undo_turn, stamp_turn, validated_turn, commit_turn, closing_turn, working_turn, phase_turn}
-use Rattle.hy_machine.specs.Steps.{after_visit}
 use Rattle.hy_machine.specs.Outcomes.{txn_outcome_of}
 use Rattle.hy_lawful.specs.Scripts.{statements_in, statements_of, txn_of, ClosesWithCommit, ClosesWithRollback}
 use Rattle.hy_lawful.specs.Endings.{updates, changes_rows, inserts, EndsCommitted}
 use Rattle.hy_lawful.proofs.Lists.{over_past}
-use Rattle.hy_lawful.proofs.Fits.{label_at, EndsAs, top_of, PhaseFits, OpenFits, Stamps, Fits}
+use Rattle.hy_lawful.proofs.Fits.{EndsAs, top_of, PhaseFits, Stamps, Fits}
 use Rattle.hy_lawful.proofs.Opponents.{label_dropped, IsRival, opponent_is}
 use Rattle.hy_lawful.proofs.Refusals.{IsSet, Refuses, verdict_refuses, sweep_refuses, first_hit_is}
 use Rattle.hy_lawful.proofs.Tables.{nothing_written, something_written}
@@ -76,7 +68,7 @@ FitsTurn setting state number begun (Visits writes phase) =
 FitsTurn setting state number begun (Answers writes reply took records) = MayAnswer setting state number begun
 FitsTurn setting state number begun Enters =
     EndsCommitted setting.programs
-        (txn_outcome_of setting number (before_of state number) (record { begun = begun; ending = ways.Committed (length state.order) }))
+    (txn_outcome_of setting number (before_of state number) (record { begun = begun; ending = ways.Committed (length state.order) }))
     × ((other : ℕ) → state.mark ≡ Some other → ⊥)
 FitsTurn setting state number begun (Ends ending) =
     WouldEnd setting state number begun ending × ((other : ℕ) → state.mark ≡ Some other → other ≡ number)

@@ -112,7 +112,7 @@ PhaseFits setting order mark number before begun (Undoing visited cause) =
 -- an open transaction, behind those that have ended
 pub record OpenFits (setting : Setting) (order : List Entry) (mark : Option ℕ) (number : ℕ) (done : List Finished) (current : Open) : Type 0 where
   pub there : length done < length (program_of setting number)
-  pub low : top_of 0 done ≤ current.begun.prefix
+  pub above : top_of 0 done ≤ current.begun.prefix
   pub start : current.begun.prefix ≤ length order
   pub own : FitsTables setting current.begun.own
   pub phase : PhaseFits setting order mark number (length done) current.begun current.phase
@@ -131,11 +131,11 @@ pub record SessionFits (setting : Setting) (order : List Entry) (mark : Option �
 -- ---- states
 
 -- the entry of a rank is that of a transaction that committed at it, or of the marked session's open one
-pub data Placed (state : State) (rank : ℕ) (label : Label) : Type 0 where
+pub data Ranked (state : State) (rank : ℕ) (label : Label) : Type 0 where
   ended : (before : ℕ) (finished : Finished) → label.txn ≡ suc before → slice_get (session_at state label.session).done before ≡ Some finished
-      → finished.ending ≡ Committed rank → Placed state rank label
+      → finished.ending ≡ Committed rank → Ranked state rank label
   entered : state.mark ≡ Some label.session → label.txn ≡ suc (length (session_at state label.session).done) → suc rank ≡ length state.order
-      → Placed state rank label
+      → Ranked state rank label
 
 -- a transaction is open whose entry stands in the commit order
 abbrev pub Stamps : Phase → Type 0
@@ -150,6 +150,6 @@ NowStamps (Some current) = Stamps current.phase
 pub record Fits (setting : Setting) (state : State) : Type 0 where
   pub count : length state.sessions ≡ length setting.programs
   pub sessions : (number : ℕ) → SessionFits setting state.order state.mark number (session_at state number)
-  pub placed : (rank : ℕ) (label : Label) → label_at state.order rank ≡ Some label → Placed state rank label
+  pub ranked : (rank : ℕ) (label : Label) → label_at state.order rank ≡ Some label → Ranked state rank label
   pub marked : (number : ℕ) → state.mark ≡ Some number → NowStamps (session_at state number).now
-  pub changes : AllByRecursion (λ (entry : Entry). FitsTables setting entry.cells) state.order
+  pub cells : AllByRecursion (λ (entry : Entry). FitsTables setting entry.cells) state.order

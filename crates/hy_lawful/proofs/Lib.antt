@@ -1,3 +1,4 @@
+pub mod Booleans
 pub mod Lists
 pub mod Fits
 pub mod Grows
@@ -9,4 +10,7 @@ pub mod Places
 pub mod Turns
 pub mod Reached
 pub mod Outcomes
+pub mod Over
+pub mod Endings
+pub mod Followers
 pub mod Laws

@@ -1,5 +1,6 @@
 -- Lists item by item: what a longer list keeps, and what is said of every item.
-use Rattle.std.proofs.Common.{◌≡◌, ℕ, zero, suc, ◌+◌, ◌≤◌, List, [], ◌∷◌, ◌++◌, Option, None, Some, Bool, true, false, length, map, cond, refl, sym, subst, arith, inl, inr, ◌⊎◌, zero-add, add-zero}
+use Rattle.std.proofs.Common.{◌≡◌, ℕ, zero, suc, ◌+◌, ◌≤◌, List, [], ◌∷◌, ◌++◌, Option, None, Some, Bool, true, false, length, map, cond, refl, sym, subst}
+use Rattle.std.proofs.Common.{arith, inl, inr, ◌⊎◌, zero-add, add-zero}
 use Rattle.std.specs.Prelude.{slice_get, filter}
 use Rattle.std.specs.List.{AllByRecursion}
 use Rattle.std.specs.Option.{option_or}
@@ -49,7 +50,8 @@ pub all_kept : {X : Type 0} (P : X → Type 0) (keep : X → Bool) (xs : List X)
 all_kept P keep [] h = tt
 all_kept P keep (x ∷ xs) h = kept_then P x (filter keep xs) (keep x) h.0 (all_kept P keep xs h.1)
 
-pub each_more : {X : Type 0} (first : ℕ) (P : ℕ → X → Type 0) (xs : List X) (x : X) → EachFrom first P xs → P (first + length xs) x → EachFrom first P (xs ++ x ∷ [])
+pub each_more : {X : Type 0} (first : ℕ) (P : ℕ → X → Type 0) (xs : List X) (x : X) → EachFrom first P xs → P (first + length xs) x
+    → EachFrom first P (xs ++ x ∷ [])
 each_more first P [] x h p = (subst (λ n. P n x) (add-zero first) p, tt)
 each_more first P (y ∷ xs) x h p = (
   h.0,
@@ -60,7 +62,8 @@ pub each_so : {X : Type 0} (first : ℕ) (P Q : ℕ → X → Type 0) (xs : List
 each_so first P Q [] f h = tt
 each_so first P Q (x ∷ xs) f h = (f first x h.0, each_so (suc first) P Q xs f h.1)
 
-pub item_from : {X : Type 0} (first : ℕ) (P : ℕ → X → Type 0) (xs : List X) → EachFrom first P xs → (i : ℕ) (x : X) → slice_get xs i ≡ Some x → P (first + i) x
+pub item_from : {X : Type 0} (first : ℕ) (P : ℕ → X → Type 0) (xs : List X) → EachFrom first P xs → (i : ℕ) (x : X) → slice_get xs i ≡ Some x
+    → P (first + i) x
 item_from first P [] h i x e = absurd cc
 item_from first P (y ∷ ys) h zero x e =
     subst (λ n. P n x) (sym (add-zero first)) (subst (P first) (same_Some y x e) h.0)

@@ -20,7 +20,8 @@ use Rattle.hy_machine.specs.Sessions.{fresh, session_at, entry_of}
 use Rattle.hy_lawful.specs.Outcomes.{EachFrom, committed_at}
 use Rattle.hy_lawful.proofs.Lists.{kept_in_front, last_item, all_more, each_more}
 use Rattle.hy_lawful.proofs.Grows.{grows_not, grows_by, label_of_more, label_within, session_grows}
-use Rattle.hy_lawful.proofs.Fits.{label_at, EndsAs, FitsTables, DoneFits, reach, reach_of, top_of, Climbs, OpenFits, NowFits, SessionFits, Placed, ended, entered, NowStamps, Fits}
+use Rattle.hy_lawful.proofs.Fits.{label_at, EndsAs, FitsTables, DoneFits, reach, reach_of, top_of, Climbs, OpenFits, NowFits, SessionFits, Ranked, ended}
+use Rattle.hy_lawful.proofs.Fits.{entered, NowStamps, Fits}
 
 -- a state with another order and mark, and one session in place of another
 abbrev pub moved_to : State → List Entry → Option ℕ → ℕ → Session → State
@@ -52,15 +53,17 @@ with_now state number now = record { done = (session_at state number).done; now 
 done_same : (state : State) (order : List Entry) (mark : Option ℕ) (number : ℕ) (now : Option Open) → number < length state.sessions
     → (other : ℕ) → (session_at (moved_to state order mark number (with_now state number now)) other).done ≡ (session_at state other).done
 done_same state order mark number now there =
-    sessions_moved (λ other session. session.done ≡ (session_at state other).done) state order mark number (with_now state number now) there refl (λ other apart. refl)
+    sessions_moved (λ other session. session.done ≡ (session_at state other).done) state order mark number (with_now state number now) there refl
+        (λ other apart. refl)
 
-placed_same : (state : State) (order : List Entry) (mark : Option ℕ) (number : ℕ) (now : Option Open) → number < length state.sessions
-    → length state.order ≡ length order → state.mark ≡ mark → (rank : ℕ) (label : Label) → Placed state rank label
-    → Placed (moved_to state order mark number (with_now state number now)) rank label
-placed_same state order mark number now there longer same rank label (ended before finished e at is) =
+ranked_same : (state : State) (order : List Entry) (mark : Option ℕ) (number : ℕ) (now : Option Open) → number < length state.sessions
+    → length state.order ≡ length order → state.mark ≡ mark → (rank : ℕ) (label : Label) → Ranked state rank label
+    → Ranked (moved_to state order mark number (with_now state number now)) rank label
+ranked_same state order mark number now there longer same rank label (ended before finished e at is) =
     ended before finished e (ap (λ (done : List Finished). slice_get done before) (done_same state order mark number now there label.session) ∙ at) is
-placed_same state order mark number now there longer same rank label (entered m e r) =
-    entered (sym same ∙ m) (e ∙ ap (λ (done : List Finished). suc (length done)) (sym (done_same state order mark number now there label.session))) (r ∙ longer)
+ranked_same state order mark number now there longer same rank label (entered m e r) =
+    entered (sym same ∙ m) (e ∙ ap (λ (done : List Finished). suc (length done)) (sym (done_same state order mark number now there label.session)))
+        (r ∙ longer)
 
 pub fits_now : (setting : Setting) (state : State) (number : ℕ) (now : Option Open) → Fits setting state → number < length state.sessions
     → NowFits setting state.order state.mark number (session_at state number).done now → (state.mark ≡ Some number → NowStamps now)
@@ -71,10 +74,11 @@ fits_now setting state number now fits there here marked = record {
       (let old : SessionFits setting state.order state.mark number (session_at state number) = fits.sessions number in
       record { done = old.done; few = old.few; climbs = old.climbs; top = old.top; now = here })
       (λ other apart. fits.sessions other);
-  placed = λ rank label e. placed_same state state.order state.mark number now there refl refl rank label (fits.placed rank label e);
-  marked = sessions_moved (λ other session. state.mark ≡ Some other → NowStamps session.now) state state.order state.mark number (with_now state number now) there
+  ranked = λ rank label e. ranked_same state state.order state.mark number now there refl refl rank label (fits.ranked rank label e);
+  marked = sessions_moved (λ other session. state.mark ≡ Some other → NowStamps session.now) state state.order state.mark number
+      (with_now state number now) there
       marked (λ other apart. fits.marked other);
-  changes = fits.changes;
+  cells = fits.cells;
 }
 
 -- ---- an entry goes into the commit order
@@ -82,13 +86,13 @@ fits_now setting state number now fits there here marked = record {
 abbrev order_more : Setting → State → ℕ → Begun → List Entry
 order_more setting state number begun = state.order ++ entry_of setting state number begun ∷ []
 
-placed_entered : (setting : Setting) (state : State) (number : ℕ) (begun : Begun) (now : Option Open) → Fits setting state → number < length state.sessions
+ranked_entered : (setting : Setting) (state : State) (number : ℕ) (begun : Begun) (now : Option Open) → Fits setting state → number < length state.sessions
     → ((other : ℕ) → state.mark ≡ Some other → ⊥) → (rank : ℕ) (label : Label) → label_at (order_more setting state number begun) rank ≡ Some label
-    → Placed (moved_to state (order_more setting state number begun) (Some number) number (with_now state number now)) rank label
-placed_entered setting state number begun now fits there free rank label e =
+    → Ranked (moved_to state (order_more setting state number begun) (Some number) number (with_now state number now)) rank label
+ranked_entered setting state number begun now fits there free rank label e =
     elim (label_of_more state.order (entry_of setting state number begun) rank label e) [
-      | inl old ↦ before (fits.placed rank label old)
-      | inr new ↦ subst (Placed (moved_to state grown (Some number) number (with_now state number now)) rank) new.1
+      | inl old ↦ before (fits.ranked rank label old)
+      | inr new ↦ subst (Ranked (moved_to state grown (Some number) number (with_now state number now)) rank) new.1
           (entered refl (ap (λ (done : List Finished). suc (length done)) (sym (done_same state grown (Some number) number now there number)))
           (omega (arith, new.0, length-append state.order (entry_of setting state number begun ∷ []))))
     ]
@@ -96,9 +100,11 @@ placed_entered setting state number begun now fits there free rank label e =
     grown : List Entry
     grown = order_more setting state number begun
 
-    before : Placed state rank label → Placed (moved_to state (order_more setting state number begun) (Some number) number (with_now state number now)) rank label
+    before : Ranked state rank label
+        → Ranked (moved_to state (order_more setting state number begun) (Some number) number (with_now state number now)) rank label
     before (ended b finished e at is) =
-        ended b finished e (ap (λ (done : List Finished). slice_get done b) (done_same state (order_more setting state number begun) (Some number) number now there label.session) ∙ at) is
+        ended b finished e (ap (λ (done : List Finished). slice_get done b)
+            (done_same state (order_more setting state number begun) (Some number) number now there label.session) ∙ at) is
     before (entered m e r) = absurd (free label.session m)
 
 pub fits_entered : (setting : Setting) (state : State) (number : ℕ) (begun : Begun) (now : Option Open) → Fits setting state → number < length state.sessions
@@ -106,9 +112,10 @@ pub fits_entered : (setting : Setting) (state : State) (number : ℕ) (begun : B
     → NowFits setting (order_more setting state number begun) (Some number) number (session_at state number).done now → NowStamps now
     → FitsTables setting (entry_of setting state number begun).cells
     → Fits setting (moved_to state (order_more setting state number begun) (Some number) number (with_now state number now))
-fits_entered setting state number begun now fits there free here stamps changes = record {
+fits_entered setting state number begun now fits there free here stamps cells = record {
   count = length-set state.sessions number (with_now state number now) ∙ fits.count;
-  sessions = sessions_moved (SessionFits setting (order_more setting state number begun) (Some number)) state (order_more setting state number begun) (Some number)
+  sessions = sessions_moved (SessionFits setting (order_more setting state number begun) (Some number)) state (order_more setting state number begun)
+      (Some number)
       number (with_now state number now) there
       (let old : SessionFits setting (order_more setting state number begun) None number (session_at state number) =
       session_grows setting state.order (order_more setting state number begun) state.mark None number (session_at state number)
@@ -116,10 +123,10 @@ fits_entered setting state number begun now fits there free here stamps changes 
       record { done = old.done; few = old.few; climbs = old.climbs; top = old.top; now = here })
       (λ other apart. session_grows setting state.order (order_more setting state number begun) state.mark (Some number) other (session_at state other)
       (grows_by state.order (entry_of setting state number begun ∷ [])) (free other) (fits.sessions other));
-  placed = placed_entered setting state number begun now fits there free;
+  ranked = ranked_entered setting state number begun now fits there free;
   marked = sessions_moved (λ other session. Some number ≡ Some other → NowStamps session.now) state (order_more setting state number begun) (Some number)
       number (with_now state number now) there (λ e. stamps) (λ other apart e. absurd (apart (sym (same_Some number other e))));
-  changes = all_more (λ (entry : Entry). FitsTables setting entry.cells) state.order (entry_of setting state number begun) fits.changes changes;
+  cells = all_more (λ (entry : Entry). FitsTables setting entry.cells) state.order (entry_of setting state number begun) fits.cells cells;
 }
 
 -- ---- a transaction ends
@@ -157,14 +164,14 @@ session_ended : (setting : Setting) (order : List Entry) (mark : Option ℕ) (nu
     → SessionFits setting order None number (record { done = done ++ finished ∷ []; now = None })
 session_ended setting order mark number done finished each climbs current present same ends =
     let start : finished.begun.prefix ≤ length order = subst (λ (b : Begun). b.prefix ≤ length order) (sym same) present.start in
-    let low : top_of 0 done ≤ finished.begun.prefix = subst (λ (b : Begun). top_of 0 done ≤ b.prefix) (sym same) present.low in
+    let above : top_of 0 done ≤ finished.begun.prefix = subst (λ (b : Begun). top_of 0 done ≤ b.prefix) (sym same) present.above in
     let rises = reach_rises setting order number (length done) finished.begun finished.ending start ends in
     record {
       done = each_more 0 (DoneFits setting order number) done finished each
           (subst (λ n. DoneFits setting order number n finished) (let e : length done ≡ 0 + length done = omega arith in e)
           (record { start = start; own = subst (λ (b : Begun). FitsTables setting b.own) (sym same) present.own; ends = ends }));
       few = omega (arith, present.there, length-append done (finished ∷ []));
-      climbs = climbs_more 0 done finished climbs low rises.0;
+      climbs = climbs_more 0 done finished climbs above rises.0;
       top = rw (top_more 0 done finished) rises.1;
       now = tt;
     }
@@ -173,23 +180,26 @@ done_kept : (state : State) (order : List Entry) (mark : Option ℕ) (number : �
     → (other before : ℕ) (one : Finished) → slice_get (session_at state other).done before ≡ Some one
     → slice_get (session_at (moved_to state order mark number (with_done state number finished)) other).done before ≡ Some one
 done_kept state order mark number finished there =
-    sessions_moved (λ other session. (before : ℕ) (one : Finished) → slice_get (session_at state other).done before ≡ Some one → slice_get session.done before ≡ Some one)
+    sessions_moved (λ other session. (before : ℕ) (one : Finished) → slice_get (session_at state other).done before ≡ Some one
+        → slice_get session.done before ≡ Some one)
     state order mark number (with_done state number finished) there
     (λ before one e. kept_in_front (session_at state number).done (finished ∷ []) before one e) (λ other apart before one e. e)
 
-placed_ended : (state : State) (number : ℕ) (finished : Finished) → number < length state.sessions
+ranked_ended : (state : State) (number : ℕ) (finished : Finished) → number < length state.sessions
     → ((other : ℕ) → state.mark ≡ Some other → other ≡ number) → (state.mark ≡ Some number → finished.ending ≡ Committed (length state.order - 1))
-    → (rank : ℕ) (label : Label) → Placed state rank label
-    → Placed (moved_to state state.order None number (with_done state number finished)) rank label
-placed_ended state number finished there own commits rank label (ended before one e at is) =
+    → (rank : ℕ) (label : Label) → Ranked state rank label
+    → Ranked (moved_to state state.order None number (with_done state number finished)) rank label
+ranked_ended state number finished there own commits rank label (ended before one e at is) =
     ended before one e (done_kept state state.order None number finished there label.session before one at) is
-placed_ended state number finished there own commits rank label (entered m e r) =
+ranked_ended state number finished there own commits rank label (entered m e r) =
     let mine : label.session ≡ number = own label.session m in
     let last : length state.order - 1 ≡ rank = omega (arith, r) in
     ended (length (session_at state number).done) finished
     (e ∙ ap (λ (n : ℕ). suc (length (session_at state n).done)) mine)
-    (ap (λ (n : ℕ). slice_get (session_at (moved_to state state.order None number (with_done state number finished)) n).done (length (session_at state number).done)) mine
-    ∙ (ap (λ (session : Session). slice_get session.done (length (session_at state number).done)) (at_same state state.order None number (with_done state number finished) there)
+    (ap (λ (n : ℕ). slice_get (session_at (moved_to state state.order None number (with_done state number finished)) n).done
+        (length (session_at state number).done)) mine
+    ∙ (ap (λ (session : Session). slice_get session.done (length (session_at state number).done))
+        (at_same state state.order None number (with_done state number finished) there)
     ∙ last_item (session_at state number).done finished))
     (commits (m ∙ ap Some mine) ∙ ap Committed last)
 
@@ -209,7 +219,7 @@ fits_ended setting state number current ending fits there own commits is ends =
           (session_ended setting state.order state.mark number (session_at state number).done finished old.done old.climbs current present refl ends)
           (λ other apart. session_grows setting state.order state.order state.mark None other (session_at state other) (grows_not state.order)
           (λ m. apart (own other m)) (fits.sessions other));
-      placed = λ rank label e. placed_ended state number finished there own commits rank label (fits.placed rank label e);
+      ranked = λ rank label e. ranked_ended state number finished there own commits rank label (fits.ranked rank label e);
       marked = λ other e. absurd cc;
-      changes = fits.changes;
+      cells = fits.cells;
     }

@@ -1,5 +1,6 @@
 -- Whom a refusal names: a transaction of another session that the script has.
-use Rattle.std.proofs.Common.{◌≡◌, ℕ, zero, suc, ◌+◌, ◌<◌, ◌≤◌, List, [], ◌∷◌, Option, None, Some, Bool, true, false, not, length, drop, get_or, cond, refl, ap, sym, ◌∙◌, subst, arith, inl, inr, zero-add, add-zero}
+use Rattle.std.proofs.Common.{◌≡◌, ℕ, zero, suc, ◌+◌, ◌<◌, ◌≤◌, List, [], ◌∷◌, Option, None, Some, Bool, true, false, not, length, drop, get_or, cond, refl}
+use Rattle.std.proofs.Common.{ap, sym, ◌∙◌, subst, arith, inl, inr, zero-add, add-zero}
 use Rattle.std.specs.Prelude.{slice_get, ◌&&◌, ◌==◌}
 use Rattle.std.proofs.lemmas.Bool.{cases_Bool, eq-eqb}
 use Rattle.std.proofs.lemmas.Option.{same_Some, slice_get_within}
@@ -15,15 +16,8 @@ use Rattle.hy_machine.specs.Sessions.{fresh, session_at, label_of}
 use Rattle.hy_machine.specs.Holding.{holds, holder_from, changes_row, changer_at, opponent}
 use Rattle.hy_lawful.specs.Outcomes.{committed_at}
 use Rattle.hy_lawful.proofs.Lists.{or_some, chosen}
-use Rattle.hy_lawful.proofs.Fits.{label_at, HasTxn, reach, reach_of, top_of, Climbs, NowFits, SessionFits, Placed, ended, entered, NowStamps, Fits}
-
-and_left : (b c : Bool) → (b && c) ≡ true → b ≡ true
-and_left true c e = refl
-and_left false c e = absurd cc
-
-and_right : (b c : Bool) → (b && c) ≡ true → c ≡ true
-and_right true c e = e
-and_right false c e = absurd cc
+use Rattle.hy_lawful.proofs.Fits.{label_at, HasTxn, reach, reach_of, top_of, Climbs, NowFits, SessionFits, Ranked, ended, entered, NowStamps, Fits}
+use Rattle.hy_lawful.proofs.Booleans.{and_left, and_right}
 
 -- a holder is another session that holds the position
 pub holder_is : (P : Label → Type 0) (setting : Setting) (number table pos first : ℕ) (sessions : List Session) (label : Label)
@@ -32,7 +26,8 @@ pub holder_is : (P : Label → Type 0) (setting : Setting) (number table pos fir
 holder_is P setting number table pos first [] label f e = absurd cc
 holder_is P setting number table pos first (session ∷ sessions) label f e =
     elim (cases_Bool (not (first == number) && holds setting table pos session.now)) [
-      | inl t ↦ subst P (same_Some (label_of first session) label (ap (λ b. cond b (Some (label_of first session)) (holder_from setting number table pos (suc first) sessions)) (sym t) ∙ e))
+      | inl t ↦ subst P (same_Some (label_of first session) label
+          (ap (λ b. cond b (Some (label_of first session)) (holder_from setting number table pos (suc first) sessions)) (sym t) ∙ e))
           (subst (λ (n : ℕ). P (label_of n session)) (add-zero first)
           (f 0 (λ same. apart (first == number) (and_left (not (first == number)) (holds setting table pos session.now) t)
           (eq-eqb first number (let there : first ≡ number = omega arith in there)))
@@ -59,7 +54,8 @@ changer_is P table pos (entry ∷ entries) label f e = elim (or_some (last_some 
 pub label_dropped : (from : ℕ) (order : List Entry) (i : ℕ) → label_at (drop from order) i ≡ label_at order (from + i)
 label_dropped zero order i = ap (label_at order) (sym (zero-add i))
 label_dropped (suc from) [] i = refl
-label_dropped (suc from) (entry ∷ order) i = label_dropped from order i ∙ ap (label_at (entry ∷ order)) (let e : suc (from + i) ≡ suc from + i = omega arith in e)
+label_dropped (suc from) (entry ∷ order) i = label_dropped from order i ∙ ap (label_at (entry ∷ order))
+    (let e : suc (from + i) ≡ suc from + i = omega arith in e)
 
 -- what committed lies below the top
 climbs_over : (low : ℕ) (done : List Finished) → Climbs low done → low ≤ top_of low done
@@ -90,26 +86,27 @@ stamps_open None h e = h
 stamps_open (Some current) h e = absurd cc
 
 -- the script has each transaction whose entry stands in the commit order
-pub placed_has : (setting : Setting) (state : State) → Fits setting state → (rank : ℕ) (label : Label) → Placed state rank label → HasTxn setting label
-placed_has setting state fits rank label (ended before finished e at is) =
+pub ranked_has : (setting : Setting) (state : State) → Fits setting state → (rank : ℕ) (label : Label) → Ranked state rank label → HasTxn setting label
+ranked_has setting state fits rank label (ended before finished e at is) =
     let within : before < length (session_at state label.session).done = slice_get_within (session_at state label.session).done before finished at in
     record { first = omega (arith, e); few = omega (arith, e, within, (fits.sessions label.session).few) }
-placed_has setting state fits rank label (entered m e r) =
+ranked_has setting state fits rank label (entered m e r) =
     let has : HasTxn setting (label_of label.session (session_at state label.session)) =
-    open_has setting state.order state.mark label.session (session_at state label.session) (fits.sessions label.session) (session_at state label.session).now refl
+    open_has setting state.order state.mark label.session (session_at state label.session) (fits.sessions label.session)
+        (session_at state label.session).now refl
     (stamps_open (session_at state label.session).now (fits.marked label.session m)) in
     record { first = omega (arith, e); few = omega (arith, e, has.few) }
 
 -- an entry from the top of a session on is of another session, unless this one is marked
-pub placed_apart : (setting : Setting) (state : State) → Fits setting state → (number : ℕ) → (state.mark ≡ Some number → ⊥) → (rank : ℕ) (label : Label)
-    → top_of 0 (session_at state number).done ≤ rank → Placed state rank label → label.session ≡ number → ⊥
-placed_apart setting state fits number free rank label top (ended before finished e at is) same =
+pub ranked_apart : (setting : Setting) (state : State) → Fits setting state → (number : ℕ) → (state.mark ≡ Some number → ⊥) → (rank : ℕ) (label : Label)
+    → top_of 0 (session_at state number).done ≤ rank → Ranked state rank label → label.session ≡ number → ⊥
+ranked_apart setting state fits number free rank label top (ended before finished e at is) same =
     let over : reach_of finished ≤ top_of 0 (session_at state number).done =
     reached 0 (session_at state number).done (fits.sessions number).climbs before finished
     (ap (λ (n : ℕ). slice_get (session_at state n).done before) (sym same) ∙ at) in
     let here : reach_of finished ≡ suc rank = ap (λ ending. reach finished.begun.prefix (committed_at ending)) is in
     omega arith
-placed_apart setting state fits number free rank label top (entered m e r) same = free (m ∙ ap Some same)
+ranked_apart setting state fits number free rank label top (entered m e r) same = free (m ∙ ap Some same)
 
 -- a transaction of another session that the script has
 pub record IsRival (setting : Setting) (number : ℕ) (other : Label) : Type 0 where
@@ -130,10 +127,10 @@ opponent_is setting state fits number prefix table pos free top other e =
           })
           h
       | inr c ↦ changer_is (IsRival setting number) table pos (drop prefix state.order) other
-          (λ i one at. let placed : Placed state (prefix + i) one = fits.placed (prefix + i) one (sym (label_dropped prefix state.order i) ∙ at) in
+          (λ i one at. let ranked : Ranked state (prefix + i) one = fits.ranked (prefix + i) one (sym (label_dropped prefix state.order i) ∙ at) in
           record {
-            has = placed_has setting state fits (prefix + i) one placed;
-            apart = placed_apart setting state fits number free (prefix + i) one (omega arith) placed;
+            has = ranked_has setting state fits (prefix + i) one ranked;
+            apart = ranked_apart setting state fits number free (prefix + i) one (omega arith) ranked;
           })
           c
     ]

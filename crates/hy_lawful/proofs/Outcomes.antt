@@ -1,5 +1,6 @@
 -- The outcome of a state: its transactions one by one, and by their labels.
-use Rattle.std.proofs.Common.{◌≡◌, ℕ, zero, suc, ◌+◌, List, [], ◌∷◌, ◌++◌, None, Some, true, false, length, map, get_or, cond, refl, ap, sym, ◌∙◌, subst, arith, zero-add, add-zero}
+use Rattle.std.proofs.Common.{◌≡◌, ℕ, zero, suc, ◌+◌, List, [], ◌∷◌, ◌++◌, Option, None, Some, true, false, length, map, get_or, cond, refl, ap, sym, ◌∙◌, subst}
+use Rattle.std.proofs.Common.{arith, zero-add, add-zero}
 use Rattle.std.specs.Prelude.{slice_get, ◌==◌, ◌&&◌, find}
 use Rattle.std.specs.List.{AllByRecursion}
 use Rattle.std.specs.Option.{option_or, option_map}
@@ -33,11 +34,13 @@ each_of_session setting P number before [] f = tt
 each_of_session setting P number before (finished ∷ done) f = (
   subst (λ (n : ℕ). P (txn_outcome_of setting number n finished)) (add-zero before) (f 0 finished refl),
   each_of_session setting P number (suc before) done
-      (λ i one e. subst (λ (n : ℕ). P (txn_outcome_of setting number n one)) (let same : before + suc i ≡ suc before + i = omega arith in same) (f (suc i) one e)),
+      (λ i one e. subst (λ (n : ℕ). P (txn_outcome_of setting number n one)) (let same : before + suc i ≡ suc before + i = omega arith in same)
+          (f (suc i) one e)),
 )
 
 each_from : (setting : Setting) (P : TxnOutcome → Type 0) (first : ℕ) (sessions : List Session)
-    → ((i before : ℕ) (finished : Finished) → slice_get (get_or sessions i fresh).done before ≡ Some finished → P (txn_outcome_of setting (first + i) before finished))
+    → ((i before : ℕ) (finished : Finished) → slice_get (get_or sessions i fresh).done before ≡ Some finished
+        → P (txn_outcome_of setting (first + i) before finished))
     → AllByRecursion P (all_outcomes_from setting first sessions)
 each_from setting P first [] f = tt
 each_from setting P first (session ∷ sessions) f =
@@ -46,11 +49,13 @@ each_from setting P first (session ∷ sessions) f =
     subst (λ (n : ℕ). P (txn_outcome_of setting n (0 + i) finished)) (add-zero first)
     (subst (λ (n : ℕ). P (txn_outcome_of setting (first + 0) n finished)) (sym (zero-add i)) (f 0 i finished e))))
     (each_from setting P (suc first) sessions (λ i before finished e.
-    subst (λ (n : ℕ). P (txn_outcome_of setting n before finished)) (let same : first + suc i ≡ suc first + i = omega arith in same) (f (suc i) before finished e)))
+    subst (λ (n : ℕ). P (txn_outcome_of setting n before finished)) (let same : first + suc i ≡ suc first + i = omega arith in same)
+        (f (suc i) before finished e)))
 
 -- what holds of each transaction that has ended holds of all in the outcome
 pub each_outcome : (setting : Setting) (P : TxnOutcome → Type 0) (state : State)
-    → ((number before : ℕ) (finished : Finished) → slice_get (session_at state number).done before ≡ Some finished → P (txn_outcome_of setting number before finished))
+    → ((number before : ℕ) (finished : Finished) → slice_get (session_at state number).done before ≡ Some finished
+        → P (txn_outcome_of setting number before finished))
     → AllByRecursion P (outcome_of setting state).txns
 each_outcome setting P state f = each_from setting P 0 state.sessions
     (λ i before finished e. subst (λ (n : ℕ). P (txn_outcome_of setting n before finished)) (sym (zero-add i)) (f i before finished e))
@@ -77,52 +82,63 @@ label_committed (entry ∷ order) (suc rank) = label_committed order rank
 
 -- ---- by label
 
-label_is : (number before m : ℕ) → before ≡ m → is_label (record { session = number; txn = suc before }) (record { session = number; txn = suc m }) ≡ true
+-- the transaction of a label among these
+abbrev named : Label → List TxnOutcome → Option TxnOutcome
+named label txns = find (λ (txn : TxnOutcome). is_label txn.label label) txns
+
+-- a label, by the transactions before it in its session
+abbrev label_behind : ℕ → ℕ → Label
+label_behind number before = record { session = number; txn = suc before }
+
+label_is : (number before m : ℕ) → before ≡ m → is_label (label_behind number before) (label_behind number m) ≡ true
 label_is number before m e =
     let same : suc before ≡ suc m = ap suc e in
     ap (λ b. b && (suc before == suc m)) (eq-eqb number number refl) ∙ eq-eqb (suc before) (suc m) same
 
-label_is_not : (number before m : ℕ) → (before ≡ m → ⊥) → is_label (record { session = number; txn = suc before }) (record { session = number; txn = suc m }) ≡ false
+label_is_not : (number before m : ℕ) → (before ≡ m → ⊥) → is_label (label_behind number before) (label_behind number m) ≡ false
 label_is_not number before m n =
     ap (λ b. b && (suc before == suc m)) (eq-eqb number number refl) ∙ ne_eqb (suc before) (suc m) (λ e. n (omega arith))
 
 found_in : (setting : Setting) (number before : ℕ) (done : List Finished) (i m : ℕ) (finished : Finished) → m ≡ before + i → slice_get done i ≡ Some finished
-    → find (λ (txn : TxnOutcome). is_label txn.label (record { session = number; txn = suc m })) (outcomes_from setting number before done)
-    ≡ Some (txn_outcome_of setting number m finished)
+    → named (label_behind number m) (outcomes_from setting number before done) ≡ Some (txn_outcome_of setting number m finished)
 found_in setting number before [] i m finished e at = absurd cc
 found_in setting number before (first ∷ done) zero m finished e at =
     let here : before ≡ m = omega arith in
-    ap (λ b. cond b (Some (txn_outcome_of setting number before first)) (find (λ (txn : TxnOutcome). is_label txn.label (record { session = number; txn = suc m })) (outcomes_from setting number (suc before) done)))
+    ap (λ b. cond b (Some (txn_outcome_of setting number before first)) (named (label_behind number m) (outcomes_from setting number (suc before) done)))
     (label_is number before m here)
-    ∙ (ap (λ (n : ℕ). Some (txn_outcome_of setting number n first)) here ∙ ap (λ (one : Finished). Some (txn_outcome_of setting number m one)) (same_Some first finished at))
+    ∙ (ap (λ (n : ℕ). Some (txn_outcome_of setting number n first)) here
+    ∙ ap (λ (one : Finished). Some (txn_outcome_of setting number m one)) (same_Some first finished at))
 found_in setting number before (first ∷ done) (suc i) m finished e at =
-    ap (λ b. cond b (Some (txn_outcome_of setting number before first)) (find (λ (txn : TxnOutcome). is_label txn.label (record { session = number; txn = suc m })) (outcomes_from setting number (suc before) done)))
+    ap (λ b. cond b (Some (txn_outcome_of setting number before first)) (named (label_behind number m) (outcomes_from setting number (suc before) done)))
     (label_is_not number before m (λ same. omega arith))
     ∙ found_in setting number (suc before) done i m finished (omega arith) at
 
 none_in : (setting : Setting) (number before : ℕ) (done : List Finished) (label : Label) → (number ≡ label.session → ⊥)
-    → find (λ (txn : TxnOutcome). is_label txn.label label) (outcomes_from setting number before done) ≡ None
+    → named label (outcomes_from setting number before done) ≡ None
 none_in setting number before [] label n = refl
 none_in setting number before (first ∷ done) label n =
-    ap (λ b. cond (b && (suc before == label.txn)) (Some (txn_outcome_of setting number before first)) (find (λ (txn : TxnOutcome). is_label txn.label label) (outcomes_from setting number (suc before) done)))
+    ap (λ b. cond (b && (suc before == label.txn)) (Some (txn_outcome_of setting number before first))
+        (named label (outcomes_from setting number (suc before) done)))
     (ne_eqb number label.session n)
     ∙ none_in setting number (suc before) done label n
 
+named_append : (label : Label) (txns others : List TxnOutcome) → named label (txns ++ others) ≡ option_or (named label txns) (named label others)
+named_append label txns others = find-append (λ (txn : TxnOutcome). is_label txn.label label) txns others
+
 found_from : (setting : Setting) (first : ℕ) (sessions : List Session) (i n before : ℕ) (finished : Finished) → n ≡ first + i
     → slice_get (get_or sessions i fresh).done before ≡ Some finished
-    → find (λ (txn : TxnOutcome). is_label txn.label (record { session = n; txn = suc before })) (all_outcomes_from setting first sessions)
-    ≡ Some (txn_outcome_of setting n before finished)
+    → named (label_behind n before) (all_outcomes_from setting first sessions) ≡ Some (txn_outcome_of setting n before finished)
 found_from setting first [] i n before finished e at = absurd cc
 found_from setting first (session ∷ sessions) zero n before finished e at =
     let here : first ≡ n = omega arith in
-    subst (λ (m : ℕ). find (λ (txn : TxnOutcome). is_label txn.label (record { session = m; txn = suc before })) (all_outcomes_from setting first (session ∷ sessions)) ≡ Some (txn_outcome_of setting m before finished))
-    here
-    (find-append (λ (txn : TxnOutcome). is_label txn.label (record { session = first; txn = suc before })) (outcomes_from setting first 0 session.done) (all_outcomes_from setting (suc first) sessions)
-    ∙ ap (λ o. option_or o (find (λ (txn : TxnOutcome). is_label txn.label (record { session = first; txn = suc before })) (all_outcomes_from setting (suc first) sessions)))
+    subst (λ (m : ℕ). named (label_behind m before) (all_outcomes_from setting first (session ∷ sessions)) ≡ Some
+        (txn_outcome_of setting m before finished)) here
+    (named_append (label_behind first before) (outcomes_from setting first 0 session.done) (all_outcomes_from setting (suc first) sessions)
+    ∙ ap (λ o. option_or o (named (label_behind first before) (all_outcomes_from setting (suc first) sessions)))
     (found_in setting first 0 session.done before before finished (sym (zero-add before)) at))
 found_from setting first (session ∷ sessions) (suc i) n before finished e at =
-    find-append (λ (txn : TxnOutcome). is_label txn.label (record { session = n; txn = suc before })) (outcomes_from setting first 0 session.done) (all_outcomes_from setting (suc first) sessions)
-    ∙ (none_or _ _ (none_in setting first 0 session.done (record { session = n; txn = suc before }) (λ same. omega arith))
+    named_append (label_behind n before) (outcomes_from setting first 0 session.done) (all_outcomes_from setting (suc first) sessions)
+    ∙ (none_or _ _ (none_in setting first 0 session.done (label_behind n before) (λ same. omega arith))
     ∙ found_from setting (suc first) sessions i n before finished (omega arith) at)
 
 -- an outcome has each transaction that has ended, by its label
@@ -151,5 +167,6 @@ labels_all setting first [] (txns ∷ programs) e f = absurd (omega arith)
 labels_all setting first (session ∷ sessions) [] e f = absurd (omega arith)
 labels_all setting first (session ∷ sessions) (txns ∷ programs) e f =
     map-append (λ (txn : TxnOutcome). txn.label) (outcomes_from setting first 0 session.done) (all_outcomes_from setting (suc first) sessions)
-    ∙ (ap (λ (labels : List Label). labels ++ map (λ (txn : TxnOutcome). txn.label) (all_outcomes_from setting (suc first) sessions)) (labels_in setting first 0 session.done txns (f 0))
+    ∙ (ap (λ (labels : List Label). labels ++ map (λ (txn : TxnOutcome). txn.label) (all_outcomes_from setting (suc first) sessions))
+        (labels_in setting first 0 session.done txns (f 0))
     ∙ ap (λ (labels : List Label). labels_of first 1 txns ++ labels) (labels_all setting (suc first) sessions programs (omega arith) (λ i. f (suc i))))

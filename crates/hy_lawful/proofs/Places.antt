@@ -1,6 +1,7 @@
 -- The places of what stands at positions of tables are positions, in order.
-use Rattle.std.proofs.Common.{◌≡◌, ℕ, suc, ◌+◌, ◌*◌, ◌<◌, ◌≤◌, List, [], ◌∷◌, ◌++◌, Option, None, Some, Bool, true, false, length, refl, ap, sym, ◌∙◌, subst, arith, inl, inr, ◌⊎◌}
-use Rattle.std.specs.Prelude.{◌&&◌, ◌||◌, ◌==◌, nat_lt}
+use Rattle.std.proofs.Common.{◌≡◌, ℕ, suc, ◌+◌, ◌*◌, ◌<◌, ◌≤◌, List, [], ◌∷◌, ◌++◌, Option, None, Some, true, length, refl, ap, sym, ◌∙◌, subst}
+use Rattle.std.proofs.Common.{arith, inl, inr, ◌⊎◌}
+use Rattle.std.specs.Prelude.{◌&&◌, ◌==◌, nat_lt}
 use Rattle.std.specs.List.{AllByRecursion, list_all}
 use Rattle.std.proofs.lemmas.Bool.{eq-eqb, lt-ltb}
 use Rattle.std.proofs.lemmas.List.Folds.{list_all-append}
@@ -15,18 +16,7 @@ use Rattle.hy_machine.specs.Writes.{place_at, written}
 use Rattle.hy_machine.specs.Validation.{change_between, change_at, committed_of}
 use Rattle.hy_lawful.specs.Positions.{places_of, is_position, comes_before, ascend, ArePositions}
 use Rattle.hy_lawful.proofs.Fits.{FitsTables}
-
-and_true : (b c : Bool) → b ≡ true → c ≡ true → (b && c) ≡ true
-and_true true c e f = f
-and_true false c e f = absurd cc
-
-or_first : (b c : Bool) → b ≡ true → (b || c) ≡ true
-or_first true c e = refl
-or_first false c e = absurd cc
-
-or_second : (b c : Bool) → c ≡ true → (b || c) ≡ true
-or_second true c e = refl
-or_second false c e = e
+use Rattle.hy_lawful.proofs.Booleans.{and_true, or_first, or_second}
 
 -- a place is at a position of a table or behind it
 abbrev IsFrom : ℕ → ℕ → Place → Type 0
@@ -42,7 +32,8 @@ before_is place other (inl h) =
     or_first (nat_lt place.table other.table) (place.table == other.table && nat_lt place.pos other.pos) (lt-ltb place.table other.table h)
 before_is place other (inr h) =
     or_second (nat_lt place.table other.table) (place.table == other.table && nat_lt place.pos other.pos)
-    (and_true (place.table == other.table) (nat_lt place.pos other.pos) (eq-eqb place.table other.table h.0) (lt-ltb place.pos other.pos (omega (arith, h.1))))
+    (and_true (place.table == other.table) (nat_lt place.pos other.pos) (eq-eqb place.table other.table h.0)
+        (lt-ltb place.pos other.pos (omega (arith, h.1))))
 
 ascends : (table pos : ℕ) (places : List Place) → Rises table pos places → ascend places ≡ true
 ascends table pos [] r = refl
@@ -84,7 +75,8 @@ positions_rise f one table pos (Some item ∷ items) rest r =
           (let here : pos ≤ pos = omega arith in (inr (refl, here), later))
     ]
 
-tables_rise : {A : Type 0} (f : ℕ → ℕ → A → List Place) → GivesPlaces f → (table : ℕ) (lists : List (List (Option A))) → Rises table 0 (by_table f table lists)
+tables_rise : {A : Type 0} (f : ℕ → ℕ → A → List Place) → GivesPlaces f → (table : ℕ) (lists : List (List (Option A)))
+    → Rises table 0 (by_table f table lists)
 tables_rise f one table [] = tt
 tables_rise f one table (items ∷ lists) = positions_rise f one table 0 items (by_table f (suc table) lists) (tables_rise f one (suc table) lists)
 
@@ -96,7 +88,8 @@ given_there setting f one table pos item t p = elim (one table pos item) [
   | inl e ↦ ap (list_all (is_position setting)) e
   | inr e ↦ ap (list_all (is_position setting)) e
       ∙ and_true (is_position setting (record { table = table; pos = pos })) true
-      (and_true (nat_lt table (length setting.first)) (nat_lt pos (setting.chunks * setting.rows)) (lt-ltb table (length setting.first) t) (lt-ltb pos (setting.chunks * setting.rows) p))
+      (and_true (nat_lt table (length setting.first)) (nat_lt pos (setting.chunks * setting.rows)) (lt-ltb table (length setting.first) t)
+          (lt-ltb pos (setting.chunks * setting.rows) p))
       refl
 ]
 
@@ -133,18 +126,21 @@ written_positions setting own h = are_positions setting place_at (λ table pos c
 
 places_append : (changes others : List Change) → places_of (changes ++ others) ≡ places_of changes ++ places_of others
 places_append [] others = refl
-places_append (change ∷ changes) others = ap (λ (places : List Place). record { table = change.table; pos = change.pos } ∷ places) (places_append changes others)
+places_append (change ∷ changes) others = ap (λ (places : List Place). record { table = change.table; pos = change.pos } ∷ places)
+    (places_append changes others)
 
 abbrev changed_at : ℕ → ℕ → Pair → List Place
 changed_at table pos pair = places_of (change_at table pos pair)
 
 gives_between : (table pos : ℕ) (before after : Cell)
-    → (places_of (change_between table pos before after) ≡ []) ⊎ (places_of (change_between table pos before after) ≡ record { table = table; pos = pos } ∷ [])
+    → (places_of (change_between table pos before after) ≡ [])
+    ⊎ (places_of (change_between table pos before after) ≡ record { table = table; pos = pos } ∷ [])
 gives_between table pos None None = inl refl
 gives_between table pos None (Some after) = inr refl
 gives_between table pos (Some before) after = inr refl
 
-places_in_table : (table pos : ℕ) (items : List (Option Pair)) → places_of (by_position (change_at table) pos items) ≡ by_position (changed_at table) pos items
+places_in_table : (table pos : ℕ) (items : List (Option Pair))
+    → places_of (by_position (change_at table) pos items) ≡ by_position (changed_at table) pos items
 places_in_table table pos [] = refl
 places_in_table table pos (None ∷ items) = places_in_table table (suc pos) items
 places_in_table table pos (Some pair ∷ items) =

@@ -37,9 +37,9 @@ opening_fits : (setting : Setting) → Fits setting (opening_of setting)
 opening_fits setting = record {
   count = length-map setting.programs (λ (txns : List Txn). fresh);
   sessions = λ number. subst (SessionFits setting [] None number) (sym (fresh_at setting number)) (fresh_fits setting number);
-  placed = λ rank label e. absurd cc;
+  ranked = λ rank label e. absurd cc;
   marked = λ number e. absurd cc;
-  changes = tt;
+  cells = tt;
 }
 
 -- ---- steps
@@ -58,7 +58,7 @@ goes_on : (setting : Setting) (state : State) (number : ℕ) (current new : Open
 goes_on setting state number current new o same own phase marked = fits_now setting state number (Some new) o.fits o.there
     (record {
       there = o.open_fits.there;
-      low = omega (arith, o.open_fits.low, same);
+      above = omega (arith, o.open_fits.above, same);
       start = omega (arith, o.open_fits.start, same);
       own = own;
       phase = phase;
@@ -75,7 +75,7 @@ enters setting state number current o h =
     fits_entered setting state number current.begun (Some (after_visit [] (Stamping 0) current)) o.fits o.there h.1
     (record {
       there = o.open_fits.there;
-      low = o.open_fits.low;
+      above = o.open_fits.above;
       start = omega (arith, o.open_fits.start);
       own = o.open_fits.own;
       phase = (
@@ -99,20 +99,24 @@ turn_fits setting state number current o Done h = absurd h
 turn_fits setting state number current o (Waits by) h = o.fits
 turn_fits setting state number current o Begins h = absurd h
 turn_fits setting state number current o (Visits writes phase) h =
-    subst (λ (now : Option Open). Fits setting (with_session state number (record { done = (session_at state number).done; now = option_map (after_visit writes phase) now })))
+    subst (λ (now : Option Open). Fits setting
+        (with_session state number (record { done = (session_at state number).done; now = option_map (after_visit writes phase) now })))
     (sym o.is)
     (goes_on setting state number current (after_visit writes phase current) o refl (writes_fit setting current.begun.own writes o.open_fits.own) h.0 h.1)
 turn_fits setting state number current o (Answers writes reply took records) h =
-    subst (λ (now : Option Open). Fits setting (with_session state number (record { done = (session_at state number).done; now = option_map (after_answer writes reply took records) now })))
+    subst (λ (now : Option Open). Fits setting
+        (with_session state number (record { done = (session_at state number).done; now = option_map (after_answer writes reply took records) now })))
     (sym o.is)
-    (goes_on setting state number current (after_answer writes reply took records current) o refl (writes_fit setting current.begun.own writes o.open_fits.own)
+    (goes_on setting state number current (after_answer writes reply took records current) o refl
+        (writes_fit setting current.begun.own writes o.open_fits.own)
     (omega (arith, h.0, length-append current.begun.replies (reply ∷ []))) (λ e. absurd (h.1 e)))
 turn_fits setting state number current o Enters h =
     subst (λ (now : Option Open). Fits setting (moved_to state (order_with setting state number now) (Some number) number
     (record { done = (session_at state number).done; now = option_map (after_visit [] (Stamping 0)) now })))
     (sym o.is) (enters setting state number current o h)
 turn_fits setting state number current o (Ends ending) h =
-    subst (λ (now : Option Open). Fits setting (moved_to state state.order None number (record { done = done_with ending (session_at state number).done now; now = None })))
+    subst (λ (now : Option Open). Fits setting
+        (moved_to state state.order None number (record { done = done_with ending (session_at state number).done now; now = None })))
     (sym o.is) (fits_ended setting state number current ending o.fits o.there h.1 h.2 o.is h.0)
 
 -- a transaction begins
@@ -123,14 +127,15 @@ begins setting state number fits there more none =
     fits_now setting state number (Some (record { begun = beginning setting state; phase = Working 0 0 })) fits there
     (record {
       there = more;
-      low = (fits.sessions number).top;
+      above = (fits.sessions number).top;
       start = omega arith;
       own = blank_fits setting;
       phase = omega arith;
     })
     (λ e. absurd (subst NowStamps none (fits.marked number e)))
 
-begins_unless : (setting : Setting) (state : State) (number : ℕ) (by : Option Label) → Fits setting state → Fits setting (after_turn setting state number Begins).0
+begins_unless : (setting : Setting) (state : State) (number : ℕ) (by : Option Label) → Fits setting state
+    → Fits setting (after_turn setting state number Begins).0
     → Fits setting (after_turn setting state number (unless_blocked by Begins)).0
 begins_unless setting state number None fits h = h
 begins_unless setting state number (Some by) fits h = fits
@@ -146,7 +151,8 @@ is_there setting state number txn fits e = elim (cases_lt number (length state.s
 ]
 
 session_fits : (setting : Setting) (state : State) (number : ℕ) (txn : Txn) → Fits setting state → txn_at setting number (session_at state number) ≡ Some txn
-    → (now : Option Open) → (session_at state number).now ≡ now → Fits setting (after_turn setting state number (session_turn setting state number (Some txn) now)).0
+    → (now : Option Open) → (session_at state number).now ≡ now
+        → Fits setting (after_turn setting state number (session_turn setting state number (Some txn) now)).0
 session_fits setting state number txn fits e None is =
     begins_unless setting state number (blocker state number) fits
     (begins setting state number fits (is_there setting state number txn fits e)
@@ -157,7 +163,7 @@ session_fits setting state number txn fits e (Some current) is =
     turn_fits setting state number current
     (record { fits = fits; there = is_there setting state number txn fits e; is = is; open_fits = present })
     (phase_turn setting state number txn current.begun current.phase)
-    (phase_fits setting state fits number txn current.begun e present.low current.phase present.phase (λ m. subst NowStamps is (fits.marked number m)))
+    (phase_fits setting state fits number txn current.begun e present.above current.phase present.phase (λ m. subst NowStamps is (fits.marked number m)))
 
 by_txn : (setting : Setting) (state : State) (number : ℕ) → Fits setting state → (txn : Option Txn) → txn_at setting number (session_at state number) ≡ txn
     → Fits setting (after_turn setting state number (session_turn setting state number txn (session_at state number).now)).0

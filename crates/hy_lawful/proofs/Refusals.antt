@@ -38,7 +38,8 @@ none_new : (kind : WriteKind) (row : List Value) → new_cell kind row ≡ None 
 none_new (kind.Set sets) row e = tt
 none_new kind.Delete row e = absurd cc
 
-judged_refuses : (kind : WriteKind) (table pos : ℕ) (opponent : Option Label) (row : List Value) (cell : Option Cell) (cause : Cause) → new_cell kind row ≡ cell
+judged_refuses : (kind : WriteKind) (table pos : ℕ) (opponent : Option Label) (row : List Value) (cell : Option Cell) (cause : Cause)
+    → new_cell kind row ≡ cell
     → judged table pos opponent cell ≡ Err cause → Refuses kind table pos opponent cause
 judged_refuses kind table pos (Some other) row cell cause n e =
     let same : Conflict table pos other ≡ cause = cc in subst (Refuses kind table pos (Some other)) same (refl, refl)

@@ -1,5 +1,6 @@
 -- What a transaction writes fits the tables, and its places are positions, in order.
-use Rattle.std.proofs.Common.{◌≡◌, ℕ, zero, suc, ◌<◌, ◌≤◌, List, [], ◌∷◌, ◌++◌, Option, None, Some, Bool, true, false, not, length, map, get_or, replicate, is_some, refl, ap, sym, ◌∙◌, arith, inl, inr}
+use Rattle.std.proofs.Common.{◌≡◌, ℕ, zero, suc, ◌<◌, ◌≤◌, List, [], ◌∷◌, ◌++◌, Option, None, Some, true, false, length, map, get_or, replicate}
+use Rattle.std.proofs.Common.{is_some, refl, ap, sym, ◌∙◌, arith, inl, inr}
 use Rattle.std.proofs.Math.ListN.{set}
 use Rattle.std.specs.Prelude.{◌||◌}
 use Rattle.std.specs.List.{AllByRecursion, list_any}
@@ -17,6 +18,7 @@ use Rattle.hy_machine.specs.Tables.{Cell, Tables, Own, capacity}
 use Rattle.hy_machine.specs.Writes.{blank_own, with_write, with_writes, wrote_nothing, place_at, written}
 use Rattle.hy_machine.specs.Sessions.{pairs_from, entry_cells, entry_of, snapshot}
 use Rattle.hy_lawful.proofs.Fits.{FitsTables}
+use Rattle.hy_lawful.proofs.Booleans.{or_left, or_right, not_false, not_true}
 
 -- ---- what a transaction writes fits the tables
 
@@ -33,7 +35,8 @@ got_of P (y ∷ xs) (suc i) x h p = got_of P xs i x h.1 p
 write_fits : (setting : Setting) (own : Own) (write : Write) → FitsTables setting own → FitsTables setting (with_write own write)
 write_fits setting own write h = record {
   tables = omega (arith, h.tables, length-set own write.table (set (get_or own write.table []) write.pos (Some write.cell)));
-  positions = set_all (λ (items : List (Option Cell)). length items ≤ capacity setting) own write.table (set (get_or own write.table []) write.pos (Some write.cell)) h.positions
+  positions = set_all (λ (items : List (Option Cell)). length items ≤ capacity setting) own write.table
+      (set (get_or own write.table []) write.pos (Some write.cell)) h.positions
       (omega (
         arith,
         length-set (get_or own write.table []) write.pos (Some write.cell),
@@ -84,14 +87,6 @@ entry_fits setting state number begun h = record {
 
 -- ---- whether something was written
 
-or_left : (b c : Bool) → (b || c) ≡ false → b ≡ false
-or_left true c e = absurd cc
-or_left false c e = refl
-
-or_right : (b c : Bool) → (b || c) ≡ false → c ≡ false
-or_right true c e = absurd cc
-or_right false c e = e
-
 no_places : (table pos : ℕ) (cells : List (Option Cell)) → list_any is_some cells ≡ false → by_position (place_at table) pos cells ≡ []
 no_places table pos [] h = refl
 no_places table pos (None ∷ cells) h = no_places table (suc pos) cells h
@@ -105,7 +100,8 @@ some_places table pos (Some cell ∷ cells) h = omega arith
 none_from : (table : ℕ) (own : Own) → list_any (list_any is_some) own ≡ false → by_table place_at table own ≡ []
 none_from table [] h = refl
 none_from table (cells ∷ own) h =
-    ap (λ (places : List Place). places ++ by_table place_at (suc table) own) (no_places table 0 cells (or_left (list_any is_some cells) (list_any (list_any is_some) own) h))
+    ap (λ (places : List Place). places ++ by_table place_at (suc table) own)
+        (no_places table 0 cells (or_left (list_any is_some cells) (list_any (list_any is_some) own) h))
     ∙ none_from (suc table) own (or_right (list_any is_some cells) (list_any (list_any is_some) own) h)
 
 some_from : (table : ℕ) (own : Own) → list_any (list_any is_some) own ≡ true → 0 < length (by_table place_at table own)
@@ -118,14 +114,6 @@ some_from table (cells ∷ own) h = elim (cases_Bool (list_any is_some cells)) [
     length-append (by_position (place_at table) 0 cells) (by_table place_at (suc table) own),
   )
 ]
-
-not_false : (b : Bool) → not b ≡ false → b ≡ true
-not_false true e = refl
-not_false false e = absurd cc
-
-not_true : (b : Bool) → not b ≡ true → b ≡ false
-not_true true e = absurd cc
-not_true false e = refl
 
 pub nothing_written : (own : Own) → wrote_nothing own ≡ true → length (written own) ≡ 0
 nothing_written own e = ap length (none_from 0 own (not_true (list_any (list_any is_some) own) e))

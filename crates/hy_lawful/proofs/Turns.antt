@@ -1,5 +1,6 @@
 -- What a session's turn makes of its open transaction fits.
-use Rattle.std.proofs.Common.{◌≡◌, ℕ, suc, ◌+◌, ◌-◌, ◌*◌, ◌<◌, ◌≤◌, List, [], Option, None, Some, Bool, true, false, not, Result, Ok, Err, length, drop, map, cond, ltb, refl, ap, sym, ◌∙◌, subst, arith, inl, inr}
+use Rattle.std.proofs.Common.{◌≡◌, ℕ, suc, ◌+◌, ◌-◌, ◌*◌, ◌<◌, ◌≤◌, List, [], Option, None, Some, Bool, true, false, not, Result, Ok, Err, length, drop, map}
+use Rattle.std.proofs.Common.{cond, ltb, refl, ap, sym, ◌∙◌, subst, arith, inl, inr}
 use Rattle.std.specs.Prelude.{slice_get, ◌==◌}
 use Rattle.std.proofs.lemmas.Bool.{cases_Bool, eq-eqb, eqb-true, ne_eqb}
 use Rattle.std.proofs.lemmas.Option.{same_Some, slice_get_within}
@@ -33,7 +34,8 @@ use Rattle.hy_machine.specs.Positions.{item_at}
 use Rattle.hy_machine.specs.Holding.{opponent}
 use Rattle.hy_machine.specs.Validation.{committed_of, first_hit}
 use Rattle.hy_machine.specs.Visits.{verdict_at, swept, sees_key, free_position, checks_of}
-use Rattle.hy_machine.specs.Turns.{rows_seen, read_turn, write_turn, check_turn, place_turn, insert_turn, statement_turn, ending_of, unless_blocked, undo_turn, stamp_turn, validated_turn, commit_turn, closing_turn, working_turn, phase_turn}
+use Rattle.hy_machine.specs.Turns.{rows_seen, read_turn, write_turn, check_turn, place_turn, insert_turn, statement_turn, ending_of, unless_blocked}
+use Rattle.hy_machine.specs.Turns.{undo_turn, stamp_turn, validated_turn, commit_turn, closing_turn, working_turn, phase_turn}
 use Rattle.hy_machine.specs.Outcomes.{txn_outcome_of}
 use Rattle.hy_lawful.specs.Scripts.{statements_in, statements_of, txn_of, ClosesWithCommit, ClosesWithRollback}
 use Rattle.hy_lawful.specs.Endings.{updates, changes_rows, inserts, EndsCommitted}
@@ -77,7 +79,7 @@ FitsTurn setting state number begun (Ends ending) =
 -- an open transaction whose entry does not stand in the commit order
 pub record Works (setting : Setting) (state : State) (number : ℕ) (begun : Begun) : Type 0 where
   pub fits : Fits setting state
-  pub low : top_of 0 (session_at state number).done ≤ begun.prefix
+  pub above : top_of 0 (session_at state number).done ≤ begun.prefix
   pub free : state.mark ≡ Some number → ⊥
 
 -- the statements of a session's open transaction
@@ -110,7 +112,8 @@ answers_fit : (setting : Setting) (state : State) (number : ℕ) (begun : Begun)
 answers_fit setting state number begun statement n = (few_answered setting state number begun statement n, n.works.free)
 
 read_fits : (setting : Setting) (state : State) (number : ℕ) (begun : Begun) (visited tables : ℕ) (statement : Bound) (gathered : List (List (List Value)))
-    (reply : Reply) → IsNext setting state number begun statement → FitsTurn setting state number begun (read_turn setting begun visited tables statement gathered reply)
+    (reply : Reply) → IsNext setting state number begun statement → FitsTurn setting state number begun
+        (read_turn setting begun visited tables statement gathered reply)
 read_fits setting state number begun visited tables statement gathered reply n = elim (cases_Bool (ltb (suc visited) (setting.chunks * tables))) [
   | inl t ↦ rw t (goes_on_fits setting state number begun statement [] (suc visited) 0 n)
   | inr f ↦ rw f (answers_fit setting state number begun statement n)
@@ -124,7 +127,7 @@ refusal_ends : (setting : Setting) (state : State) (number : ℕ) (begun : Begun
 refusal_ends setting state number begun statement kind table pos n changes sets RolledBack r = absurd r
 refusal_ends setting state number begun statement kind table pos n changes sets (Conflict of at other) r =
     let rival : IsRival setting number other =
-    opponent_is setting state n.works.fits number begun.prefix table pos n.works.free n.works.low other r.1 in
+    opponent_is setting state n.works.fits number begun.prefix table pos n.works.free n.works.above other r.1 in
     record {
       changes = ap (changes_rows of) n.here ∙ (ap (λ (t : ℕ). changes_rows t (Some statement)) (sym r.0) ∙ changes);
       has = rival.has;
@@ -135,7 +138,8 @@ refusal_ends setting state number begun statement kind table pos n changes sets 
     ap (updates of) n.here ∙ (ap (λ (t : ℕ). updates t (Some statement)) (sym r.0) ∙ sets r.1)
 refusal_ends setting state number begun statement kind table pos n changes sets (Full of) r = absurd r
 
-write_fits : (setting : Setting) (state : State) (number : ℕ) (begun : Begun) (visited count : ℕ) (statement : Bound) (kind : WriteKind) (pred : Condition) (table : ℕ)
+write_fits : (setting : Setting) (state : State) (number : ℕ) (begun : Begun) (visited count : ℕ) (statement : Bound) (kind : WriteKind) (pred : Condition)
+    (table : ℕ)
     → IsNext setting state number begun statement → changes_rows table (Some statement) ≡ true → (IsSet kind → updates table (Some statement) ≡ true)
     → (writes : Result (List Write) Cause) → swept setting state number begun kind pred table visited ≡ writes
     → FitsTurn setting state number begun (write_turn setting begun visited count statement kind writes)
@@ -146,7 +150,8 @@ write_fits setting state number begun visited count statement kind pred table n 
     (λ pos one refused. refusal_ends setting state number begun statement kind table pos n changes sets one
     (verdict_refuses kind pred table pos (opponent setting state number begun.prefix table pos) (item_at (view setting state begun) table pos) one refused))
     e)
-write_fits setting state number begun visited count statement kind pred table n changes sets (Ok writes) e = elim (cases_Bool (ltb (suc visited) setting.chunks)) [
+write_fits setting state number begun visited count statement kind pred table n changes sets (Ok writes) e =
+    elim (cases_Bool (ltb (suc visited) setting.chunks)) [
   | inl t ↦ rw t (goes_on_fits setting state number begun statement writes (suc visited) (count + length writes) n)
   | inr f ↦ rw f (answers_fit setting state number begun statement n)
 ]
@@ -157,7 +162,8 @@ check_fits setting state number begun visited statement true n = answers_fit set
 check_fits setting state number begun visited statement false n = goes_on_fits setting state number begun statement [] (suc visited) 0 n
 
 place_fits : (setting : Setting) (state : State) (number : ℕ) (begun : Begun) (visited chunk table : ℕ) (row : List Value) (pos : Option ℕ)
-    → IsNext setting state number begun (Insert table row) → FitsTurn setting state number begun (place_turn setting begun visited chunk (Insert table row) table row pos)
+    → IsNext setting state number begun (Insert table row) → FitsTurn setting state number begun
+        (place_turn setting begun visited chunk (Insert table row) table row pos)
 place_fits setting state number begun visited chunk table row (Some pos) n = answers_fit setting state number begun (Insert table row) n
 place_fits setting state number begun visited chunk table row None n = elim (cases_Bool (ltb (suc chunk) setting.chunks)) [
   | inl t ↦ rw t (goes_on_fits setting state number begun (Insert table row) [] (suc visited) 0 n)
@@ -165,7 +171,8 @@ place_fits setting state number begun visited chunk table row None n = elim (cas
 ]
 
 insert_fits : (setting : Setting) (state : State) (number : ℕ) (begun : Begun) (visited table : ℕ) (row : List Value) (key : Option ℕ)
-    → IsNext setting state number begun (Insert table row) → FitsTurn setting state number begun (insert_turn setting state begun visited (Insert table row) table row key)
+    → IsNext setting state number begun (Insert table row) → FitsTurn setting state number begun
+        (insert_turn setting state begun visited (Insert table row) table row key)
 insert_fits setting state number begun visited table row key n = elim (cases_Bool (ltb visited (checks_of setting key))) [
   | inl t ↦ rw t (check_fits setting state number begun visited (Insert table row) (sees_key setting state begun table row key visited) n)
   | inr f ↦ rw f (place_fits setting state number begun visited (visited - checks_of setting key) table row
@@ -183,7 +190,8 @@ statement_fits setting state number begun visited count (Group table pred key ag
 statement_fits setting state number begun visited count (Insert table row) n =
     insert_fits setting state number begun visited table row (shape_of setting.shapes table).key n
 statement_fits setting state number begun visited count (Update table sets pred) n =
-    write_fits setting state number begun visited count (Update table sets pred) (kind.Set sets) pred table n (eq-eqb table table refl) (λ s. eq-eqb table table refl)
+    write_fits setting state number begun visited count (Update table sets pred) (kind.Set sets) pred table n (eq-eqb table table refl)
+        (λ s. eq-eqb table table refl)
     (swept setting state number begun (kind.Set sets) pred table visited) refl
 statement_fits setting state number begun visited count (Delete table pred) n =
     write_fits setting state number begun visited count (Delete table pred) kind.Delete pred table n (eq-eqb table table refl) (λ s. absurd s)
@@ -199,7 +207,8 @@ unblocked state number (Some marked) e other m = by_number (marked == number) re
     by_number true t h = sym (same_Some marked other m) ∙ eqb-true marked number t
     by_number false t h = absurd cc
 
-unless_fits : (setting : Setting) (state : State) (number : ℕ) (begun : Begun) (turn : Turn) (by : Option Label) → (by ≡ None → FitsTurn setting state number begun turn)
+unless_fits : (setting : Setting) (state : State) (number : ℕ) (begun : Begun) (turn : Turn) (by : Option Label)
+    → (by ≡ None → FitsTurn setting state number begun turn)
     → FitsTurn setting state number begun (unless_blocked by turn)
 unless_fits setting state number begun turn None f = f refl
 unless_fits setting state number begun turn (Some by) f = tt
@@ -213,7 +222,8 @@ undo_fits setting state number begun visited cause w h = elim (cases_Bool (ltb v
 ]
 
 stamp_fits : (setting : Setting) (state : State) (number : ℕ) (begun : Begun) (visited : ℕ) → state.mark ≡ Some number
-    → WouldEnd setting state number begun (ways.Committed (length state.order - 1)) → FitsTurn setting state number begun (stamp_turn setting state begun visited)
+    → WouldEnd setting state number begun (ways.Committed (length state.order - 1)) → FitsTurn setting state number begun
+        (stamp_turn setting state begun visited)
 stamp_fits setting state number begun visited m h = elim (cases_Bool (ltb visited (length (written_chunks setting begun.own)))) [
   | inl t ↦ rw t ((m, h), λ e. tt)
   | inr f ↦ rw f (h, λ other e. same_Some other number (sym e ∙ m), λ e. refl)
@@ -261,7 +271,8 @@ commit_fits setting state number begun txn a commits = unless_fits setting state
         unblocked state number state.mark b,
         λ m. absurd (a.works.free m),
       )
-      | inr f ↦ rw f (validated_fits setting state number begun txn a commits f b (first_hit begun.records (map committed_of (drop begun.prefix state.order))) refl)
+      | inr f ↦ rw f (validated_fits setting state number begun txn a commits f b
+          (first_hit begun.records (map committed_of (drop begun.prefix state.order))) refl)
     ])
 
 closing_fits : (setting : Setting) (state : State) (number : ℕ) (begun : Begun) (txn : Txn) → IsAnswered setting state number begun txn
@@ -294,9 +305,9 @@ pub phase_fits : (setting : Setting) (state : State) → Fits setting state → 
     → txn_of setting.programs (label_of number (session_at state number)) ≡ Some txn → top_of 0 (session_at state number).done ≤ begun.prefix
     → (phase : Phase) → PhaseFits setting state.order state.mark number (before_of state number) begun phase → (state.mark ≡ Some number → Stamps phase)
     → FitsTurn setting state number begun (phase_turn setting state number txn begun phase)
-phase_fits setting state fits number txn begun is low (Working visited count) h m =
-    working_fits setting state number txn begun visited count (record { fits = fits; low = low; free = m }) is h
+phase_fits setting state fits number txn begun is above (Working visited count) h m =
+    working_fits setting state number txn begun visited count (record { fits = fits; above = above; free = m }) is h
     (slice_get txn.statements (length begun.replies)) refl
-phase_fits setting state fits number txn begun is low (Stamping visited) h m = stamp_fits setting state number begun visited h.0 h.1
-phase_fits setting state fits number txn begun is low (Undoing visited cause) h m =
-    undo_fits setting state number begun visited cause (record { fits = fits; low = low; free = m }) h
+phase_fits setting state fits number txn begun is above (Stamping visited) h m = stamp_fits setting state number begun visited h.0 h.1
+phase_fits setting state fits number txn begun is above (Undoing visited cause) h m =
+    undo_fits setting state number begun visited cause (record { fits = fits; above = above; free = m }) h

@@ -16,7 +16,6 @@ use Rattle.hy_lawful.specs.Endings.{MayEnd}
 use Rattle.hy_lawful.specs.Lawful.{StandsAt}
 use Rattle.hy_lawful.proofs.Fits.{Ends}
 use Rattle.hy_lawful.proofs.Outcomes.{label_committed}
-
 use Rattle.hy_lawful.proofs.Over.{IsOver, HasEnded, HasCommitted, txn_ended, entry_committed, outcome_has}
 
 pub stands_at : (setting : Setting) (order : List Entry) (txn : TxnOutcome) (ending : Ending) → Ends setting order txn ending

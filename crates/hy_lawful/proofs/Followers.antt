@@ -13,7 +13,6 @@ use Rattle.hy_lawful.specs.Outcomes.{committed_at, is_later}
 use Rattle.hy_lawful.specs.Lawful.{Follows}
 use Rattle.hy_lawful.proofs.Fits.{reach, reach_of, Climbs}
 use Rattle.hy_lawful.proofs.Fits.{Fits}
-
 use Rattle.hy_lawful.proofs.Booleans.{and_left, and_right}
 
 comes_later : (low : ℕ) (done : List Finished) → Climbs low done → (i : ℕ) (finished : Finished) → slice_get done i ≡ Some finished

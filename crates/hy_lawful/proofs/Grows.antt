@@ -87,7 +87,7 @@ done_grows setting order grown number before finished g h = record {
 
 phase_grows : (setting : Setting) (order grown : List Entry) (mark new : Option ℕ) (number before : ℕ) (begun : Begun) → Grows order grown
     → (mark ≡ Some number → ⊥) → (phase : Phase) → PhaseFits setting order mark number before begun phase
-        → PhaseFits setting grown new number before begun phase
+    → PhaseFits setting grown new number before begun phase
 phase_grows setting order grown mark new number before begun g n (Working visited count) h = h
 phase_grows setting order grown mark new number before begun g n (Stamping visited) h = absurd (n h.0)
 phase_grows setting order grown mark new number before begun g n (Undoing visited cause) h =

@@ -29,7 +29,6 @@ use Rattle.hy_lawful.proofs.Fits.{Fits}
 use Rattle.hy_lawful.proofs.Places.{written_positions, changed_positions}
 use Rattle.hy_lawful.proofs.Reached.{reached_fits}
 use Rattle.hy_lawful.proofs.Outcomes.{each_outcome, each_entry, labels_all}
-
 use Rattle.hy_lawful.proofs.Over.{IsOver, HasCommitted, is_over, entry_committed, outcome_has}
 use Rattle.hy_lawful.proofs.Endings.{stands_at, may_end}
 use Rattle.hy_lawful.proofs.Followers.{follows}
@@ -52,7 +51,7 @@ over_lawful setting state over = record {
       (λ number before finished e. written_positions setting finished.begun.own (done_fits setting state over.fits number before finished e).own);
   changed_places = all_mapped (λ (entry : Committing). ArePositions setting (places_of entry.changes)) committed_of state.order
       (all_so (λ (entry : Entry). FitsTables setting entry.cells)
-          (λ (entry : Entry). ArePositions setting (places_of (committed_of entry).changes)) state.order
+      (λ (entry : Entry). ArePositions setting (places_of (committed_of entry).changes)) state.order
       (changed_positions setting) over.fits.cells);
   starts = each_outcome setting (λ (txn : TxnOutcome). txn.start ≤ length (map committed_of state.order)) state
       (λ number before finished e. omega (arith, (done_fits setting state over.fits number before finished e).start, length-map state.order committed_of));
@@ -63,10 +62,10 @@ over_lawful setting state over = record {
       state.order (order_clause setting state over);
   sessions = each_outcome setting (λ (txn : TxnOutcome). AllByRecursion (Follows txn) (later_than (outcome_of setting state) txn)) state
       (λ number before finished e. all_kept (Follows (txn_outcome_of setting number before finished))
-          (is_later (record { session = number; txn = suc before }))
+      (is_later (record { session = number; txn = suc before }))
       (outcome_of setting state).txns
       (each_outcome setting (λ (txn : TxnOutcome). is_later (record { session = number; txn = suc before }) txn ≡ true
-          → Follows (txn_outcome_of setting number before finished) txn) state
+      → Follows (txn_outcome_of setting number before finished) txn) state
       (λ other after later f. follows setting state over.fits number before finished e other after later f)));
   endings = each_outcome setting (λ (txn : TxnOutcome). MayEnd setting.programs (outcome_of setting state) txn txn.ending) state
       (λ number before finished e. may_end setting state over (txn_outcome_of setting number before finished) finished.ending

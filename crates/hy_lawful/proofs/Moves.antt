@@ -54,7 +54,7 @@ done_same : (state : State) (order : List Entry) (mark : Option ℕ) (number : �
     → (other : ℕ) → (session_at (moved_to state order mark number (with_now state number now)) other).done ≡ (session_at state other).done
 done_same state order mark number now there =
     sessions_moved (λ other session. session.done ≡ (session_at state other).done) state order mark number (with_now state number now) there refl
-        (λ other apart. refl)
+    (λ other apart. refl)
 
 ranked_same : (state : State) (order : List Entry) (mark : Option ℕ) (number : ℕ) (now : Option Open) → number < length state.sessions
     → length state.order ≡ length order → state.mark ≡ mark → (rank : ℕ) (label : Label) → Ranked state rank label
@@ -63,7 +63,7 @@ ranked_same state order mark number now there longer same rank label (ended befo
     ended before finished e (ap (λ (done : List Finished). slice_get done before) (done_same state order mark number now there label.session) ∙ at) is
 ranked_same state order mark number now there longer same rank label (entered m e r) =
     entered (sym same ∙ m) (e ∙ ap (λ (done : List Finished). suc (length done)) (sym (done_same state order mark number now there label.session)))
-        (r ∙ longer)
+    (r ∙ longer)
 
 pub fits_now : (setting : Setting) (state : State) (number : ℕ) (now : Option Open) → Fits setting state → number < length state.sessions
     → NowFits setting state.order state.mark number (session_at state number).done now → (state.mark ≡ Some number → NowStamps now)
@@ -104,7 +104,7 @@ ranked_entered setting state number begun now fits there free rank label e =
         → Ranked (moved_to state (order_more setting state number begun) (Some number) number (with_now state number now)) rank label
     before (ended b finished e at is) =
         ended b finished e (ap (λ (done : List Finished). slice_get done b)
-            (done_same state (order_more setting state number begun) (Some number) number now there label.session) ∙ at) is
+        (done_same state (order_more setting state number begun) (Some number) number now there label.session) ∙ at) is
     before (entered m e r) = absurd (free label.session m)
 
 pub fits_entered : (setting : Setting) (state : State) (number : ℕ) (begun : Begun) (now : Option Open) → Fits setting state → number < length state.sessions
@@ -181,7 +181,7 @@ done_kept : (state : State) (order : List Entry) (mark : Option ℕ) (number : �
     → slice_get (session_at (moved_to state order mark number (with_done state number finished)) other).done before ≡ Some one
 done_kept state order mark number finished there =
     sessions_moved (λ other session. (before : ℕ) (one : Finished) → slice_get (session_at state other).done before ≡ Some one
-        → slice_get session.done before ≡ Some one)
+    → slice_get session.done before ≡ Some one)
     state order mark number (with_done state number finished) there
     (λ before one e. kept_in_front (session_at state number).done (finished ∷ []) before one e) (λ other apart before one e. e)
 
@@ -197,9 +197,9 @@ ranked_ended state number finished there own commits rank label (entered m e r) 
     ended (length (session_at state number).done) finished
     (e ∙ ap (λ (n : ℕ). suc (length (session_at state n).done)) mine)
     (ap (λ (n : ℕ). slice_get (session_at (moved_to state state.order None number (with_done state number finished)) n).done
-        (length (session_at state number).done)) mine
+    (length (session_at state number).done)) mine
     ∙ (ap (λ (session : Session). slice_get session.done (length (session_at state number).done))
-        (at_same state state.order None number (with_done state number finished) there)
+    (at_same state state.order None number (with_done state number finished) there)
     ∙ last_item (session_at state number).done finished))
     (commits (m ∙ ap Some mine) ∙ ap Committed last)
 

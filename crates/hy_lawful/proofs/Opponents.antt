@@ -93,7 +93,7 @@ ranked_has setting state fits rank label (ended before finished e at is) =
 ranked_has setting state fits rank label (entered m e r) =
     let has : HasTxn setting (label_of label.session (session_at state label.session)) =
     open_has setting state.order state.mark label.session (session_at state label.session) (fits.sessions label.session)
-        (session_at state label.session).now refl
+    (session_at state label.session).now refl
     (stamps_open (session_at state label.session).now (fits.marked label.session m)) in
     record { first = omega (arith, e); few = omega (arith, e, has.few) }
 

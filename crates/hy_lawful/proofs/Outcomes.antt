@@ -35,12 +35,12 @@ each_of_session setting P number before (finished ∷ done) f = (
   subst (λ (n : ℕ). P (txn_outcome_of setting number n finished)) (add-zero before) (f 0 finished refl),
   each_of_session setting P number (suc before) done
       (λ i one e. subst (λ (n : ℕ). P (txn_outcome_of setting number n one)) (let same : before + suc i ≡ suc before + i = omega arith in same)
-          (f (suc i) one e)),
+      (f (suc i) one e)),
 )
 
 each_from : (setting : Setting) (P : TxnOutcome → Type 0) (first : ℕ) (sessions : List Session)
     → ((i before : ℕ) (finished : Finished) → slice_get (get_or sessions i fresh).done before ≡ Some finished
-        → P (txn_outcome_of setting (first + i) before finished))
+    → P (txn_outcome_of setting (first + i) before finished))
     → AllByRecursion P (all_outcomes_from setting first sessions)
 each_from setting P first [] f = tt
 each_from setting P first (session ∷ sessions) f =
@@ -50,12 +50,12 @@ each_from setting P first (session ∷ sessions) f =
     (subst (λ (n : ℕ). P (txn_outcome_of setting (first + 0) n finished)) (sym (zero-add i)) (f 0 i finished e))))
     (each_from setting P (suc first) sessions (λ i before finished e.
     subst (λ (n : ℕ). P (txn_outcome_of setting n before finished)) (let same : first + suc i ≡ suc first + i = omega arith in same)
-        (f (suc i) before finished e)))
+    (f (suc i) before finished e)))
 
 -- what holds of each transaction that has ended holds of all in the outcome
 pub each_outcome : (setting : Setting) (P : TxnOutcome → Type 0) (state : State)
     → ((number before : ℕ) (finished : Finished) → slice_get (session_at state number).done before ≡ Some finished
-        → P (txn_outcome_of setting number before finished))
+    → P (txn_outcome_of setting number before finished))
     → AllByRecursion P (outcome_of setting state).txns
 each_outcome setting P state f = each_from setting P 0 state.sessions
     (λ i before finished e. subst (λ (n : ℕ). P (txn_outcome_of setting n before finished)) (sym (zero-add i)) (f i before finished e))
@@ -118,7 +118,7 @@ none_in : (setting : Setting) (number before : ℕ) (done : List Finished) (labe
 none_in setting number before [] label n = refl
 none_in setting number before (first ∷ done) label n =
     ap (λ b. cond (b && (suc before == label.txn)) (Some (txn_outcome_of setting number before first))
-        (named label (outcomes_from setting number (suc before) done)))
+    (named label (outcomes_from setting number (suc before) done)))
     (ne_eqb number label.session n)
     ∙ none_in setting number (suc before) done label n
 
@@ -132,7 +132,7 @@ found_from setting first [] i n before finished e at = absurd cc
 found_from setting first (session ∷ sessions) zero n before finished e at =
     let here : first ≡ n = omega arith in
     subst (λ (m : ℕ). named (label_behind m before) (all_outcomes_from setting first (session ∷ sessions)) ≡ Some
-        (txn_outcome_of setting m before finished)) here
+    (txn_outcome_of setting m before finished)) here
     (named_append (label_behind first before) (outcomes_from setting first 0 session.done) (all_outcomes_from setting (suc first) sessions)
     ∙ ap (λ o. option_or o (named (label_behind first before) (all_outcomes_from setting (suc first) sessions)))
     (found_in setting first 0 session.done before before finished (sym (zero-add before)) at))
@@ -168,5 +168,5 @@ labels_all setting first (session ∷ sessions) [] e f = absurd (omega arith)
 labels_all setting first (session ∷ sessions) (txns ∷ programs) e f =
     map-append (λ (txn : TxnOutcome). txn.label) (outcomes_from setting first 0 session.done) (all_outcomes_from setting (suc first) sessions)
     ∙ (ap (λ (labels : List Label). labels ++ map (λ (txn : TxnOutcome). txn.label) (all_outcomes_from setting (suc first) sessions))
-        (labels_in setting first 0 session.done txns (f 0))
+    (labels_in setting first 0 session.done txns (f 0))
     ∙ ap (λ (labels : List Label). labels_of first 1 txns ++ labels) (labels_all setting (suc first) sessions programs (omega arith) (λ i. f (suc i))))

@@ -19,7 +19,6 @@ use Rattle.hy_lawful.specs.Outcomes.{outcome_at}
 use Rattle.hy_lawful.proofs.Fits.{HasTxn, OpenFits, NowFits, Ranked, ended, entered, NowStamps}
 use Rattle.hy_lawful.proofs.Fits.{Fits}
 use Rattle.hy_lawful.proofs.Outcomes.{outcome_found}
-
 use Rattle.hy_lawful.proofs.Booleans.{and_left, and_right}
 
 ended_at : (setting : Setting) (first : ℕ) (sessions : List Session) → all_ended_from setting first sessions ≡ true → (i : ℕ) → i < length sessions
@@ -45,7 +44,7 @@ is_over setting state fits over = record {
         (subst (λ (n : ℕ). has_ended setting n (session_at state number) ≡ true) (zero-add number) (ended_at setting 0 state.sessions over number there))
     | inr past ↦ ap (λ (session : Session). length session.done) (get_or-eq_default state.sessions fresh past)
         ∙ sym (ap (λ (txns : List Txn). length txns)
-            (get_or-eq_default setting.programs [] (let more : length setting.programs ≤ number = omega (arith, past, fits.count) in more)))
+        (get_or-eq_default setting.programs [] (let more : length setting.programs ≤ number = omega (arith, past, fits.count) in more)))
   ];
 }
 
@@ -72,7 +71,7 @@ txn_ended setting state over label has = by_number label.txn refl
     by_number (suc before) e =
         let within : before < length (session_at state label.session).done = omega (arith, e, has.few, over.all label.session) in
         let found : (x : Finished) × (slice_get (session_at state label.session).done before ≡ Some x) =
-            item_within (session_at state label.session).done before within in
+        item_within (session_at state label.session).done before within in
         record { before = before; finished = found.0; is = e; at = found.1 }
 
 -- nothing is open

@@ -33,7 +33,7 @@ before_is place other (inl h) =
 before_is place other (inr h) =
     or_second (nat_lt place.table other.table) (place.table == other.table && nat_lt place.pos other.pos)
     (and_true (place.table == other.table) (nat_lt place.pos other.pos) (eq-eqb place.table other.table h.0)
-        (lt-ltb place.pos other.pos (omega (arith, h.1))))
+    (lt-ltb place.pos other.pos (omega (arith, h.1))))
 
 ascends : (table pos : ℕ) (places : List Place) → Rises table pos places → ascend places ≡ true
 ascends table pos [] r = refl
@@ -89,7 +89,7 @@ given_there setting f one table pos item t p = elim (one table pos item) [
   | inr e ↦ ap (list_all (is_position setting)) e
       ∙ and_true (is_position setting (record { table = table; pos = pos })) true
       (and_true (nat_lt table (length setting.first)) (nat_lt pos (setting.chunks * setting.rows)) (lt-ltb table (length setting.first) t)
-          (lt-ltb pos (setting.chunks * setting.rows) p))
+      (lt-ltb pos (setting.chunks * setting.rows) p))
       refl
 ]
 

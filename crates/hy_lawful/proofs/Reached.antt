@@ -100,15 +100,15 @@ turn_fits setting state number current o (Waits by) h = o.fits
 turn_fits setting state number current o Begins h = absurd h
 turn_fits setting state number current o (Visits writes phase) h =
     subst (λ (now : Option Open). Fits setting
-        (with_session state number (record { done = (session_at state number).done; now = option_map (after_visit writes phase) now })))
+    (with_session state number (record { done = (session_at state number).done; now = option_map (after_visit writes phase) now })))
     (sym o.is)
     (goes_on setting state number current (after_visit writes phase current) o refl (writes_fit setting current.begun.own writes o.open_fits.own) h.0 h.1)
 turn_fits setting state number current o (Answers writes reply took records) h =
     subst (λ (now : Option Open). Fits setting
-        (with_session state number (record { done = (session_at state number).done; now = option_map (after_answer writes reply took records) now })))
+    (with_session state number (record { done = (session_at state number).done; now = option_map (after_answer writes reply took records) now })))
     (sym o.is)
     (goes_on setting state number current (after_answer writes reply took records current) o refl
-        (writes_fit setting current.begun.own writes o.open_fits.own)
+    (writes_fit setting current.begun.own writes o.open_fits.own)
     (omega (arith, h.0, length-append current.begun.replies (reply ∷ []))) (λ e. absurd (h.1 e)))
 turn_fits setting state number current o Enters h =
     subst (λ (now : Option Open). Fits setting (moved_to state (order_with setting state number now) (Some number) number
@@ -116,7 +116,7 @@ turn_fits setting state number current o Enters h =
     (sym o.is) (enters setting state number current o h)
 turn_fits setting state number current o (Ends ending) h =
     subst (λ (now : Option Open). Fits setting
-        (moved_to state state.order None number (record { done = done_with ending (session_at state number).done now; now = None })))
+    (moved_to state state.order None number (record { done = done_with ending (session_at state number).done now; now = None })))
     (sym o.is) (fits_ended setting state number current ending o.fits o.there h.1 h.2 o.is h.0)
 
 -- a transaction begins
@@ -152,7 +152,7 @@ is_there setting state number txn fits e = elim (cases_lt number (length state.s
 
 session_fits : (setting : Setting) (state : State) (number : ℕ) (txn : Txn) → Fits setting state → txn_at setting number (session_at state number) ≡ Some txn
     → (now : Option Open) → (session_at state number).now ≡ now
-        → Fits setting (after_turn setting state number (session_turn setting state number (Some txn) now)).0
+    → Fits setting (after_turn setting state number (session_turn setting state number (Some txn) now)).0
 session_fits setting state number txn fits e None is =
     begins_unless setting state number (blocker state number) fits
     (begins setting state number fits (is_there setting state number txn fits e)

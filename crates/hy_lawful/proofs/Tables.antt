@@ -101,7 +101,7 @@ none_from : (table : ℕ) (own : Own) → list_any (list_any is_some) own ≡ fa
 none_from table [] h = refl
 none_from table (cells ∷ own) h =
     ap (λ (places : List Place). places ++ by_table place_at (suc table) own)
-        (no_places table 0 cells (or_left (list_any is_some cells) (list_any (list_any is_some) own) h))
+    (no_places table 0 cells (or_left (list_any is_some cells) (list_any (list_any is_some) own) h))
     ∙ none_from (suc table) own (or_right (list_any is_some cells) (list_any (list_any is_some) own) h)
 
 some_from : (table : ℕ) (own : Own) → list_any (list_any is_some) own ≡ true → 0 < length (by_table place_at table own)

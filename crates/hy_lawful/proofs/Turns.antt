@@ -113,7 +113,7 @@ answers_fit setting state number begun statement n = (few_answered setting state
 
 read_fits : (setting : Setting) (state : State) (number : ℕ) (begun : Begun) (visited tables : ℕ) (statement : Bound) (gathered : List (List (List Value)))
     (reply : Reply) → IsNext setting state number begun statement → FitsTurn setting state number begun
-        (read_turn setting begun visited tables statement gathered reply)
+    (read_turn setting begun visited tables statement gathered reply)
 read_fits setting state number begun visited tables statement gathered reply n = elim (cases_Bool (ltb (suc visited) (setting.chunks * tables))) [
   | inl t ↦ rw t (goes_on_fits setting state number begun statement [] (suc visited) 0 n)
   | inr f ↦ rw f (answers_fit setting state number begun statement n)
@@ -152,9 +152,9 @@ write_fits setting state number begun visited count statement kind pred table n 
     e)
 write_fits setting state number begun visited count statement kind pred table n changes sets (Ok writes) e =
     elim (cases_Bool (ltb (suc visited) setting.chunks)) [
-  | inl t ↦ rw t (goes_on_fits setting state number begun statement writes (suc visited) (count + length writes) n)
-  | inr f ↦ rw f (answers_fit setting state number begun statement n)
-]
+      | inl t ↦ rw t (goes_on_fits setting state number begun statement writes (suc visited) (count + length writes) n)
+      | inr f ↦ rw f (answers_fit setting state number begun statement n)
+    ]
 
 check_fits : (setting : Setting) (state : State) (number : ℕ) (begun : Begun) (visited : ℕ) (statement : Bound) (found : Bool)
     → IsNext setting state number begun statement → FitsTurn setting state number begun (check_turn setting begun visited statement found)
@@ -163,7 +163,7 @@ check_fits setting state number begun visited statement false n = goes_on_fits s
 
 place_fits : (setting : Setting) (state : State) (number : ℕ) (begun : Begun) (visited chunk table : ℕ) (row : List Value) (pos : Option ℕ)
     → IsNext setting state number begun (Insert table row) → FitsTurn setting state number begun
-        (place_turn setting begun visited chunk (Insert table row) table row pos)
+    (place_turn setting begun visited chunk (Insert table row) table row pos)
 place_fits setting state number begun visited chunk table row (Some pos) n = answers_fit setting state number begun (Insert table row) n
 place_fits setting state number begun visited chunk table row None n = elim (cases_Bool (ltb (suc chunk) setting.chunks)) [
   | inl t ↦ rw t (goes_on_fits setting state number begun (Insert table row) [] (suc visited) 0 n)
@@ -172,7 +172,7 @@ place_fits setting state number begun visited chunk table row None n = elim (cas
 
 insert_fits : (setting : Setting) (state : State) (number : ℕ) (begun : Begun) (visited table : ℕ) (row : List Value) (key : Option ℕ)
     → IsNext setting state number begun (Insert table row) → FitsTurn setting state number begun
-        (insert_turn setting state begun visited (Insert table row) table row key)
+    (insert_turn setting state begun visited (Insert table row) table row key)
 insert_fits setting state number begun visited table row key n = elim (cases_Bool (ltb visited (checks_of setting key))) [
   | inl t ↦ rw t (check_fits setting state number begun visited (Insert table row) (sees_key setting state begun table row key visited) n)
   | inr f ↦ rw f (place_fits setting state number begun visited (visited - checks_of setting key) table row
@@ -191,7 +191,7 @@ statement_fits setting state number begun visited count (Insert table row) n =
     insert_fits setting state number begun visited table row (shape_of setting.shapes table).key n
 statement_fits setting state number begun visited count (Update table sets pred) n =
     write_fits setting state number begun visited count (Update table sets pred) (kind.Set sets) pred table n (eq-eqb table table refl)
-        (λ s. eq-eqb table table refl)
+    (λ s. eq-eqb table table refl)
     (swept setting state number begun (kind.Set sets) pred table visited) refl
 statement_fits setting state number begun visited count (Delete table pred) n =
     write_fits setting state number begun visited count (Delete table pred) kind.Delete pred table n (eq-eqb table table refl) (λ s. absurd s)
@@ -223,7 +223,7 @@ undo_fits setting state number begun visited cause w h = elim (cases_Bool (ltb v
 
 stamp_fits : (setting : Setting) (state : State) (number : ℕ) (begun : Begun) (visited : ℕ) → state.mark ≡ Some number
     → WouldEnd setting state number begun (ways.Committed (length state.order - 1)) → FitsTurn setting state number begun
-        (stamp_turn setting state begun visited)
+    (stamp_turn setting state begun visited)
 stamp_fits setting state number begun visited m h = elim (cases_Bool (ltb visited (length (written_chunks setting begun.own)))) [
   | inl t ↦ rw t ((m, h), λ e. tt)
   | inr f ↦ rw f (h, λ other e. same_Some other number (sym e ∙ m), λ e. refl)

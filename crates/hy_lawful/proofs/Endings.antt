@@ -46,6 +46,7 @@ may_end setting state over txn (Invalid table pos other statement) h =
       answers = h.answers;
       closes = h.closes;
       wrote = h.wrote;
+      named = h.named;
       since = subst (λ (o : Option TxnOutcome). IsSomeAnd o (λ rival. IsSomeAnd (committed_at rival.ending) (λ (rank : ℕ). txn.start ≤ rank)))
           (sym (outcome_has setting state other committed.has))
           (subst (λ (ending : Ending). IsSomeAnd (committed_at ending) (λ (rank : ℕ). txn.start ≤ rank)) (sym committed.ending) h.since);

@@ -2,6 +2,7 @@
 use Rattle.std.proofs.Common.{◌≡◌, ℕ, zero, suc, ◌-◌, ◌<◌, ◌≤◌, List, [], ◌∷◌, Option, None, Some, length}
 use Rattle.std.specs.Prelude.{slice_get, IsTrue, IsFalse, ◌==◌}
 use Rattle.std.specs.List.{AllByRecursion}
+use Rattle.hy_bound.specs.declared.Record.{Record}
 use Rattle.hy_stamp.specs.declared.Label.{Label}
 use Rattle.hy_render.specs.declared.Ending.{Ending}
 use Rattle.hy_render.specs.declared.Ending.TheVariants.{Committed, Read, RolledBack, Conflict, Invalid, Range, Full}
@@ -46,10 +47,15 @@ pub record IsInConflict (setting : Setting) (txn : TxnOutcome) (table : ℕ) (ot
   pub has : HasTxn setting other
   pub apart : IsFalse (other.session == txn.label.session)
 
-pub record IsInvalid (setting : Setting) (order : List Entry) (txn : TxnOutcome) (other : Label) : Type 0 where
+-- a transaction has so many answered statements, and one of this number, from 1
+abbrev pub IsNumbered : ℕ → ℕ → Type 0
+IsNumbered answered statement = (0 < statement) × (statement ≤ answered)
+
+pub record IsInvalid (setting : Setting) (order : List Entry) (txn : TxnOutcome) (other : Label) (statement : ℕ) : Type 0 where
   pub answers : AnswersAll setting.programs txn
   pub closes : ClosesWithCommit (txn_of setting.programs txn.label)
   pub wrote : 0 < length txn.wrote
+  pub named : IsNumbered (length txn.replies) statement
   pub rank : ℕ
   pub since : txn.start ≤ rank
   pub stands : label_at order rank ≡ Some other
@@ -60,7 +66,7 @@ Ends setting order txn (Committed rank) = IsCommitted setting order txn rank
 Ends setting order txn Read = EndsRead setting.programs txn
 Ends setting order txn RolledBack = EndsRolledBack setting.programs txn
 Ends setting order txn (Conflict table pos other) = IsInConflict setting txn table other
-Ends setting order txn (Invalid table pos other statement) = IsInvalid setting order txn other
+Ends setting order txn (Invalid table pos other statement) = IsInvalid setting order txn other statement
 Ends setting order txn (Range table pos) = IsTrue (updates table (refused_statement setting.programs txn))
 Ends setting order txn (Full table) = IsTrue (inserts table (refused_statement setting.programs txn))
 
@@ -115,6 +121,7 @@ pub record OpenFits (setting : Setting) (order : List Entry) (mark : Option ℕ)
   pub above : top_of 0 done ≤ current.begun.prefix
   pub start : current.begun.prefix ≤ length order
   pub own : FitsTables setting current.begun.own
+  pub records : AllByRecursion (λ (of : Record). IsNumbered (length current.begun.replies) of.statement) current.begun.records
   pub phase : PhaseFits setting order mark number (length done) current.begun current.phase
 
 abbrev pub NowFits : Setting → List Entry → Option ℕ → ℕ → List Finished → Option Open → Type 0

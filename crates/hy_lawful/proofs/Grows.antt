@@ -65,6 +65,7 @@ ends_grow setting order grown txn g (Invalid table pos other statement) h = reco
   answers = h.answers;
   closes = h.closes;
   wrote = h.wrote;
+  named = h.named;
   rank = h.rank;
   since = h.since;
   stands = g.stands h.rank other h.stands;
@@ -101,6 +102,7 @@ now_grows setting order grown mark new number done g n (Some current) h = record
   above = h.above;
   start = omega (arith, h.start, g.longer);
   own = h.own;
+  records = h.records;
   phase = phase_grows setting order grown mark new number (length done) current.begun g n current.phase h.phase;
 }
 

@@ -1,5 +1,6 @@
 -- The outcome of a state: its transactions one by one, and by their labels.
-use Rattle.std.proofs.Common.{◌≡◌, ℕ, zero, suc, ◌+◌, List, [], ◌∷◌, ◌++◌, Option, None, Some, true, false, length, map, get_or, cond, refl, ap, sym, ◌∙◌, subst}
+use Rattle.std.proofs.Common.{◌≡◌, ℕ, zero, suc, ◌+◌, List, [], ◌∷◌, ◌++◌, Option, None, Some, true, false, length, map, get_or, cond, refl, ap, sym, ◌∙◌}
+use Rattle.std.proofs.Common.{subst}
 use Rattle.std.proofs.Common.{arith, zero-add, add-zero}
 use Rattle.std.specs.Prelude.{slice_get, ◌==◌, ◌&&◌, find}
 use Rattle.std.specs.List.{AllByRecursion}

@@ -1,12 +1,14 @@
 -- What holds of the opening and stays true along steps holds of each state that the machine comes to.
-use Rattle.std.proofs.Common.{◌≡◌, ℕ, ◌+◌, ◌-◌, ◌<◌, ◌≤◌, List, [], ◌∷◌, ◌++◌, Option, None, Some, length, refl, ap, sym, ◌∙◌, subst, arith, inl, inr}
+use Rattle.std.proofs.Common.{◌≡◌, ℕ, suc, ◌+◌, ◌-◌, ◌<◌, ◌≤◌, List, [], ◌∷◌, ◌++◌, Option, None, Some, length, refl, ap, sym, ◌∙◌, subst, arith, inl, inr}
 use Rattle.std.specs.Prelude.{slice_get}
 use Rattle.std.specs.Option.{option_map}
+use Rattle.std.specs.List.{AllByRecursion}
 use Rattle.std.proofs.Math.ListN.{get_or-map, get_or-eq_default}
 use Rattle.std.proofs.lemmas.Bool.{cases_lt}
 use Rattle.std.proofs.lemmas.List.{length-append, length-map}
 use Rattle.std.proofs.lemmas.Option.{slice_get_within}
 use Rattle.hy_bound.specs.declared.Txn.{Txn}
+use Rattle.hy_bound.specs.declared.Record.{Record}
 use Rattle.hy_stamp.specs.declared.Label.{Label}
 use Rattle.hy_render.specs.declared.Ending.TheVariants.{Committed}
 use Rattle.hy_machine.specs.declared.Setting.{Setting}
@@ -19,8 +21,9 @@ use Rattle.hy_machine.specs.Sessions.{fresh, session_at, program_of, txn_at, blo
 use Rattle.hy_machine.specs.Turns.{unless_blocked, session_turn, phase_turn}
 use Rattle.hy_machine.specs.Steps.{with_session, beginning, after_visit, after_answer, done_with, order_with, after_turn, step_of}
 use Rattle.hy_machine.specs.Runs.{opening_of, after_steps, IsReached}
+use Rattle.hy_lawful.proofs.Lists.{all_so, all_joined}
 use Rattle.hy_lawful.proofs.Grows.{last_label}
-use Rattle.hy_lawful.proofs.Fits.{EndsAs, FitsTables, PhaseFits, OpenFits, NowFits, SessionFits, NowStamps, Fits}
+use Rattle.hy_lawful.proofs.Fits.{IsNumbered, EndsAs, FitsTables, PhaseFits, OpenFits, NowFits, SessionFits, NowStamps, Fits}
 use Rattle.hy_lawful.proofs.Moves.{moved_to, fits_now, fits_entered, fits_ended}
 use Rattle.hy_lawful.proofs.Tables.{writes_fit, blank_fits, entry_fits}
 use Rattle.hy_lawful.proofs.Turns.{before_of, FitsTurn, phase_fits}
@@ -53,14 +56,16 @@ record IsOpen (setting : Setting) (state : State) (number : ℕ) (current : Open
 
 goes_on : (setting : Setting) (state : State) (number : ℕ) (current new : Open) → IsOpen setting state number current
     → new.begun.prefix ≡ current.begun.prefix → FitsTables setting new.begun.own
+    → AllByRecursion (λ (of : Record). IsNumbered (length new.begun.replies) of.statement) new.begun.records
     → PhaseFits setting state.order state.mark number (before_of state number) new.begun new.phase → (state.mark ≡ Some number → NowStamps (Some new))
     → Fits setting (moved_to state state.order state.mark number (record { done = (session_at state number).done; now = Some new }))
-goes_on setting state number current new o same own phase marked = fits_now setting state number (Some new) o.fits o.there
+goes_on setting state number current new o same own records phase marked = fits_now setting state number (Some new) o.fits o.there
     (record {
       there = o.open_fits.there;
       above = omega (arith, o.open_fits.above, same);
       start = omega (arith, o.open_fits.start, same);
       own = own;
+      records = records;
       phase = phase;
     })
     marked
@@ -78,6 +83,7 @@ enters setting state number current o h =
       above = o.open_fits.above;
       start = omega (arith, o.open_fits.start);
       own = o.open_fits.own;
+      records = o.open_fits.records;
       phase = (
         refl,
         subst (λ (rank : ℕ). EndsAs setting (state.order ++ entry_of setting state number current.begun ∷ []) number (before_of state number)
@@ -92,6 +98,17 @@ enters setting state number current o h =
     })
     tt (entry_fits setting state number current.begun o.open_fits.own)
 
+-- a statement more is answered, and its records are added
+numbered_more : (answered more : ℕ) (records others : List Record) → more ≡ answered + 1
+    → AllByRecursion (λ (of : Record). IsNumbered answered of.statement) records → AllByRecursion (λ (of : Record). of.statement ≡ suc answered) others
+    → AllByRecursion (λ (of : Record). IsNumbered more of.statement) (records ++ others)
+numbered_more answered more records others e h k =
+    all_joined (λ (of : Record). IsNumbered more of.statement) records others
+    (all_so (λ (of : Record). IsNumbered answered of.statement) (λ (of : Record). IsNumbered more of.statement) records
+    (λ of n. (n.0, omega (arith, n.1, e))) h)
+    (all_so (λ (of : Record). of.statement ≡ suc answered) (λ (of : Record). IsNumbered more of.statement) others
+    (λ of same. (omega (arith, same), omega (arith, same, e))) k)
+
 -- a turn of an open transaction leaves what fits
 turn_fits : (setting : Setting) (state : State) (number : ℕ) (current : Open) → IsOpen setting state number current → (turn : Turn)
     → FitsTurn setting state number current.begun turn → Fits setting (after_turn setting state number turn).0
@@ -102,14 +119,17 @@ turn_fits setting state number current o (Visits writes phase) h =
     subst (λ (now : Option Open). Fits setting
     (with_session state number (record { done = (session_at state number).done; now = option_map (after_visit writes phase) now })))
     (sym o.is)
-    (goes_on setting state number current (after_visit writes phase current) o refl (writes_fit setting current.begun.own writes o.open_fits.own) h.0 h.1)
+    (goes_on setting state number current (after_visit writes phase current) o refl (writes_fit setting current.begun.own writes o.open_fits.own)
+    o.open_fits.records h.0 h.1)
 turn_fits setting state number current o (Answers writes reply took records) h =
     subst (λ (now : Option Open). Fits setting
     (with_session state number (record { done = (session_at state number).done; now = option_map (after_answer writes reply took records) now })))
     (sym o.is)
     (goes_on setting state number current (after_answer writes reply took records current) o refl
     (writes_fit setting current.begun.own writes o.open_fits.own)
-    (omega (arith, h.0, length-append current.begun.replies (reply ∷ []))) (λ e. absurd (h.1 e)))
+    (numbered_more (length current.begun.replies) (length (current.begun.replies ++ reply ∷ [])) current.begun.records records
+    (length-append current.begun.replies (reply ∷ [])) o.open_fits.records h.1)
+    (omega (arith, h.0.0, length-append current.begun.replies (reply ∷ []))) (λ e. absurd (h.0.1 e)))
 turn_fits setting state number current o Enters h =
     subst (λ (now : Option Open). Fits setting (moved_to state (order_with setting state number now) (Some number) number
     (record { done = (session_at state number).done; now = option_map (after_visit [] (Stamping 0)) now })))
@@ -130,6 +150,7 @@ begins setting state number fits there more none =
       above = (fits.sessions number).top;
       start = omega arith;
       own = blank_fits setting;
+      records = tt;
       phase = omega arith;
     })
     (λ e. absurd (subst NowStamps none (fits.marked number e)))
@@ -163,7 +184,8 @@ session_fits setting state number txn fits e (Some current) is =
     turn_fits setting state number current
     (record { fits = fits; there = is_there setting state number txn fits e; is = is; open_fits = present })
     (phase_turn setting state number txn current.begun current.phase)
-    (phase_fits setting state fits number txn current.begun e present.above current.phase present.phase (λ m. subst NowStamps is (fits.marked number m)))
+    (phase_fits setting state fits number txn current.begun e present.above present.records current.phase present.phase
+    (λ m. subst NowStamps is (fits.marked number m)))
 
 by_txn : (setting : Setting) (state : State) (number : ℕ) → Fits setting state → (txn : Option Txn) → txn_at setting number (session_at state number) ≡ txn
     → Fits setting (after_turn setting state number (session_turn setting state number txn (session_at state number).now)).0

@@ -1,6 +1,9 @@
 -- Why a statement is refused, and why validation refuses a transaction.
 use Rattle.std.proofs.Common.{◌≡◌, ℕ, suc, List, [], ◌∷◌, Option, None, Some, Bool, true, false, Result, Ok, Err, map, cond, refl, subst, inl, inr}
 use Rattle.std.specs.Option.{option_map}
+use Rattle.std.specs.Prelude.{◌&&◌, ◌==◌}
+use Rattle.std.specs.List.{AllByRecursion}
+use Rattle.hy_bound.specs.Records.{is_hit}
 use Rattle.std.proofs.lemmas.Option.{same_Some}
 use Rattle.hy_value.specs.declared.Value.{Value}
 use Rattle.hy_bound.specs.declared.Record.{Record}
@@ -71,26 +74,42 @@ sweep_refuses P table judge (pos ∷ positions) cause f e =
 
 -- ---- validation
 
-hits_are : (P : Cause → Type 0) (records : List Record) (other : Label) (changes : List Change) (cause : Cause)
-    → ((table pos statement : ℕ) → P (Invalid table pos other statement)) → hit_among records other changes ≡ Some cause → P cause
-hits_are P records other [] cause f e = absurd cc
-hits_are P records other (change ∷ changes) cause f e = elim (or_some (change_hits records other change) (hit_among records other changes) cause e) [
-  | inl h ↦ by_hit (record_hit records change.table change.before change.after) h
-  | inr h ↦ hits_are P records other changes cause f h
+-- a statement that is hit has a record
+record_is : (Q : ℕ → Type 0) (records : List Record) (table : ℕ) (before after : Cell) (statement : ℕ)
+    → AllByRecursion (λ (of : Record). Q of.statement) records
+    → record_hit records table before after ≡ Some statement → Q statement
+record_is Q [] table before after statement h e = absurd cc
+record_is Q (of ∷ others) table before after statement h e =
+    by_hit (of.table == table && is_hit of before after) (record_is Q others table before after statement h.1) e
+  where
+    by_hit : (b : Bool) → (record_hit others table before after ≡ Some statement → Q statement)
+        → cond b (Some of.statement) (record_hit others table before after) ≡ Some statement → Q statement
+    by_hit true f k = subst Q (same_Some of.statement statement k) h.0
+    by_hit false f k = f k
+
+hits_are : (P : Cause → Type 0) (Q : ℕ → Type 0) (records : List Record) (other : Label) (changes : List Change) (cause : Cause)
+    → AllByRecursion (λ (of : Record). Q of.statement) records → ((table pos statement : ℕ) → Q statement → P (Invalid table pos other statement))
+    → hit_among records other changes ≡ Some cause → P cause
+hits_are P Q records other [] cause q f e = absurd cc
+hits_are P Q records other (change ∷ changes) cause q f e = elim (or_some (change_hits records other change) (hit_among records other changes) cause e) [
+  | inl h ↦ by_hit (record_hit records change.table change.before change.after) refl h
+  | inr h ↦ hits_are P Q records other changes cause q f h
 ]
   where
-    by_hit : (hit : Option ℕ) → option_map (invalid_at other change.table change.pos) hit ≡ Some cause → P cause
-    by_hit None h = absurd cc
-    by_hit (Some statement) h =
-        subst P (same_Some (Invalid change.table change.pos other statement) cause h) (f change.table change.pos statement)
+    by_hit : (hit : Option ℕ) → record_hit records change.table change.before change.after ≡ hit
+        → option_map (invalid_at other change.table change.pos) hit ≡ Some cause → P cause
+    by_hit None k h = absurd cc
+    by_hit (Some statement) k h = subst P (same_Some (Invalid change.table change.pos other statement) cause h)
+        (f change.table change.pos statement (record_is Q records change.table change.before change.after statement q k))
 
--- the transaction that invalidates another one has an entry
-pub first_hit_is : (P : Cause → Type 0) (records : List Record) (entries : List Entry) (cause : Cause)
-    → ((i : ℕ) (label : Label) → label_at entries i ≡ Some label → (table pos statement : ℕ) → P (Invalid table pos label statement))
+-- the transaction that invalidates another one has an entry, and the statement that it hits a record
+pub first_hit_is : (P : Cause → Type 0) (Q : ℕ → Type 0) (records : List Record) (entries : List Entry) (cause : Cause)
+    → AllByRecursion (λ (of : Record). Q of.statement) records
+    → ((i : ℕ) (label : Label) → label_at entries i ≡ Some label → (table pos statement : ℕ) → Q statement → P (Invalid table pos label statement))
     → first_hit records (map committed_of entries) ≡ Some cause → P cause
-first_hit_is P records [] cause f e = absurd cc
-first_hit_is P records (entry ∷ entries) cause f e =
+first_hit_is P Q records [] cause q f e = absurd cc
+first_hit_is P Q records (entry ∷ entries) cause q f e =
     elim (or_some (hit_among records entry.label (committed_of entry).changes) (first_hit records (map committed_of entries)) cause e) [
-      | inl h ↦ hits_are P records entry.label (committed_of entry).changes cause (f 0 entry.label refl) h
-      | inr h ↦ first_hit_is P records entries cause (λ i label. f (suc i) label) h
+      | inl h ↦ hits_are P Q records entry.label (committed_of entry).changes cause q (f 0 entry.label refl) h
+      | inr h ↦ first_hit_is P Q records entries cause q (λ i label. f (suc i) label) h
     ]

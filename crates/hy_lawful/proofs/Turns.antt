@@ -1,10 +1,16 @@
 -- What a session's turn makes of its open transaction fits.
-use Rattle.std.proofs.Common.{◌≡◌, ℕ, suc, ◌+◌, ◌-◌, ◌*◌, ◌<◌, ◌≤◌, List, [], Option, None, Some, Bool, true, false, not, Result, Ok, Err, length, drop, map}
+use Rattle.std.proofs.Common.{◌≡◌, ℕ, suc, ◌+◌, ◌-◌, ◌*◌, ◌<◌, ◌≤◌, List, [], ◌∷◌, Option, None, Some, Bool, true, false, not, Result, Ok, Err, length, drop}
+use Rattle.std.proofs.Common.{map}
 use Rattle.std.proofs.Common.{cond, ltb, refl, ap, sym, ◌∙◌, subst, arith, inl, inr}
 use Rattle.std.specs.Prelude.{slice_get, ◌==◌}
 use Rattle.std.proofs.lemmas.Bool.{cases_Bool, eq-eqb, eqb-true, ne_eqb}
 use Rattle.std.proofs.lemmas.Option.{same_Some, slice_get_within}
+use Rattle.std.specs.List.{AllByRecursion, flat_map}
+use Rattle.hy_bound.specs.declared.Record.{Record}
+use Rattle.hy_plan.specs.declared.Read.{Read}
+use Rattle.hy_plan.specs.Reads.{recorded, records_of, reads_of}
 use Rattle.hy_value.specs.declared.Value.{Value}
+use Rattle.hy_value.specs.declared.ColMask.{ColMask}
 use Rattle.hy_bound.specs.declared.Txn.{Txn}
 use Rattle.hy_bound.specs.declared.Bound.{Bound}
 use Rattle.hy_bound.specs.declared.Bound.TheVariants.{Select, Group, Insert, Update, Delete}
@@ -39,8 +45,8 @@ use Rattle.hy_machine.specs.Turns.{undo_turn, stamp_turn, validated_turn, commit
 use Rattle.hy_machine.specs.Outcomes.{txn_outcome_of}
 use Rattle.hy_lawful.specs.Scripts.{statements_in, statements_of, txn_of, ClosesWithCommit, ClosesWithRollback}
 use Rattle.hy_lawful.specs.Endings.{updates, changes_rows, inserts, EndsCommitted}
-use Rattle.hy_lawful.proofs.Lists.{over_past}
-use Rattle.hy_lawful.proofs.Fits.{EndsAs, top_of, PhaseFits, Stamps, Fits}
+use Rattle.hy_lawful.proofs.Lists.{over_past, all_joined}
+use Rattle.hy_lawful.proofs.Fits.{IsNumbered, EndsAs, top_of, PhaseFits, Stamps, Fits}
 use Rattle.hy_lawful.proofs.Opponents.{label_dropped, IsRival, opponent_is}
 use Rattle.hy_lawful.proofs.Refusals.{IsSet, Refuses, verdict_refuses, sweep_refuses, first_hit_is}
 use Rattle.hy_lawful.proofs.Tables.{nothing_written, something_written}
@@ -59,6 +65,10 @@ MayAnswer setting state number begun =
     (length begun.replies < length (statements_of setting.programs (label_of number (session_at state number))))
     × (state.mark ≡ Some number → ⊥)
 
+-- records are of the statement that is answered next
+abbrev pub AreOfNext : Begun → List Record → Type 0
+AreOfNext begun records = AllByRecursion (λ (of : Record). of.statement ≡ suc (length begun.replies)) records
+
 -- a turn of an open transaction fits
 abbrev pub FitsTurn : Setting → State → ℕ → Begun → Turn → Type 0
 FitsTurn setting state number begun Done = ⊥
@@ -67,7 +77,7 @@ FitsTurn setting state number begun Begins = ⊥
 FitsTurn setting state number begun (Visits writes phase) =
     PhaseFits setting state.order state.mark number (before_of state number) (record begun { own = with_writes begun.own writes }) phase
     × (state.mark ≡ Some number → Stamps phase)
-FitsTurn setting state number begun (Answers writes reply took records) = MayAnswer setting state number begun
+FitsTurn setting state number begun (Answers writes reply took records) = MayAnswer setting state number begun × AreOfNext begun records
 FitsTurn setting state number begun Enters =
     EndsCommitted setting.programs
     (txn_outcome_of setting number (before_of state number) (record { begun = begun; ending = ways.Committed (length state.order) }))
@@ -81,6 +91,7 @@ pub record Works (setting : Setting) (state : State) (number : ℕ) (begun : Beg
   pub fits : Fits setting state
   pub above : top_of 0 (session_at state number).done ≤ begun.prefix
   pub free : state.mark ≡ Some number → ⊥
+  pub records : AllByRecursion (λ (of : Record). IsNumbered (length begun.replies) of.statement) begun.records
 
 -- the statements of a session's open transaction
 abbrev statements_at : Setting → State → ℕ → List Bound
@@ -107,16 +118,35 @@ goes_on_fits setting state number begun statement writes visited count n =
     let few : length begun.replies < length (statements_at setting state number) = few_answered setting state number begun statement n in
     (omega arith, λ e. n.works.free e)
 
-answers_fit : (setting : Setting) (state : State) (number : ℕ) (begun : Begun) (statement : Bound) → IsNext setting state number begun statement
+may_answer : (setting : Setting) (state : State) (number : ℕ) (begun : Begun) (statement : Bound) → IsNext setting state number begun statement
     → MayAnswer setting state number begun
-answers_fit setting state number begun statement n = (few_answered setting state number begun statement n, n.works.free)
+may_answer setting state number begun statement n = (few_answered setting state number begun statement n, n.works.free)
+
+-- what is recorded of a statement has its number
+recorded_numbers : (number table : ℕ) (columns : ColMask) (conditions : List Condition)
+    → AllByRecursion (λ (of : Record). of.statement ≡ number)
+    (map (λ (condition : Condition). record { statement = number; table = table; pred = condition; columns = columns }) conditions)
+recorded_numbers number table columns [] = tt
+recorded_numbers number table columns (condition ∷ conditions) = (refl, recorded_numbers number table columns conditions)
+
+recorded_reads : (number : ℕ) (reads : List Read) → AllByRecursion (λ (of : Record). of.statement ≡ number) (flat_map (recorded number) reads)
+recorded_reads number [] = tt
+recorded_reads number (read ∷ reads) =
+    all_joined (λ (of : Record). of.statement ≡ number) (recorded number read) (flat_map (recorded number) reads)
+    (recorded_numbers number read.table read.columns read.conditions) (recorded_reads number reads)
+
+answers_fit : (setting : Setting) (state : State) (number : ℕ) (begun : Begun) (statement : Bound) (gathered : List (List (List Value)))
+    → IsNext setting state number begun statement
+    → MayAnswer setting state number begun × AreOfNext begun (records_of setting.shapes (suc (length begun.replies)) statement gathered)
+answers_fit setting state number begun statement gathered n =
+    (may_answer setting state number begun statement n, recorded_reads (suc (length begun.replies)) (reads_of setting.shapes statement gathered))
 
 read_fits : (setting : Setting) (state : State) (number : ℕ) (begun : Begun) (visited tables : ℕ) (statement : Bound) (gathered : List (List (List Value)))
     (reply : Reply) → IsNext setting state number begun statement → FitsTurn setting state number begun
     (read_turn setting begun visited tables statement gathered reply)
 read_fits setting state number begun visited tables statement gathered reply n = elim (cases_Bool (ltb (suc visited) (setting.chunks * tables))) [
   | inl t ↦ rw t (goes_on_fits setting state number begun statement [] (suc visited) 0 n)
-  | inr f ↦ rw f (answers_fit setting state number begun statement n)
+  | inr f ↦ rw f (answers_fit setting state number begun statement gathered n)
 ]
 
 -- a refusal of an UPDATE or a DELETE
@@ -153,18 +183,18 @@ write_fits setting state number begun visited count statement kind pred table n 
 write_fits setting state number begun visited count statement kind pred table n changes sets (Ok writes) e =
     elim (cases_Bool (ltb (suc visited) setting.chunks)) [
       | inl t ↦ rw t (goes_on_fits setting state number begun statement writes (suc visited) (count + length writes) n)
-      | inr f ↦ rw f (answers_fit setting state number begun statement n)
+      | inr f ↦ rw f (answers_fit setting state number begun statement [] n)
     ]
 
 check_fits : (setting : Setting) (state : State) (number : ℕ) (begun : Begun) (visited : ℕ) (statement : Bound) (found : Bool)
     → IsNext setting state number begun statement → FitsTurn setting state number begun (check_turn setting begun visited statement found)
-check_fits setting state number begun visited statement true n = answers_fit setting state number begun statement n
+check_fits setting state number begun visited statement true n = answers_fit setting state number begun statement [] n
 check_fits setting state number begun visited statement false n = goes_on_fits setting state number begun statement [] (suc visited) 0 n
 
 place_fits : (setting : Setting) (state : State) (number : ℕ) (begun : Begun) (visited chunk table : ℕ) (row : List Value) (pos : Option ℕ)
     → IsNext setting state number begun (Insert table row) → FitsTurn setting state number begun
     (place_turn setting begun visited chunk (Insert table row) table row pos)
-place_fits setting state number begun visited chunk table row (Some pos) n = answers_fit setting state number begun (Insert table row) n
+place_fits setting state number begun visited chunk table row (Some pos) n = answers_fit setting state number begun (Insert table row) [] n
 place_fits setting state number begun visited chunk table row None n = elim (cases_Bool (ltb (suc chunk) setting.chunks)) [
   | inl t ↦ rw t (goes_on_fits setting state number begun (Insert table row) [] (suc visited) 0 n)
   | inr f ↦ rw f (refused_fits setting state number begun 0 (Full table) n.works (ap (inserts table) n.here ∙ eq-eqb table table refl))
@@ -239,11 +269,14 @@ invalid_ends : (setting : Setting) (state : State) (number : ℕ) (begun : Begun
     → wrote_nothing begun.own ≡ false → (cause : Cause) → first_hit begun.records (map committed_of (drop begun.prefix state.order)) ≡ Some cause
     → WouldEnd setting state number begun (ending_of cause)
 invalid_ends setting state number begun txn a commits wrote cause e =
-    first_hit_is (λ (one : Cause). WouldEnd setting state number begun (ending_of one)) begun.records (drop begun.prefix state.order) cause
-    (λ i label at table pos statement. record {
+    first_hit_is (λ (one : Cause). WouldEnd setting state number begun (ending_of one)) (IsNumbered (length begun.replies)) begun.records
+    (drop begun.prefix state.order) cause
+    a.works.records
+    (λ i label at table pos statement named. record {
       answers = a.all;
       closes = subst ClosesWithCommit (sym a.is) commits;
       wrote = something_written begun.own wrote;
+      named = named;
       rank = begun.prefix + i;
       since = omega arith;
       stands = sym (label_dropped begun.prefix state.order i) ∙ at;
@@ -303,11 +336,12 @@ working_fits setting state number txn begun visited count w is few (Some stateme
 -- the turn of an open transaction
 pub phase_fits : (setting : Setting) (state : State) → Fits setting state → (number : ℕ) (txn : Txn) (begun : Begun)
     → txn_of setting.programs (label_of number (session_at state number)) ≡ Some txn → top_of 0 (session_at state number).done ≤ begun.prefix
+    → AllByRecursion (λ (of : Record). IsNumbered (length begun.replies) of.statement) begun.records
     → (phase : Phase) → PhaseFits setting state.order state.mark number (before_of state number) begun phase → (state.mark ≡ Some number → Stamps phase)
     → FitsTurn setting state number begun (phase_turn setting state number txn begun phase)
-phase_fits setting state fits number txn begun is above (Working visited count) h m =
-    working_fits setting state number txn begun visited count (record { fits = fits; above = above; free = m }) is h
+phase_fits setting state fits number txn begun is above records (Working visited count) h m =
+    working_fits setting state number txn begun visited count (record { fits = fits; above = above; free = m; records = records }) is h
     (slice_get txn.statements (length begun.replies)) refl
-phase_fits setting state fits number txn begun is above (Stamping visited) h m = stamp_fits setting state number begun visited h.0 h.1
-phase_fits setting state fits number txn begun is above (Undoing visited cause) h m =
-    undo_fits setting state number begun visited cause (record { fits = fits; above = above; free = m }) h
+phase_fits setting state fits number txn begun is above records (Stamping visited) h m = stamp_fits setting state number begun visited h.0 h.1
+phase_fits setting state fits number txn begun is above records (Undoing visited cause) h m =
+    undo_fits setting state number begun visited cause (record { fits = fits; above = above; free = m; records = records }) h

@@ -69,6 +69,7 @@ pub record EndsInvalid (programs : Programs) (outcome : Outcome) (txn : TxnOutco
   pub answers : AnswersAll programs txn
   pub closes : ClosesWithCommit (txn_of programs txn.label)
   pub wrote : 0 < length txn.wrote
+  pub named : (0 < statement) × (statement ≤ length txn.replies)
   pub since : IsSomeAnd (outcome_at outcome other) (λ rival. IsSomeAnd (committed_at rival.ending) (λ (rank : ℕ). txn.start ≤ rank))
 
 -- when an ending may come: out of range where the refused statement is an UPDATE of the table, full where it is an

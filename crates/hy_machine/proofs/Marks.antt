@@ -94,7 +94,8 @@ undo_follows setting state number begun visited cause phase p = elim (cases_Bool
     ended None = λ _. refl
     ended (Some by) = (refl, p)
 
-stamp_follows : (setting : Setting) (state : State) (by : Option Label) (begun : Begun) (visited : ℕ) → Follows by (Stamping visited) (stamp_turn setting state begun visited)
+stamp_follows : (setting : Setting) (state : State) (by : Option Label) (begun : Begun) (visited : ℕ)
+    → Follows by (Stamping visited) (stamp_turn setting state begun visited)
 stamp_follows setting state by begun visited = elim (cases_Bool (ltb visited (length (written_chunks setting begun.own)))) [
   | inl t ↦ rw t refl
   | inr f ↦ rw f (λ p. absurd (cc p))
@@ -108,12 +109,14 @@ commit_follows setting state number begun phase p = by_blocker (blocker state nu
     validated None = refl
     validated (Some cause) = sym p
 
-    closed : (nothing : Bool) → Follows None phase (cond nothing (Ends ending.Read) (validated_turn (first_hit begun.records (map committed_of (drop begun.prefix state.order)))))
-    closed true = λ _. refl
-    closed false = validated (first_hit begun.records (map committed_of (drop begun.prefix state.order)))
+    hit : Option Cause
+    hit = first_hit begun.records (map committed_of (drop begun.prefix state.order))
 
-    by_blocker : (by : Option Label)
-        → Follows by phase (unless_blocked by (cond (wrote_nothing begun.own) (Ends ending.Read) (validated_turn (first_hit begun.records (map committed_of (drop begun.prefix state.order))))))
+    closed : (nothing : Bool) → Follows None phase (cond nothing (Ends ending.Read) (validated_turn hit))
+    closed true = λ _. refl
+    closed false = validated hit
+
+    by_blocker : (by : Option Label) → Follows by phase (unless_blocked by (cond (wrote_nothing begun.own) (Ends ending.Read) (validated_turn hit)))
     by_blocker None = closed (wrote_nothing begun.own)
     by_blocker (Some by) = (refl, p)
 
@@ -138,7 +141,8 @@ phase_follows setting state number txn begun (Undoing visited cause) = undo_foll
 -- ---- a step keeps it
 
 -- where nobody blocks a session, no other one is marked
-pub none_marked : (state : State) (number other : ℕ) (mark : Option ℕ) → blocker_of state number mark ≡ None → (other ≡ number → ⊥) → is_marked mark other ≡ false
+pub none_marked : (state : State) (number other : ℕ) (mark : Option ℕ) → blocker_of state number mark ≡ None → (other ≡ number → ⊥)
+    → is_marked mark other ≡ false
 none_marked state number other None b n = refl
 none_marked state number other (Some marked) b n = elim (cases_Bool (marked == number)) [
   | inl t ↦ ne_eqb marked other (λ e. n (sym e ∙ eqb-true marked number t))
@@ -153,7 +157,8 @@ marked_free state number None t = absurd (cc t)
 marked_free state number (Some marked) t = rw t refl
 
 -- a session that has a transaction before it has a script
-pub has_script : (setting : Setting) (state : State) (number : ℕ) (done : List Finished) (txn : Txn) → IsKept setting state → slice_get (program_of setting number) (length done) ≡ Some txn
+pub has_script : (setting : Setting) (state : State) (number : ℕ) (done : List Finished) (txn : Txn) → IsKept setting state
+    → slice_get (program_of setting number) (length done) ≡ Some txn
     → number < length state.sessions
 has_script setting state number done txn k t = rw k.sessions (scripted setting.programs number t)
   where
@@ -163,7 +168,8 @@ has_script setting state number done txn k t = rw k.sessions (scripted setting.p
     scripted (program ∷ programs) (suc number) e = omega (arith, scripted programs number e)
 
 -- a session that is put in the place of another one keeps it, where it fits and the mark is right for it and for the others
-kept_by : (setting : Setting) (state next : State) (number : ℕ) (session : Session) → IsKept setting state → number < length state.sessions → next.sessions ≡ set state.sessions number session
+kept_by : (setting : Setting) (state next : State) (number : ℕ) (session : Session) → IsKept setting state → number < length state.sessions
+    → next.sessions ≡ set state.sessions number session
     → Fits session.now (length session.done) (length (program_of setting number)) → has_entered session.now ≡ is_marked next.mark number
     → ((other : ℕ) → (other ≡ number → ⊥) → is_marked next.mark other ≡ is_marked state.mark other) → IsKept setting next
 kept_by setting state next number session k l s w m o = record {
@@ -184,15 +190,19 @@ kept_by setting state next number session k l s w m o = record {
     there : (other : ℕ) → (other ≡ number → ⊥) → session_at next other ≡ session_at state other
     there other n = ap (λ (sessions : List Session). get_or sessions other fresh) s ∙ get_or-set_other state.sessions number other session fresh n
 
-kept_open : (setting : Setting) (state : State) (number : ℕ) (done : List Finished) (current : Open) (turn : Turn) → IsKept setting state → number < length state.sessions
-    → session_at state number ≡ record { done = done; now = Some current } → length done < length (program_of setting number) → Follows (blocker state number) current.phase turn
+kept_open : (setting : Setting) (state : State) (number : ℕ) (done : List Finished) (current : Open) (turn : Turn) → IsKept setting state
+    → number < length state.sessions
+    → session_at state number ≡ record { done = done; now = Some current } → length done < length (program_of setting number)
+    → Follows (blocker state number) current.phase turn
     → IsKept setting (after_turn setting state number turn).0
 kept_open setting state number done current (Visits writes phase) k l s w f =
-    kept_by setting state (after_turn setting state number (Visits writes phase)).0 number (record { done = done; now = Some (after_visit writes phase current) }) k l
+    kept_by setting state (after_turn setting state number (Visits writes phase)).0 number
+    (record { done = done; now = Some (after_visit writes phase current) }) k l
     (ap (λ (one : Session). set state.sessions number (with_changed (after_visit writes phase) one)) s) w
     (f ∙ (ap (λ (one : Session). has_entered one.now) (sym s) ∙ k.marks number)) (λ other n. refl)
 kept_open setting state number done current (Answers writes reply took records) k l s w f =
-    kept_by setting state (after_turn setting state number (Answers writes reply took records)).0 number (record { done = done; now = Some (after_answer writes reply took records current) }) k l
+    kept_by setting state (after_turn setting state number (Answers writes reply took records)).0 number
+    (record { done = done; now = Some (after_answer writes reply took records current) }) k l
     (ap (λ (one : Session). set state.sessions number (with_changed (after_answer writes reply took records) one)) s) w
     (sym f ∙ (ap (λ (one : Session). has_entered one.now) (sym s) ∙ k.marks number)) (λ other n. refl)
 kept_open setting state number done current Enters k l s w f =
@@ -200,9 +210,11 @@ kept_open setting state number done current Enters k l s w f =
     (ap (λ (one : Session). set state.sessions number (with_changed (after_visit [] (Stamping 0)) one)) s) w
     (sym (eq-eqb number number refl)) (λ other n. ne_eqb number other (λ e. n (sym e)) ∙ sym (none_marked state number other state.mark f n))
 kept_open setting state number done current (Ends how) k l s w f =
-    kept_by setting state (after_turn setting state number (Ends how)).0 number (record { done = done ++ record { begun = current.begun; ending = how } ∷ []; now = None }) k l
+    kept_by setting state (after_turn setting state number (Ends how)).0 number
+    (record { done = done ++ record { begun = current.begun; ending = how } ∷ []; now = None }) k l
     (ap (λ (one : Session). set state.sessions number (with_ended how one)) s)
-    (omega (arith, length-append done (record { begun = current.begun; ending = how } ∷ []))) refl (λ other n. sym (none_marked state number other state.mark free n))
+    (omega (arith, length-append done (record { begun = current.begun; ending = how } ∷ []))) refl
+    (λ other n. sym (none_marked state number other state.mark free n))
   where
     free : blocker state number ≡ None
     free = elim (cases_Bool (is_stamping current.phase)) [
@@ -214,21 +226,25 @@ kept_open setting state number done current Done k l s w f = absurd f
 kept_open setting state number done current Begins k l s w f = absurd f
 
 kept_begun : (setting : Setting) (state : State) (number : ℕ) (done : List Finished) (by : Option Label) → IsKept setting state → number < length state.sessions
-    → session_at state number ≡ record { done = done; now = None } → length done < length (program_of setting number) → IsKept setting (after_turn setting state number (unless_blocked by Begins)).0
+    → session_at state number ≡ record { done = done; now = None } → length done < length (program_of setting number)
+    → IsKept setting (after_turn setting state number (unless_blocked by Begins)).0
 kept_begun setting state number done None k l s w =
     kept_by setting state (after_turn setting state number Begins).0 number (with_open (beginning setting state) (record { done = done; now = None })) k l
     (ap (λ (one : Session). set state.sessions number (with_open (beginning setting state) one)) s) w
     (ap (λ (one : Session). has_entered one.now) (sym s) ∙ k.marks number) (λ other n. refl)
 kept_begun setting state number done (Some by) k l s w = k
 
-kept_turn : (setting : Setting) (state : State) (number : ℕ) (done : List Finished) (now : Option Open) (txn : Option Txn) → IsKept setting state → session_at state number ≡ record { done = done; now = now }
+kept_turn : (setting : Setting) (state : State) (number : ℕ) (done : List Finished) (now : Option Open) (txn : Option Txn) → IsKept setting state
+    → session_at state number ≡ record { done = done; now = now }
     → slice_get (program_of setting number) (length done) ≡ txn → IsKept setting (after_turn setting state number (session_turn setting state number txn now)).0
 kept_turn setting state number done now None k s t = k
 kept_turn setting state number done None (Some txn) k s t =
-    kept_begun setting state number done (blocker state number) k (has_script setting state number done txn k t) s (slice_get_within (program_of setting number) (length done) txn t)
+    kept_begun setting state number done (blocker state number) k (has_script setting state number done txn k t) s
+    (slice_get_within (program_of setting number) (length done) txn t)
 kept_turn setting state number done (Some current) (Some txn) k s t =
-    kept_open setting state number done current (phase_turn setting state number txn current.begun current.phase) k (has_script setting state number done txn k t) s
-    (slice_get_within (program_of setting number) (length done) txn t) (phase_follows setting state number txn current.begun current.phase)
+    kept_open setting state number done current (phase_turn setting state number txn current.begun current.phase) k
+    (has_script setting state number done txn k t) s (slice_get_within (program_of setting number) (length done) txn t)
+    (phase_follows setting state number txn current.begun current.phase)
 
 pub kept_step : (setting : Setting) (state : State) (number : ℕ) → IsKept setting state → IsKept setting (step_of setting state number).0
 kept_step setting state number k =

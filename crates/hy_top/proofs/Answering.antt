@@ -15,11 +15,12 @@ use Rattle.hy_machine.specs.Runs.{run_of}
 use Rattle.hy_machine.specs.Outcomes.{outcome_of}
 use Rattle.hy_lawful.specs.Lawful.{Lawful}
 use Rattle.hy_words.specs.declared.Command.{Command}
-use Rattle.hy_words.specs.declared.Command.TheVariants.{Run, Check}
+use Rattle.hy_words.specs.declared.Command.TheVariants.{Run, Check, Gen}
 use Rattle.hy_top.specs.Lines.{refusal_line_of}
-use Rattle.hy_top.specs.Program.{bytes_read, bytes_left, options_by}
+use Rattle.hy_top.specs.Program.{bytes_read, bytes_left, options_by, made_by, comes_to}
+use Rattle.hy_gen.specs.Made.{made}
 use Rattle.hy_top.specs.Settings.{setting_at}
-use Rattle.hy_top.specs.Reports.{IsRefused, Spells, IsRun, Writes, Answers, Runs, Checks, Does}
+use Rattle.hy_top.specs.Reports.{IsRefused, Spells, IsRun, Writes, Answers, Runs, Checks, Summarizes, Does, Makes}
 use Rattle.hy_limits.specs.declared.TheConstants.{MOST_BYTES}
 
 none_is : (o : Option Outcome) → IsNone o → o ≡ None
@@ -84,19 +85,18 @@ gave_up command bytes script status given before after once s five nothing =
 not_two : (status : ℕ) → (status ≡ 0) ⊎ (status ≡ 4) → status ≡ 2 → ⊥
 not_two status ends two = ⊎_elim (λ e. let never : ⊥ = omega arith in never) (λ e. let never : ⊥ = omega arith in never) ends
 
--- a run is an answer
-ran_answers : (prune : _) (chunks rows : ℕ) (bytes : List ℕ) (script : Script) (status : ℕ) (given : Option Outcome) (before after : Option (List ℕ)) → Once → Theorem
-    → Spells (Run prune chunks rows) bytes script → Runs script status given before after → Answers (Run prune chunks rows) bytes status given before after
-ran_answers prune chunks rows bytes script status given before after once law s ran =
-    let ends : (status ≡ 0) ⊎ (status ≡ 4) = done_or_four 0 status before after _ ran.writes in
-    let only : (other : Script) → Spells (Run prune chunks rows) bytes other → script ≡ other = λ other t. same_script script other (once bytes (options_by (Run prune chunks rows)) (Ok script) (Ok other) s t) in
+-- what a command did that runs its script is an answer
+ran_answers : (command : Command) (bytes : List ℕ) (script : Script) (status : ℕ) (given : Option Outcome) (before after : Option (List ℕ)) → Once → Theorem → IsRun command
+    → Spells command bytes script → given ≡ Some (comes_to script) → (status ≡ 0) ⊎ (status ≡ 4) → Does command script status given before after → Answers command bytes status given before after
+ran_answers command bytes script status given before after once law run s is ends did =
+    let only : (other : Script) → Spells command bytes other → script ≡ other = λ other t. same_script script other (once bytes (options_by command) (Ok script) (Ok other) s t) in
     record {
-      refused = λ why h. absurd (not_both script why (once bytes (options_by (Run prune chunks rows)) (Ok script) (Err why) s h));
+      refused = λ why h. absurd (not_both script why (once bytes (options_by command) (Ok script) (Err why) s h));
       refuses = λ h. absurd (not_two status ends h);
-      does = λ other t. inr (subst (λ (x : Script). Runs x status given before after) (only other t) ran);
+      does = λ other t. inr (subst (λ (x : Script). Does command x status given before after) (only other t) did);
       lawful = λ other t. subst (λ (x : Script). IsLawful x given) (only other t)
-          (subst (λ (o : Option Outcome). IsLawful script o) (sym ran.outcome_is) (law (setting_at script) script.schedule));
-      outcome_there = λ h. (tt, (script, s), ends);
+          (subst (λ (o : Option Outcome). IsLawful script o) (sym is) (law (setting_at script) script.schedule));
+      outcome_there = λ h. (run, (script, s), ends);
     }
 
 -- a check is an answer
@@ -117,7 +117,10 @@ checked_answers chunks rows bytes script status given before after once s done =
 pub done_answers : (command : Command) (bytes : List ℕ) (script : Script) (status : ℕ) (given : Option Outcome) (before after : Option (List ℕ)) → Once → Theorem → Spells command bytes script
     → ((status ≡ 5) × IsNone given) ⊎ Does command script status given before after → Answers command bytes status given before after
 done_answers command bytes script status given before after once law s (inl none) = gave_up command bytes script status given before after once s none.0 none.1
-done_answers (Run prune chunks rows) bytes script status given before after once law s (inr ran) = ran_answers prune chunks rows bytes script status given before after once law s ran
+done_answers (Run prune chunks rows) bytes script status given before after once law s (inr ran) =
+    ran_answers (Run prune chunks rows) bytes script status given before after once law tt s ran.outcome_is (done_or_four 0 status before after _ ran.writes) ran
+done_answers (Gen seed sessions txns) bytes script status given before after once law s (inr ran) =
+    ran_answers (Gen seed sessions txns) bytes script status given before after once law tt s ran.outcome_is (done_or_four 0 status before after _ ran.writes) ran
 done_answers (Check chunks rows) bytes script status given before after once law s (inr done) = checked_answers chunks rows bytes script status given before after once s done
 
 whole_is_read : (all : List ℕ) → length all ≤ MOST_BYTES → bytes_read all ≡ all
@@ -154,3 +157,48 @@ pub answers_cut : (command : Command) (status : ℕ) (given : Option Outcome) (o
 answers_cut command status given old new None after once h w nothing = tt
 answers_cut command status given old new (Some all) after once h w nothing =
     inr (refused_answers command (bytes_read all) too_long_refusal status given old new once (cut_is_refused command all h.0) w nothing)
+
+-- a made script was not run, for want of memory
+no_memory_made : (seed sessions txns : ℕ) (script : Script) (status : ℕ) (given : Option Outcome) (before after : Option (List ℕ)) → status ≡ 5 → IsNone given
+    → Makes (Gen seed sessions txns) script status given before after
+no_memory_made seed sessions txns script status given before after five nothing = record { does = inl five; lawful = no_outcome script given nothing }
+
+-- what was done with a made script
+pub made_answers : (seed sessions txns : ℕ) (script : Script) (status : ℕ) (given : Option Outcome) (before after : Option (List ℕ)) → Theorem → script ≡ made seed sessions txns
+    → ((status ≡ 5) × IsNone given) ⊎ Summarizes script status given before after → Makes (Gen seed sessions txns) (made seed sessions txns) status given before after
+made_answers seed sessions txns script status given before after law is done =
+    subst (λ (x : Script). Makes (Gen seed sessions txns) x status given before after) is (⊎_elim (λ p. no_memory_made seed sessions txns script status given before after p.0 p.1)
+    (λ ran. record { does = inr ran; lawful = subst (λ (o : Option Outcome). IsLawful script o) (sym ran.outcome_is) (law (setting_at script) script.schedule) }) done)
+
+-- memory ran out before anything was done
+pub nothing_read : (asked : Option Command) (before after : Option (List ℕ))
+    → IfSome asked (λ command. IsNone (made_by command) → IfSome before (λ all. (◌≡◌ {A = ℕ} 5 3) ⊎ (◌≡◌ {A = ℕ} 5 5) ⊎ (after ≡ Some (bytes_left all))))
+nothing_read None before after = tt
+nothing_read (Some command) None after = λ none. tt
+nothing_read (Some command) (Some all) after = λ none. inr (inl refl)
+
+nothing_answers : (command : Command) (bytes : List ℕ) (held : Option (List ℕ)) → Answers command bytes 5 None held held
+nothing_answers command bytes held =
+    let none : IsNone {T = Outcome} None = search in
+    record {
+      refused = λ why h. inl refl;
+      refuses = λ h. absurd (omega (arith, h));
+      does = λ script s. inl refl;
+      lawful = λ script s. tt;
+      outcome_there = λ h. absurd (none_is_not_some None none h);
+    }
+
+pub nothing_answered : (asked : Option Command) (before held : Option (List ℕ))
+    → IfSome asked (λ command. IsNone (made_by command) → IfSome before (λ all. (◌≡◌ {A = ℕ} 5 3) ⊎ Answers command (bytes_read all) 5 None held held))
+nothing_answered None before held = tt
+nothing_answered (Some command) None held = λ none. tt
+nothing_answered (Some command) (Some all) held = λ none. inr (nothing_answers command (bytes_read all) held)
+
+nothing_made_by : {S : Type 0} (command : Command) (made : Option Script) (held : Option (List ℕ)) (old : S) → IfSome made (λ script. (old ≡ old) × Makes command script 5 None held held)
+nothing_made_by command None held old = tt
+nothing_made_by command (Some script) held old = (refl, record { does = inl refl; lawful = tt })
+
+pub nothing_made : {S : Type 0} (asked : Option Command) (held : Option (List ℕ)) (old : S)
+    → IfSome asked (λ command. IfSome (made_by command) (λ script. (old ≡ old) × Makes command script 5 None held held))
+nothing_made None held old = tt
+nothing_made (Some command) held old = nothing_made_by command (made_by command) held old

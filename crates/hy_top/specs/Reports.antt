@@ -6,9 +6,10 @@ use Rattle.hy_script.specs.declared.Refused.{Refused}
 use Rattle.hy_script.specs.Reading.{Reads}
 use Rattle.hy_render.specs.declared.Outcome.{Outcome}
 use Rattle.hy_render.specs.Report.{text}
+use Rattle.hy_render.specs.Summary.{summary_of}
 use Rattle.hy_lawful.specs.Lawful.{Lawful}
 use Rattle.hy_words.specs.declared.Command.{Command}
-use Rattle.hy_words.specs.declared.Command.TheVariants.{Run, Check}
+use Rattle.hy_words.specs.declared.Command.TheVariants.{Run, Check, Gen}
 use Rattle.hy_top.specs.Lines.{refusal_line_of, checked_line}
 use Rattle.hy_top.specs.Program.{options_by, names_at, comes_to}
 use Rattle.hy_top.specs.Settings.{setting_at}
@@ -21,9 +22,11 @@ IsRefused command bytes refused = Reads bytes (options_by command) (Err refused)
 abbrev pub Spells : Command → List ℕ → Script → Type 0
 Spells command bytes script = Reads bytes (options_by command) (Ok script)
 
+-- the command runs its script
 abbrev pub IsRun : Command → Type 0
 IsRun (Run prune chunks rows) = Unit {0}
 IsRun (Check chunks rows) = ⊥
+IsRun (Gen seed sessions txns) = Unit {0}
 
 -- a text was written whole, and the status is the one for that, or its first bytes were, and the status is 4
 abbrev pub Writes : ℕ → ℕ → Option (List ℕ) → Option (List ℕ) → List ℕ → Type 0
@@ -34,6 +37,11 @@ pub record Runs (script : Script) (status : ℕ) (outcome : Option Outcome) (bef
   pub outcome_is : outcome ≡ Some (comes_to script)
   pub writes : Writes 0 status before after (text (names_at script) (comes_to script))
 
+-- the script was run: the outcome is there, and its summary was written
+pub record Summarizes (script : Script) (status : ℕ) (outcome : Option Outcome) (before after : Option (List ℕ)) : Type 0 where
+  pub outcome_is : outcome ≡ Some (comes_to script)
+  pub writes : Writes 0 status before after (summary_of (comes_to script))
+
 -- the script was read: what it has was written
 pub record Checks (script : Script) (status : ℕ) (outcome : Option Outcome) (before after : Option (List ℕ)) : Type 0 where
   pub nothing_is_run : IsNone outcome
@@ -43,6 +51,12 @@ pub record Checks (script : Script) (status : ℕ) (outcome : Option Outcome) (b
 abbrev pub Does : Command → Script → ℕ → Option Outcome → Option (List ℕ) → Option (List ℕ) → Type 0
 Does (Run prune chunks rows) script status outcome before after = Runs script status outcome before after
 Does (Check chunks rows) script status outcome before after = Checks script status outcome before after
+Does (Gen seed sessions txns) script status outcome before after = Summarizes script status outcome before after
+
+-- what a command did with a script that it made: what it asks for, unless memory ran out, and a lawful outcome
+pub record Makes (command : Command) (script : Script) (status : ℕ) (outcome : Option Outcome) (before after : Option (List ℕ)) : Type 0 where
+  pub does : (status ≡ 5) ⊎ Does command script status outcome before after
+  pub lawful : IfSome outcome (λ given. Lawful (setting_at script) given)
 
 -- the answer to bytes that a command read: a status, an outcome or none, and what the sink holds before and after
 pub record Answers (command : Command) (bytes : List ℕ) (status : ℕ) (outcome : Option Outcome) (before after : Option (List ℕ)) : Type 0 where

@@ -6,19 +6,22 @@ ghost use Rattle.std.specs.String.{string_bytes};
 ghost use Rattle.hy_outside.specs.Faults.{Rose};
 ghost use Rattle.hy_outside.specs.Telling.{GivesAtMost};
 ghost use Rattle.hy_render.specs.Report.{text};
+ghost use Rattle.hy_render.specs.Summary.{summary_of};
 ghost use Rattle.hy_words.specs.declared.Command.{Command};
 ghost use Rattle.hy_words.specs.Words.{command_of};
+ghost use Rattle.hy_gen.specs.Made.{made};
 ghost use Rattle.hy_top.specs.Lines.{usage_line, refusal_line_of, checked_line};
-ghost use Rattle.hy_top.specs.Program.{bytes_read, bytes_left, options_by, names_at, comes_to};
-ghost use Rattle.hy_top.specs.Reports.{Writes, Answers, Runs, Checks, Does};
+ghost use Rattle.hy_top.specs.Program.{bytes_read, bytes_left, options_by, made_by, names_at, comes_to};
+ghost use Rattle.hy_top.specs.Reports.{Writes, Answers, Runs, Checks, Summarizes, Does, Makes};
 
 mod lines;
 mod settings;
 
+use hy_gen::make;
 use hy_lawful::runs_are_lawful;
 use hy_limits::MOST_BYTES;
 use hy_outside::{ReadAllError, Sink, Source, read_all, write_all};
-use hy_render::{Outcome, render};
+use hy_render::{Names, Outcome, render, summarize};
 use hy_script::{Code, Options, ReadError, Refused, Script, read_once};
 use hy_words::{Command, WordsError};
 use lines::{checked, refusal_line};
@@ -39,8 +42,9 @@ pub struct Report {
 const USAGE: &[u8] = b"usage: hy run|check|gen\n";
 
 /// Runs the command that these words are: `run` reads a script from the source, runs it, and writes the
-/// text of its outcome to the sink; `check` reads a script and writes what it has. The first word is the
-/// program's name. What is said of bytes holds where the source and the sink tell them.
+/// text of its outcome to the sink; `check` reads a script and writes what it has; `gen` makes a script, runs it, and
+/// writes a summary of its outcome. The first word is the program's name. What is said of bytes holds where the source
+/// and the sink tell them.
 pub fn run<R: Source, W: Sink>(
     alloc: Global,
     words: &[String],
@@ -52,17 +56,21 @@ pub fn run<R: Source, W: Sink>(
         × ((result.status ≡ 5) ⊎ Writes 1 result.status (W.written sink.old) (W.written sink.new) usage_line) }
     ensures usage { result.status ≡ 1 → command_of (map string_bytes words.now) ≡ None }
 
-    // The bytes read are the source's whole rest, or its first 16,777,217.
-    ensures bytes { IsSome (command_of (map string_bytes words.now)) → IfSome (R.rest source.old) (λ all.
-        (result.status ≡ 3) ⊎ (result.status ≡ 5) ⊎ (R.rest source.new ≡ Some (bytes_left all))) }
+    // Of a command that reads a script the bytes read are the source's whole rest, or its first 16,777,217.
+    ensures bytes { IfSome (command_of (map string_bytes words.now)) (λ command. IsNone (made_by command) → IfSome (R.rest source.old) (λ all.
+        (result.status ≡ 3) ⊎ (result.status ≡ 5) ⊎ (R.rest source.new ≡ Some (bytes_left all)))) }
 
     // Whatever the status, the source gave some first bytes, and no more than one past the limit.
     ensures given { GivesAtMost (R.rest source.old) (R.rest source.new) (MOST_BYTES + 1) }
 
     // Where these bytes are refused the refusal line is written. Where they spell a script it is run, and the
     // text of its outcome is written, which is the machine's run of that script, and lawful; or it is checked.
-    ensures answers { IfSome (command_of (map string_bytes words.now)) (λ command. IfSome (R.rest source.old) (λ all.
+    ensures answers { IfSome (command_of (map string_bytes words.now)) (λ command. IsNone (made_by command) → IfSome (R.rest source.old) (λ all.
         (result.status ≡ 3) ⊎ Answers command (bytes_read all) result.status result.outcome (W.written sink.old) (W.written sink.new))) }
+
+    // A command that makes its script runs that, and writes the summary of its outcome; the source is as it was.
+    ensures made { IfSome (command_of (map string_bytes words.now)) (λ command. IfSome (made_by command) (λ script.
+        (source.new ≡ source.old) × Makes command script result.status result.outcome (W.written sink.old) (W.written sink.new))) }
 
     // A fault has its cause in the source or in the sink. At 3 and 5 nothing is written, and nothing was run.
     ensures read_fault { result.status ≡ 3 → Rose (R.faults source.old) (R.faults source.new) × (sink.new ≡ sink.old) × IsNone result.outcome }
@@ -79,12 +87,35 @@ pub fn run<R: Source, W: Sink>(
     ensures statuses { result.status ≤ 5 }
 {
     match hy_words::command_of(alloc, words) {
+        Ok(Command::Gen {
+            seed,
+            sessions,
+            txns,
+        }) => run_made(alloc, seed, sessions, txns, sink),
         Ok(command) => run_command(alloc, command, source, sink),
         Err(WordsError::Refused) => Report {
             status: write(sink, USAGE, 1),
             outcome: None,
         },
         Err(WordsError::OutOfMemory) => Report {
+            status: 5,
+            outcome: None,
+        },
+    }
+}
+
+/// Makes a script, runs it, and writes the summary of its outcome.
+fn run_made<W: Sink>(alloc: Global, seed: u32, sessions: u32, txns: u32, sink: &mut W) -> Report
+    ensures makes { Makes (Command.Gen seed sessions txns) (made seed sessions txns) result.status result.outcome (W.written sink.old) (W.written sink.new) }
+    ensures write_fault { result.status ≡ 4 → Rose (W.faults sink.old) (W.faults sink.new) }
+    ensures sink_steady { result.status ≢ 4 → W.faults sink.new ≡ W.faults sink.old }
+    ensures no_memory { result.status ≡ 5 → (sink.new ≡ sink.old) × IsNone result.outcome }
+    ensures statuses { (result.status ≢ 1) × (result.status ≢ 2) × (result.status ≢ 3) × (result.status ≤ 5) }
+{
+    runs_are_lawful();
+    match make(alloc, seed, sessions, txns) {
+        Ok(script) => summarize_script(alloc, script, sink),
+        Err(_) => Report {
             status: 5,
             outcome: None,
         },
@@ -176,6 +207,10 @@ fn options_of(command: Command) -> Options
             rows,
         } => Options { chunks, rows },
         Command::Check { chunks, rows } => Options { chunks, rows },
+        Command::Gen { .. } => Options {
+            chunks: 4,
+            rows: 16,
+        },
     }
 }
 
@@ -199,7 +234,7 @@ fn answer<W: Sink>(alloc: Global, command: Command, bytes: &[u8], sink: &mut W) 
     }
 }
 
-/// Runs or checks a script.
+/// Does what a command asks for with a script.
 fn perform<W: Sink>(alloc: Global, command: Command, script: Script, sink: &mut W) -> Report
     ensures does { (result.status ≡ 5) × (sink.new ≡ sink.old) × IsNone result.outcome
         ⊎ Does command script result.status result.outcome (W.written sink.old) (W.written sink.new) }
@@ -209,6 +244,7 @@ fn perform<W: Sink>(alloc: Global, command: Command, script: Script, sink: &mut 
     match command {
         Command::Run { .. } => run_script(alloc, script, sink),
         Command::Check { .. } => check_script(alloc, script, sink),
+        Command::Gen { .. } => summarize_script(alloc, script, sink),
     }
 }
 
@@ -220,14 +256,40 @@ fn run_script<W: Sink>(alloc: Global, script: Script, sink: &mut W) -> Report
     ensures sink_steady { result.status ≢ 4 → W.faults sink.new ≡ W.faults sink.old }
 {
     match outcome_and_text(alloc, script) {
-        Ok((outcome, written)) => Report {
-            status: write(sink, written.as_slice(), 0),
-            outcome: Some(outcome),
-        },
+        Ok((outcome, written)) => tell(outcome, written.as_slice(), sink),
         Err(_) => Report {
             status: 5,
             outcome: None,
         },
+    }
+}
+
+/// Runs a script and writes the summary of its outcome.
+fn summarize_script<W: Sink>(alloc: Global, script: Script, sink: &mut W) -> Report
+    ensures run { (result.status ≡ 5) × (sink.new ≡ sink.old) × IsNone result.outcome
+        ⊎ Summarizes script result.status result.outcome (W.written sink.old) (W.written sink.new) }
+    ensures write_fault { result.status ≡ 4 → Rose (W.faults sink.old) (W.faults sink.new) }
+    ensures sink_steady { result.status ≢ 4 → W.faults sink.new ≡ W.faults sink.old }
+{
+    match outcome_and_summary(alloc, script) {
+        Ok((outcome, written)) => tell(outcome, written.as_slice(), sink),
+        Err(_) => Report {
+            status: 5,
+            outcome: None,
+        },
+    }
+}
+
+/// Writes what tells an outcome.
+fn tell<W: Sink>(outcome: Outcome, written: &[u8], sink: &mut W) -> Report
+    ensures there { result.outcome ≡ Some outcome }
+    ensures writes { Writes 0 result.status (W.written sink.old) (W.written sink.new) written.now }
+    ensures write_fault { result.status ≡ 4 → Rose (W.faults sink.old) (W.faults sink.new) }
+    ensures sink_steady { result.status ≢ 4 → W.faults sink.new ≡ W.faults sink.old }
+{
+    Report {
+        status: write(sink, written, 0),
+        outcome: Some(outcome),
     }
 }
 
@@ -250,14 +312,32 @@ fn check_script<W: Sink>(alloc: Global, script: Script, sink: &mut W) -> Report
     }
 }
 
-/// The outcome of the machine's run of a script, and its text.
-fn outcome_and_text(alloc: Global, script: Script) -> Result<(Outcome, Vec<u8>), AllocError>
-    ensures { IfOk result (λ given. (given.0 ≡ comes_to script) × (given.1.items ≡ text (names_at script) (comes_to script))) }
+/// The outcome of the machine's run of a script, and the names that it is printed with.
+fn named_outcome(alloc: Global, script: Script) -> Result<(Outcome, Names), AllocError>
+    ensures { IfOk result (λ given. (given.0 ≡ comes_to script) × (given.1 ≡ names_at script)) }
 {
     let (setting, names, schedule) = setting_of(alloc, script)?;
     let machine = hy_machine::run(alloc, &setting, schedule.as_slice())?;
     let outcome = hy_machine::outcome(alloc, &setting, &machine)?;
+    Ok((outcome, names))
+}
+
+/// The outcome of the machine's run of a script, and its text.
+fn outcome_and_text(alloc: Global, script: Script) -> Result<(Outcome, Vec<u8>), AllocError>
+    ensures { IfOk result (λ given. (given.0 ≡ comes_to script) × (given.1.items ≡ text (names_at script) (comes_to script))) }
+{
+    let (outcome, names) = named_outcome(alloc, script)?;
     let mut written = Vec::new(alloc);
     render(&names, &outcome, &mut written)?;
+    Ok((outcome, written))
+}
+
+/// The outcome of the machine's run of a script, and its summary.
+fn outcome_and_summary(alloc: Global, script: Script) -> Result<(Outcome, Vec<u8>), AllocError>
+    ensures { IfOk result (λ given. (given.0 ≡ comes_to script) × (given.1.items ≡ summary_of (comes_to script))) }
+{
+    let (outcome, _) = named_outcome(alloc, script)?;
+    let mut written = Vec::new(alloc);
+    summarize(&outcome, &mut written)?;
     Ok((outcome, written))
 }

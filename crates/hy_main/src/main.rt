@@ -1,14 +1,14 @@
 //! The program `hy`: makes the real words, reader and writer, and ends with the status of the call.
 #![tactic(auto)]
 
-ghost use Rattle.std.specs.Prelude.{◌≡◌, ◌≢◌, ◌⊎◌, Option, None, IfSome, map};
+ghost use Rattle.std.specs.Prelude.{◌≡◌, ◌≢◌, ◌⊎◌, Option, None, IsNone, IfSome, map};
 ghost use Rattle.std.specs.Process.{exit_status};
 ghost use Rattle.std.specs.String.{string_bytes};
 ghost use Rattle.hy_render.specs.declared.Outcome.{Outcome};
 ghost use Rattle.hy_words.specs.Words.{command_of};
 ghost use Rattle.hy_top.specs.Lines.{usage_line};
-ghost use Rattle.hy_top.specs.Program.{bytes_read};
-ghost use Rattle.hy_top.specs.Reports.{Writes, Answers};
+ghost use Rattle.hy_top.specs.Program.{bytes_read, made_by};
+ghost use Rattle.hy_top.specs.Reports.{Writes, Answers, Makes};
 
 use hy_outside::{Sink, Source, StdSink, StdSource};
 use std::alloc::{AllocError, Global};
@@ -39,9 +39,11 @@ fn exit_code_of<R: Source, W: Sink>(
     ensures words_refused { command_of (map string_bytes words.now) ≡ None
         → (exit_status result ≡ 5) ⊎ Writes 1 (exit_status result) (W.written sink.old) (W.written sink.new) usage_line }
     ensures usage { exit_status result ≡ 1 → command_of (map string_bytes words.now) ≡ None }
-    ensures answers { IfSome (command_of (map string_bytes words.now)) (λ command. IfSome (R.rest source.old) (λ all.
+    ensures answers { IfSome (command_of (map string_bytes words.now)) (λ command. IsNone (made_by command) → IfSome (R.rest source.old) (λ all.
         (exit_status result ≡ 3) ⊎ ((outcome : Option Outcome)
         × Answers command (bytes_read all) (exit_status result) outcome (W.written sink.old) (W.written sink.new)))) }
+    ensures made { IfSome (command_of (map string_bytes words.now)) (λ command. IfSome (made_by command) (λ script. (source.new ≡ source.old)
+        × ((outcome : Option Outcome) × Makes command script (exit_status result) outcome (W.written sink.old) (W.written sink.new)))) }
     ensures source_steady { exit_status result ≢ 3 → R.faults source.new ≡ R.faults source.old }
     ensures sink_steady { exit_status result ≢ 4 → W.faults sink.new ≡ W.faults sink.old }
 {

@@ -1,0 +1,189 @@
+-- Two tables of cells as changes of one, position by position, and what SELECT and GROUP BY say over both.
+use Rattle.std.proofs.Common.{◌≡◌, ℕ, zero, suc, ◌≤◌, List, [], ◌∷◌, Option, None, Some, Bool, true, false, get_or, map, refl, ap, sym, ◌∙◌, subst, inl, inr}
+use Rattle.std.specs.Prelude.{not, ◌&&◌, ◌==◌, slice_index_or}
+use Rattle.std.specs.List.{All, list_any, list_all}
+use Rattle.std.specs.Option.{option_map}
+use Rattle.std.proofs.lemmas.Bool.{cases_Bool}
+use Rattle.std.proofs.lemmas.Option.{same_Some}
+use Rattle.hy_value.specs.declared.Value.{Value}
+use Rattle.hy_bound.specs.declared.Aggregate.{Aggregate}
+use Rattle.hy_bound.specs.declared.Bound.{Bound}
+use Rattle.hy_bound.specs.declared.Bound.TheVariants.{Select, Group}
+use Rattle.hy_bound.specs.declared.Items.{Items}
+use Rattle.hy_bound.specs.declared.On.{On}
+use Rattle.hy_bound.specs.declared.Record.{Record}
+use Rattle.hy_bound.specs.declared.Shape.{Shape}
+use Rattle.hy_bound.specs.Agreement.{FitTable, HasItsKey, HaveWidth}
+use Rattle.hy_bound.specs.Changes.{Change, present, rows_before, rows_after, are_missed, changes_at, Miss, FitChanges}
+use Rattle.hy_bound.specs.Condition.{Condition}
+use Rattle.hy_bound.specs.Records.{is_hit, shape_of}
+use Rattle.hy_meaning.specs.Statement.{Table, rows_in, gathered_by, answer_of, grouped, mean}
+use Rattle.hy_plan.specs.Reads.{records_of}
+use Rattle.hy_machine.specs.Positions.{item_at}
+use Rattle.hy_machine.specs.Tables.{Cell, Tables}
+use Rattle.hy_machine.specs.Turns.{rows_seen}
+use Rattle.hy_machine.specs.Validation.{record_hit}
+use Rattle.hy_replay.specs.Laws.{HaveWidths}
+use Rattle.hy_replay.proofs.Hits.{none_hit}
+
+-- ---- changes
+
+-- the cells of two tables, position by position
+abbrev pub paired_cells : List Cell → List Cell → List Change
+paired_cells [] [] = []
+paired_cells [] (other ∷ others) = (None, other) ∷ paired_cells [] others
+paired_cells (cell ∷ cells) [] = (cell, None) ∷ paired_cells cells []
+paired_cells (cell ∷ cells) (other ∷ others) = (cell, other) ∷ paired_cells cells others
+
+-- those of all tables
+abbrev pub paired : Tables → Tables → List (List Change)
+paired [] [] = []
+paired [] (other ∷ others) = paired_cells [] other ∷ paired [] others
+paired (cells ∷ tables) [] = paired_cells cells [] ∷ paired tables []
+paired (cells ∷ tables) (other ∷ others) = paired_cells cells other ∷ paired tables others
+
+before_paired : (cells others : List Cell) → rows_before (paired_cells cells others) ≡ present cells
+before_paired [] [] = refl
+before_paired [] (other ∷ others) = before_paired [] others
+before_paired (None ∷ cells) [] = before_paired cells []
+before_paired (Some row ∷ cells) [] = ap (λ (rows : List (List Value)). row ∷ rows) (before_paired cells [])
+before_paired (None ∷ cells) (other ∷ others) = before_paired cells others
+before_paired (Some row ∷ cells) (other ∷ others) = ap (λ (rows : List (List Value)). row ∷ rows) (before_paired cells others)
+
+after_paired : (cells others : List Cell) → rows_after (paired_cells cells others) ≡ present others
+after_paired [] [] = refl
+after_paired [] (None ∷ others) = after_paired [] others
+after_paired [] (Some row ∷ others) = ap (λ (rows : List (List Value)). row ∷ rows) (after_paired [] others)
+after_paired (cell ∷ cells) [] = after_paired cells []
+after_paired (cell ∷ cells) (None ∷ others) = after_paired cells others
+after_paired (cell ∷ cells) (Some row ∷ others) = ap (λ (rows : List (List Value)). row ∷ rows) (after_paired cells others)
+
+paired_at : (tables others : Tables) (table : ℕ) → changes_at (paired tables others) table ≡ paired_cells (get_or tables table []) (get_or others table [])
+paired_at [] [] table = refl
+paired_at [] (other ∷ others) zero = refl
+paired_at [] (other ∷ others) (suc table) = paired_at [] others table
+paired_at (cells ∷ tables) [] zero = refl
+paired_at (cells ∷ tables) [] (suc table) = paired_at tables [] table
+paired_at (cells ∷ tables) (other ∷ others) zero = refl
+paired_at (cells ∷ tables) (other ∷ others) (suc table) = paired_at tables others table
+
+rows_at : (rows : List Change → Table) → rows [] ≡ [] → (changes : List (List Change)) (table : ℕ) → rows_in (map rows changes) table ≡ rows (changes_at changes table)
+rows_at rows blank [] table = sym blank
+rows_at rows blank (change ∷ changes) zero = refl
+rows_at rows blank (change ∷ changes) (suc table) = rows_at rows blank changes table
+
+before_at : (tables others : Tables) (table : ℕ) → rows_before (changes_at (paired tables others) table) ≡ rows_seen tables table
+before_at tables others table = ap rows_before (paired_at tables others table) ∙ before_paired (get_or tables table []) (get_or others table [])
+
+after_at : (tables others : Tables) (table : ℕ) → rows_after (changes_at (paired tables others) table) ≡ rows_seen others table
+after_at tables others table = ap rows_after (paired_at tables others table) ∙ after_paired (get_or tables table []) (get_or others table [])
+
+before_in : (tables others : Tables) (table : ℕ) → rows_in (map rows_before (paired tables others)) table ≡ rows_seen tables table
+before_in tables others table = rows_at rows_before refl (paired tables others) table ∙ before_at tables others table
+
+after_in : (tables others : Tables) (table : ℕ) → rows_in (map rows_after (paired tables others)) table ≡ rows_seen others table
+after_in tables others table = rows_at rows_after refl (paired tables others) table ∙ after_at tables others table
+
+all_alike : {X Y : Type 0} (f g : X → Y) → ((x : X) → f x ≡ g x) → (xs : List X) → map f xs ≡ map g xs
+all_alike f g same [] = refl
+all_alike f g same (x ∷ xs) = ap (λ y. y ∷ map f xs) (same x) ∙ ap (λ ys. g x ∷ ys) (all_alike f g same xs)
+
+-- ---- they fit, and miss what is missed at each position
+
+-- each shape's width and key are right
+abbrev pub ShapesFit : List Shape → Type 0
+ShapesFit shapes = (table : ℕ) → HasItsKey (shape_of shapes table) × ((shape_of shapes table).width ≤ 32)
+
+-- no record is hit where a cell of other tables stands in place of one of these
+abbrev pub MissEach : List Record → Tables → Tables → Type 0
+MissEach records tables others = (table pos : ℕ) → record_hit records table (item_at tables table pos) (item_at others table pos) ≡ None
+
+pub paired_fit : (shapes : List Shape) (tables others : Tables) → ShapesFit shapes → HaveWidths shapes tables → HaveWidths shapes others
+    → FitChanges shapes (paired tables others)
+paired_fit shapes tables others fit wide also table = (
+  (fit table).0,
+  (
+    ((fit table).1, subst (HaveWidth (shape_of shapes table).width) (sym (before_at tables others table)) (wide table)),
+    ((fit table).1, subst (HaveWidth (shape_of shapes table).width) (sym (after_at tables others table)) (also table)),
+  ),
+)
+
+cells_miss : (records : List Record) (table : ℕ) (cells others : List Cell)
+    → ((i : ℕ) → record_hit records table (get_or cells i None) (get_or others i None) ≡ None) → are_missed records table (paired_cells cells others) ≡ true
+cells_miss records table [] [] h = refl
+cells_miss records table [] (other ∷ others) h =
+    rw (none_hit records table None other (h zero)) (cells_miss records table [] others (λ i. h (suc i)))
+cells_miss records table (cell ∷ cells) [] h =
+    rw (none_hit records table cell None (h zero)) (cells_miss records table cells [] (λ i. h (suc i)))
+cells_miss records table (cell ∷ cells) (other ∷ others) h =
+    rw (none_hit records table cell other (h zero)) (cells_miss records table cells others (λ i. h (suc i)))
+
+pub paired_miss : (records : List Record) (tables others : Tables) → MissEach records tables others → Miss records (paired tables others)
+paired_miss records tables others h table =
+    ap (are_missed records table) (paired_at tables others table)
+    ∙ cells_miss records table (get_or tables table []) (get_or others table []) (h table)
+
+-- ---- SELECT and GROUP BY
+
+-- changes that hit none of a statement's records leave its records
+abbrev pub KeepsRecords : Type 0
+KeepsRecords =
+    (shapes : List Shape) (number : ℕ) (statement : Bound) (changes : List (List Change)) → FitChanges shapes changes
+    → Miss (records_of shapes number statement (gathered_by statement (map rows_before changes))) changes
+    → records_of shapes number statement (gathered_by statement (map rows_after changes))
+    ≡ records_of shapes number statement (gathered_by statement (map rows_before changes))
+
+-- and its reply
+abbrev pub KeepsReplies : Type 0
+KeepsReplies =
+    (shapes : List Shape) (number : ℕ) (statement : Bound) (changes : List (List Change)) → FitChanges shapes changes
+    → Miss (records_of shapes number statement (gathered_by statement (map rows_before changes))) changes
+    → option_map (λ given. given.0) (mean shapes statement (map rows_after changes))
+    ≡ option_map (λ given. given.0) (mean shapes statement (map rows_before changes))
+
+select_miss : (shapes : List Shape) (number : ℕ) (from : List ℕ) (ons : List On) (pred : Condition) (items : Items) (tables others : Tables)
+    → MissEach (records_of shapes number (Select from ons pred items) (map (rows_seen tables) from)) tables others
+    → Miss (records_of shapes number (Select from ons pred items) (map (rows_in (map rows_before (paired tables others))) from)) (paired tables others)
+select_miss shapes number from ons pred items tables others miss =
+    subst (λ (gathered : List Table). Miss (records_of shapes number (Select from ons pred items) gathered) (paired tables others))
+    (sym (all_alike (rows_in (map rows_before (paired tables others))) (rows_seen tables) (before_in tables others) from))
+    (paired_miss (records_of shapes number (Select from ons pred items) (map (rows_seen tables) from)) tables others miss)
+
+-- a SELECT logs the same records
+pub select_records : KeepsRecords → (shapes : List Shape) (number : ℕ) (from : List ℕ) (ons : List On) (pred : Condition) (items : Items) (tables others : Tables)
+    → ShapesFit shapes → HaveWidths shapes tables → HaveWidths shapes others
+    → MissEach (records_of shapes number (Select from ons pred items) (map (rows_seen tables) from)) tables others
+    → records_of shapes number (Select from ons pred items) (map (rows_seen others) from)
+    ≡ records_of shapes number (Select from ons pred items) (map (rows_seen tables) from)
+select_records keeps shapes number from ons pred items tables others fit wide also miss =
+    let logged : List Table → List Record = records_of shapes number (Select from ons pred items) in
+    ap logged (sym (all_alike (rows_in (map rows_after (paired tables others))) (rows_seen others) (after_in tables others) from))
+    ∙ (keeps shapes number (Select from ons pred items) (paired tables others) (paired_fit shapes tables others fit wide also)
+    (select_miss shapes number from ons pred items tables others miss)
+    ∙ ap logged (all_alike (rows_in (map rows_before (paired tables others))) (rows_seen tables) (before_in tables others) from))
+
+-- and has the same answer
+pub select_answer : KeepsReplies → (shapes : List Shape) (number : ℕ) (from : List ℕ) (ons : List On) (pred : Condition) (items : Items) (tables others : Tables)
+    → ShapesFit shapes → HaveWidths shapes tables → HaveWidths shapes others
+    → MissEach (records_of shapes number (Select from ons pred items) (map (rows_seen tables) from)) tables others
+    → answer_of ons pred items (map (rows_seen others) from) ≡ answer_of ons pred items (map (rows_seen tables) from)
+select_answer keeps shapes number from ons pred items tables others fit wide also miss =
+    ap (answer_of ons pred items) (sym (all_alike (rows_in (map rows_after (paired tables others))) (rows_seen others) (after_in tables others) from))
+    ∙ (same_Some (answer_of ons pred items (map (rows_in (map rows_after (paired tables others))) from))
+    (answer_of ons pred items (map (rows_in (map rows_before (paired tables others))) from))
+    (keeps shapes number (Select from ons pred items) (paired tables others) (paired_fit shapes tables others fit wide also)
+    (select_miss shapes number from ons pred items tables others miss))
+    ∙ ap (answer_of ons pred items) (all_alike (rows_in (map rows_before (paired tables others))) (rows_seen tables) (before_in tables others) from))
+
+-- a SELECT with GROUP BY has the same answer
+pub group_answer : KeepsReplies → (shapes : List Shape) (number table : ℕ) (pred : Condition) (key : ℕ) (aggregate : Aggregate) (tables others : Tables)
+    → ShapesFit shapes → HaveWidths shapes tables → HaveWidths shapes others
+    → MissEach (records_of shapes number (Group table pred key aggregate) []) tables others
+    → grouped pred key aggregate (rows_seen others table) ≡ grouped pred key aggregate (rows_seen tables table)
+group_answer keeps shapes number table pred key aggregate tables others fit wide also miss =
+    ap (grouped pred key aggregate) (sym (after_in tables others table))
+    ∙ (same_Some (grouped pred key aggregate (rows_in (map rows_after (paired tables others)) table))
+    (grouped pred key aggregate (rows_in (map rows_before (paired tables others)) table))
+    (keeps shapes number (Group table pred key aggregate) (paired tables others) (paired_fit shapes tables others fit wide also)
+    (paired_miss (records_of shapes number (Group table pred key aggregate) []) tables others miss))
+    ∙ ap (grouped pred key aggregate) (before_in tables others table))

@@ -1,3 +1,5 @@
 pub mod Cells
 pub mod Hits
 pub mod Changes
+pub mod Views
+pub mod Sweeps

@@ -3,3 +3,5 @@ pub mod Hits
 pub mod Changes
 pub mod Views
 pub mod Sweeps
+pub mod Truths
+pub mod Statements

@@ -5,3 +5,4 @@ pub mod Views
 pub mod Sweeps
 pub mod Truths
 pub mod Statements
+pub mod Runs

@@ -12,7 +12,6 @@ use Rattle.hy_machine.specs.declared.Setting.{Setting}
 use Rattle.hy_machine.specs.declared.Write.{Write}
 use Rattle.hy_machine.specs.Positions.{item_at}
 use Rattle.hy_machine.specs.Tables.{Cell, Tables, Own, capacity, overlaid, covered, over}
-use Rattle.hy_machine.specs.Turns.{rows_seen}
 use Rattle.hy_machine.specs.Writes.{blank_own, with_write, with_writes}
 use Rattle.hy_replay.specs.Laws.{AreTables, HaveWidths}
 

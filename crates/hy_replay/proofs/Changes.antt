@@ -1,9 +1,6 @@
 -- Two tables of cells as changes of one, position by position, and what SELECT and GROUP BY say over both.
-use Rattle.std.proofs.Common.{◌≡◌, ℕ, zero, suc, ◌≤◌, List, [], ◌∷◌, Option, None, Some, Bool, true, false, get_or, map, refl, ap, sym, ◌∙◌, subst, inl, inr}
-use Rattle.std.specs.Prelude.{not, ◌&&◌, ◌==◌, slice_index_or}
-use Rattle.std.specs.List.{All, list_any, list_all}
+use Rattle.std.proofs.Common.{◌≡◌, ℕ, zero, suc, ◌≤◌, List, [], ◌∷◌, None, Some, true, get_or, map, refl, ap, sym, ◌∙◌, subst}
 use Rattle.std.specs.Option.{option_map}
-use Rattle.std.proofs.lemmas.Bool.{cases_Bool}
 use Rattle.std.proofs.lemmas.Option.{same_Some}
 use Rattle.hy_value.specs.declared.Value.{Value}
 use Rattle.hy_bound.specs.declared.Aggregate.{Aggregate}
@@ -13,10 +10,10 @@ use Rattle.hy_bound.specs.declared.Items.{Items}
 use Rattle.hy_bound.specs.declared.On.{On}
 use Rattle.hy_bound.specs.declared.Record.{Record}
 use Rattle.hy_bound.specs.declared.Shape.{Shape}
-use Rattle.hy_bound.specs.Agreement.{FitTable, HasItsKey, HaveWidth}
+use Rattle.hy_bound.specs.Agreement.{HasItsKey, HaveWidth}
 use Rattle.hy_bound.specs.Changes.{Change, present, rows_before, rows_after, are_missed, changes_at, Miss, FitChanges}
 use Rattle.hy_bound.specs.Condition.{Condition}
-use Rattle.hy_bound.specs.Records.{is_hit, shape_of}
+use Rattle.hy_bound.specs.Records.{shape_of}
 use Rattle.hy_meaning.specs.Statement.{Table, rows_in, gathered_by, answer_of, grouped, mean}
 use Rattle.hy_plan.specs.Reads.{records_of}
 use Rattle.hy_machine.specs.Positions.{item_at}

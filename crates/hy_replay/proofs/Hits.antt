@@ -1,16 +1,16 @@
 -- What it says that no record is hit where a cell stands in place of another one.
-use Rattle.std.proofs.Common.{◌≡◌, ℕ, suc, List, [], ◌∷◌, ◌++◌, Option, None, Some, Bool, true, false, refl, ap, sym, ◌∙◌, ◌⊎◌, inl, inr, Ordering, Less, Equal, Greater, is_eq}
+use Rattle.std.proofs.Common.{◌≡◌, ℕ, suc, List, [], ◌∷◌, ◌++◌, Option, None, Some, Bool, true, false, refl, ap, Ordering, Less, Equal, Greater, is_eq}
 use Rattle.std.specs.Ordering.{ordering_reverse}
 use Rattle.std.specs.Prelude.{not, ◌&&◌, ◌||◌, ◌==◌, if◌then◌else◌}
 use Rattle.std.specs.List.{list_any}
-use Rattle.std.proofs.lemmas.Bool.{cases_Bool, eq-eqb}
+use Rattle.std.proofs.lemmas.Bool.{eq-eqb}
 use Rattle.hy_value.specs.declared.Value.{Value}
 use Rattle.hy_value.specs.declared.ColMask.{ColMask}
 use Rattle.hy_value.specs.Columns.{has_column}
 use Rattle.hy_value.specs.Order.{value_cmp}
 use Rattle.hy_value.specs.TotalOrder.{values_total}
 use Rattle.hy_bound.specs.declared.Record.{Record}
-use Rattle.hy_bound.specs.Predicate.{truth_at, differ_from, changes_on}
+use Rattle.hy_bound.specs.Predicate.{truth_at, differ_from}
 use Rattle.hy_bound.specs.Records.{is_hit}
 use Rattle.hy_machine.specs.Tables.{Cell}
 use Rattle.hy_machine.specs.Validation.{record_hit}

@@ -1,5 +1,5 @@
 -- Statements one after another over tables that differ unseen come to the same.
-use Rattle.std.proofs.Common.{◌≡◌, ℕ, zero, suc, ◌<◌, ◌≤◌, ◌⊎◌, inl, inr, List, [], ◌∷◌, ◌++◌, Option, None, Some, length, get_or, refl, ap, sym, ◌∙◌, subst, arith}
+use Rattle.std.proofs.Common.{◌≡◌, ℕ, zero, suc, ◌≤◌, inl, inr, List, [], ◌∷◌, ◌++◌, Option, None, Some, length, refl, ap, sym, ◌∙◌, subst, arith}
 use Rattle.std.specs.List.{All}
 use Rattle.std.specs.Option.{option_and_then, option_map}
 use Rattle.std.proofs.lemmas.Bool.{cases_lt}
@@ -13,10 +13,10 @@ use Rattle.hy_bound.specs.Fits.{FitsShape, FitsStatement}
 use Rattle.hy_bound.specs.Records.{no_shape, shape_of}
 use Rattle.hy_machine.specs.declared.Setting.{Setting}
 use Rattle.hy_machine.specs.Positions.{item_at}
-use Rattle.hy_machine.specs.Tables.{Cell, Tables, Own, capacity}
-use Rattle.hy_machine.specs.Writes.{blank_own, with_writes}
-use Rattle.hy_replay.specs.Laws.{AreTables, HaveWidths, IsUnseenAt, DifferUnseen, RunsAgain}
-use Rattle.hy_replay.specs.Ran.{One, one, Ran, after_one, ran_from, ran}
+use Rattle.hy_machine.specs.Tables.{Tables, Own, capacity}
+use Rattle.hy_machine.specs.Writes.{blank_own}
+use Rattle.hy_replay.specs.Laws.{AreTables, HaveWidths, DifferUnseen, RunsAgain}
+use Rattle.hy_replay.specs.Ran.{One, one, Ran, after_one, ran_from}
 use Rattle.hy_replay.proofs.Cells.{FitsOwn, writes_fit, writes_grow, blank_fits}
 use Rattle.hy_replay.proofs.Changes.{ShapesFit, KeepsRecords, KeepsReplies}
 use Rattle.hy_replay.proofs.Hits.{front_missed, others_missed}

@@ -1,5 +1,5 @@
 -- One statement over tables that differ unseen comes to the same.
-use Rattle.std.proofs.Common.{◌≡◌, ℕ, zero, suc, ◌<◌, ◌≤◌, List, [], ◌∷◌, Option, None, Some, Bool, true, false, length, get_or, map, is_some, refl, ap, sym, ◌∙◌, subst, inl, inr, ◌⊎◌, arith}
+use Rattle.std.proofs.Common.{◌≡◌, ℕ, ◌<◌, ◌≤◌, List, [], ◌∷◌, Option, None, Some, Bool, true, false, length, get_or, map, is_some, refl, ap, sym, ◌∙◌, subst, inl, inr, ◌⊎◌}
 use Rattle.std.specs.Prelude.{Result, Ok, Err, not, ◌&&◌, if◌then◌else◌}
 use Rattle.std.specs.List.{AllByRecursion, list_any, range_with_len, flat_map}
 use Rattle.std.proofs.lemmas.Option.{same_Some}
@@ -26,7 +26,7 @@ use Rattle.hy_machine.specs.Positions.{item_at}
 use Rattle.hy_machine.specs.Tables.{Cell, Tables, Own, capacity, over}
 use Rattle.hy_machine.specs.Turns.{rows_seen, told_by}
 use Rattle.hy_machine.specs.Validation.{record_hit}
-use Rattle.hy_machine.specs.Visits.{new_cell, verdict, sweep, has_key_in}
+use Rattle.hy_machine.specs.Visits.{new_cell, verdict, has_key_in}
 use Rattle.hy_machine.specs.Writes.{with_write, with_writes}
 use Rattle.hy_replay.specs.Laws.{AreTables, HaveWidths, IsUnseenAt, DifferUnseen}
 use Rattle.hy_replay.specs.Ran.{One, writes_at, changed_by, has_key_at, placed_at, one}

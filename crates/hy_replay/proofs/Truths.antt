@@ -1,5 +1,5 @@
 -- A change that doesn't hit the record of a condition leaves whether it is true.
-use Rattle.std.proofs.Common.{◌≡◌, ℕ, ◌≤◌, List, [], ◌∷◌, length, Option, None, Some, Bool, true, false, refl, ap, sym, ◌∙◌, ◌⊎◌, inl, inr}
+use Rattle.std.proofs.Common.{◌≡◌, ℕ, ◌≤◌, List, [], ◌∷◌, None, Some, Bool, true, false, refl, ap, sym, ◌∙◌, inl, inr}
 use Rattle.std.specs.Prelude.{◌&&◌, ◌||◌}
 use Rattle.std.proofs.lemmas.Bool.{cases_Bool}
 use Rattle.hy_value.specs.declared.Value.{Value}
@@ -9,7 +9,7 @@ use Rattle.hy_bound.specs.declared.Shape.{Shape}
 use Rattle.hy_bound.specs.Agreement.{FitTable}
 use Rattle.hy_bound.specs.Condition.{Condition}
 use Rattle.hy_bound.specs.Masks.{masked_alike}
-use Rattle.hy_bound.specs.Predicate.{truth_of, truth_at, differ_from, changes_on}
+use Rattle.hy_bound.specs.Predicate.{truth_of, truth_at, differ_from}
 use Rattle.hy_bound.specs.Projection.{masked}
 use Rattle.hy_bound.specs.Records.{is_hit}
 use Rattle.hy_plan.specs.Reads.{write_read_of}

@@ -1,6 +1,5 @@
 -- Tables that differ unseen, with own writes over them: no record is hit at any position.
 use Rattle.std.proofs.Common.{◌≡◌, ℕ, ◌⊎◌, List, Option, None, Some, refl, ap, sym, ◌∙◌, inl, inr, length}
-use Rattle.std.proofs.lemmas.Bool.{cases_lt}
 use Rattle.hy_bound.specs.declared.Record.{Record}
 use Rattle.hy_machine.specs.declared.Setting.{Setting}
 use Rattle.hy_machine.specs.Positions.{item_at}

@@ -1,7 +1,6 @@
 -- What the statements of a transaction come to over other tables, and as bags of rows.
-use Rattle.std.specs.Prelude.{◌≡◌, ℕ, List, None, Some, Option, ◌⊎◌, length, map, slice_index_or, []}
+use Rattle.std.specs.Prelude.{◌≡◌, ℕ, List, None, Some, Option, ◌⊎◌, length, map}
 use Rattle.std.specs.List.{All, AllByRecursion}
-use Rattle.hy_value.specs.declared.Value.{Value}
 use Rattle.hy_value.specs.Sorted.{sorted}
 use Rattle.hy_bound.specs.declared.Bound.{Bound}
 use Rattle.hy_bound.specs.declared.Record.{Record}
@@ -10,11 +9,10 @@ use Rattle.hy_bound.specs.Agreement.{HaveWidth}
 use Rattle.hy_bound.specs.Changes.{present}
 use Rattle.hy_bound.specs.Fits.{FitsShape, FitsStatement}
 use Rattle.hy_bound.specs.Records.{shape_of}
-use Rattle.hy_meaning.specs.Statement.{Table, Database}
-use Rattle.hy_meaning.specs.Serial.{alone_of}
+use Rattle.hy_meaning.specs.Statement.{Database}
 use Rattle.hy_machine.specs.declared.Setting.{Setting}
 use Rattle.hy_machine.specs.Positions.{item_at}
-use Rattle.hy_machine.specs.Tables.{Cell, Tables, Own, capacity, over}
+use Rattle.hy_machine.specs.Tables.{Cell, Tables, Own, capacity}
 use Rattle.hy_machine.specs.Turns.{rows_seen}
 use Rattle.hy_machine.specs.Validation.{record_hit}
 use Rattle.hy_replay.specs.Ran.{Ran, ran}

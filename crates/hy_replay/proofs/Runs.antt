@@ -18,9 +18,12 @@ use Rattle.hy_machine.specs.Writes.{blank_own}
 use Rattle.hy_replay.specs.Laws.{AreTables, HaveWidths, DifferUnseen, RunsAgain}
 use Rattle.hy_replay.specs.Ran.{One, one, Ran, after_one, ran_from}
 use Rattle.hy_replay.proofs.Cells.{FitsOwn, writes_fit, writes_grow, blank_fits}
-use Rattle.hy_replay.proofs.Changes.{ShapesFit, KeepsRecords, KeepsReplies}
+use Rattle.hy_replay.proofs.Changes.{ShapesFit}
+use Rattle.hy_replay.proofs.Selects.{KeepsRecords, KeepsReplies}
+use Rattle.hy_replay.proofs.Views.{BothFit}
 use Rattle.hy_replay.proofs.Hits.{front_missed, others_missed}
-use Rattle.hy_replay.proofs.Statements.{LeavesWrites, one_leaves, one_again}
+use Rattle.hy_replay.proofs.Statements.{one_leaves, one_again}
+use Rattle.hy_replay.proofs.Writes.{LeavesWrites}
 use Rattle.hy_replay.proofs.Truths.{SelectsByRead}
 
 -- ---- shapes and statements that fit
@@ -117,32 +120,32 @@ unseen_rest tables others later records more unseen table pos = elim (unseen tab
 
 run_again : KeepsRecords → KeepsReplies → SelectsByRead
     → (setting : Setting) (tables others : Tables) (own : Own) (number : ℕ) (statements : List Bound) (took : List (Option ℕ)) (given : Ran)
-    → ShapesFit setting.shapes → All (FitsStatement setting.shapes) statements
-    → AreTables setting tables → AreTables setting others → HaveWidths setting.shapes tables → HaveWidths setting.shapes others → FitsOwn setting own
+    → BothFit setting tables others → All (FitsStatement setting.shapes) statements → FitsOwn setting own
     → ran_from setting tables own number statements took ≡ Some given → DifferUnseen tables others given.own given.records
     → ran_from setting others own number statements took ≡ Some given
-run_again keeps replies selects setting tables others own number [] took given fit stand are also wide wide_too fits e unseen = e
-run_again keeps replies selects setting tables others own number (statement ∷ statements) [] given fit stand are also wide wide_too fits e unseen = e
-run_again keeps replies selects setting tables others own number (statement ∷ statements) (at ∷ took) given fit stand are also wide wide_too fits e unseen =
+run_again keeps replies selects setting tables others own number [] took given fit stand fits e unseen = e
+run_again keeps replies selects setting tables others own number (statement ∷ statements) [] given fit stand fits e unseen = e
+run_again keeps replies selects setting tables others own number (statement ∷ statements) (at ∷ took) given fit stand fits e unseen =
     let parts = parts_of (one setting tables own number statement at) (λ later. ran_from setting tables later (suc number) statements took) given e in
     let stands : FitsStatement setting.shapes statement = all_first (FitsStatement setting.shapes) statement statements stand in
     let behind : All (FitsStatement setting.shapes) statements = all_rest (FitsStatement setting.shapes) statement statements stand in
     let later : FitsOwn setting parts.one.own =
-    leaves_fit setting own parts.one fits (one_leaves setting tables own number statement at parts.one are wide fits stands parts.first_is) in
+    leaves_fit setting own parts.one fits (one_leaves setting tables own number statement at parts.one fit.are fit.wide fits stands parts.first_is) in
     let differ : DifferUnseen tables others parts.rest.own (parts.one.records ++ parts.rest.records) =
     subst (λ (given : Ran). DifferUnseen tables others given.own given.records) (sym parts.is) unseen in
     let grows : Grows parts.one.own parts.rest.own =
-    run_grows setting tables parts.one.own (suc number) statements took parts.rest behind are wide later parts.rest_is in
+    run_grows setting tables parts.one.own (suc number) statements took parts.rest behind fit.are fit.wide later parts.rest_is in
     let first : one setting others own number statement at ≡ Some parts.one =
-    one_again keeps replies selects setting tables others own number statement at parts.one fit are also wide wide_too fits parts.first_is
+    one_again keeps replies selects setting tables others own number statement at parts.one fit fits parts.first_is
     (unseen_first tables others parts.one.own parts.rest.own parts.one.records parts.rest.records grows differ) in
     let rest : ran_from setting others parts.one.own (suc number) statements took ≡ Some parts.rest =
-    run_again keeps replies selects setting tables others parts.one.own (suc number) statements took parts.rest fit behind are also wide wide_too later
+    run_again keeps replies selects setting tables others parts.one.own (suc number) statements took parts.rest fit behind later
     parts.rest_is (unseen_rest tables others parts.rest.own parts.one.records parts.rest.records differ) in
     ap (option_and_then (λ (one : One). option_map (after_one one) (ran_from setting others one.own (suc number) statements took))) first
     ∙ (ap (option_map (after_one parts.one)) rest ∙ ap Some parts.is)
 
 pub runs_again : KeepsRecords → KeepsReplies → SelectsByRead → RunsAgain
 runs_again keeps replies selects setting tables others statements took given shapes stand are also wide wide_too e unseen =
-    run_again keeps replies selects setting tables others (blank_own setting) 1 statements took given (shapes_fit setting.shapes shapes) stand are also
-    wide wide_too (blank_fits setting) e unseen
+    let fit : BothFit setting tables others =
+    record { shapes = shapes_fit setting.shapes shapes; are = are; others_are = also; wide = wide; others_wide = wide_too } in
+    run_again keeps replies selects setting tables others (blank_own setting) 1 statements took given fit stand (blank_fits setting) e unseen

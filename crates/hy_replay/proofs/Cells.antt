@@ -1,5 +1,6 @@
 -- What stands at a position of tables with own writes over them, and of own writes after more of them.
-use Rattle.std.proofs.Common.{◌≡◌, ℕ, zero, suc, ◌<◌, ◌≤◌, ◌⊎◌, inl, inr, List, [], ◌∷◌, length, map, get_or, replicate, Option, None, Some, refl, ap, sym, ◌∙◌, subst, arith}
+use Rattle.std.proofs.Common.{◌≡◌, ℕ, zero, suc, ◌<◌, ◌≤◌, List, [], ◌∷◌, length, map, get_or, replicate, Option, None, Some}
+use Rattle.std.proofs.Common.{◌⊎◌, inl, inr, refl, ap, sym, ◌∙◌, subst, arith}
 use Rattle.std.proofs.Math.ListN.{set}
 use Rattle.std.specs.List.{AllByRecursion}
 use Rattle.std.proofs.lemmas.Bool.{cases_lt, cases_eq}
@@ -85,7 +86,6 @@ there_is lists count positions table pos item s e = elim (where_is count positio
 
 -- ---- own writes over tables
 
--- tables of which own writes may cover some cells
 covered_cells : (tables : Tables) (own : Own) (table : ℕ) → table < length tables
     → get_or (over tables own) table [] ≡ overlaid (covered (λ own. own)) (get_or tables table []) (get_or own table [])
 covered_cells tables own table h =
@@ -142,9 +142,12 @@ write_cases own write count positions table pos s = elim (where_is count positio
     | inr apart ↦ inl (ap (λ (items : List (Option Cell)). get_or items pos None)
         (get_or-set_other own write.table table (set (get_or own write.table []) write.pos (Some write.cell)) [] apart))
     | inl same ↦ elim (cases_eq pos write.pos) [
-      | inl also ↦ inr (same, subst (λ (i : ℕ). item_at (with_write own write) i pos ≡ Some write.cell) (sym same)
-          (subst (λ (i : ℕ). item_at (with_write own write) write.table i ≡ Some write.cell) (sym also)
-          (written_at own write count positions s (omega (arith, same, within.0)) (omega (arith, also, within.1)))))
+      | inl also ↦ inr (
+        same,
+        subst (λ (i : ℕ). item_at (with_write own write) i pos ≡ Some write.cell) (sym same)
+            (subst (λ (i : ℕ). item_at (with_write own write) write.table i ≡ Some write.cell) (sym also)
+            (written_at own write count positions s (omega (arith, same, within.0)) (omega (arith, also, within.1)))),
+      )
       | inr away ↦ inl (subst (λ (i : ℕ). item_at (with_write own write) i pos ≡ item_at own i pos) (sym same)
           (ap (λ (items : List (Option Cell)). get_or items pos None)
           (get_or-set_same own write.table (set (get_or own write.table []) write.pos (Some write.cell)) [] (omega (arith, s.lists_are, same, within.0)))

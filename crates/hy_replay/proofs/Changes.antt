@@ -55,7 +55,8 @@ paired_at (cells ∷ tables) [] (suc table) = paired_at tables [] table
 paired_at (cells ∷ tables) (other ∷ others) zero = refl
 paired_at (cells ∷ tables) (other ∷ others) (suc table) = paired_at tables others table
 
-rows_at : (rows : List Change → Table) → rows [] ≡ [] → (changes : List (List Change)) (table : ℕ) → rows_in (map rows changes) table ≡ rows (changes_at changes table)
+rows_at : (rows : List Change → Table) → rows [] ≡ [] → (changes : List (List Change)) (table : ℕ)
+    → rows_in (map rows changes) table ≡ rows (changes_at changes table)
 rows_at rows blank [] table = sym blank
 rows_at rows blank (change ∷ changes) zero = refl
 rows_at rows blank (change ∷ changes) (suc table) = rows_at rows blank changes table

@@ -75,7 +75,8 @@ and_second true c e h = h
 and_second false c e h = cc
 
 -- one record of the table is missed
-pub one_missed : (of : Record) (table : ℕ) (before after : Cell) → of.table ≡ table → record_hit (of ∷ []) table before after ≡ None → is_hit of before after ≡ false
+pub one_missed : (of : Record) (table : ℕ) (before after : Cell) → of.table ≡ table
+    → record_hit (of ∷ []) table before after ≡ None → is_hit of before after ≡ false
 one_missed of table before after same e =
     and_second (of.table == table) (is_hit of before after) (eq-eqb of.table table same)
     (missed_if (of.table == table && is_hit of before after) of.statement None e).0

@@ -47,8 +47,8 @@ select_miss shapes number from ons pred items tables others miss =
     (paired_miss (records_of shapes number (Select from ons pred items) (map (rows_seen tables) from)) tables others miss)
 
 -- a SELECT logs the same records
-pub select_records : KeepsRecords → (shapes : List Shape) (number : ℕ) (from : List ℕ) (ons : List On) (pred : Condition) (items : Items) (tables others : Tables)
-    → ShapesFit shapes → HaveWidths shapes tables → HaveWidths shapes others
+pub select_records : KeepsRecords → (shapes : List Shape) (number : ℕ) (from : List ℕ) (ons : List On) (pred : Condition) (items : Items)
+    (tables others : Tables) → ShapesFit shapes → HaveWidths shapes tables → HaveWidths shapes others
     → MissEach (records_of shapes number (Select from ons pred items) (map (rows_seen tables) from)) tables others
     → records_of shapes number (Select from ons pred items) (map (rows_seen others) from)
     ≡ records_of shapes number (Select from ons pred items) (map (rows_seen tables) from)
@@ -60,8 +60,8 @@ select_records keeps shapes number from ons pred items tables others fit wide al
     ∙ ap logged (all_alike (rows_in (map rows_before (paired tables others))) (rows_seen tables) (before_in tables others) from))
 
 -- and has the same answer
-pub select_answer : KeepsReplies → (shapes : List Shape) (number : ℕ) (from : List ℕ) (ons : List On) (pred : Condition) (items : Items) (tables others : Tables)
-    → ShapesFit shapes → HaveWidths shapes tables → HaveWidths shapes others
+pub select_answer : KeepsReplies → (shapes : List Shape) (number : ℕ) (from : List ℕ) (ons : List On) (pred : Condition) (items : Items)
+    (tables others : Tables) → ShapesFit shapes → HaveWidths shapes tables → HaveWidths shapes others
     → MissEach (records_of shapes number (Select from ons pred items) (map (rows_seen tables) from)) tables others
     → answer_of ons pred items (map (rows_seen others) from) ≡ answer_of ons pred items (map (rows_seen tables) from)
 select_answer keeps shapes number from ons pred items tables others fit wide also miss =

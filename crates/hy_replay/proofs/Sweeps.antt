@@ -91,12 +91,14 @@ not_selected true table pos None e = absurd cc
 not_selected true table pos (Some cell) e = absurd cc
 
 -- where nothing is written the condition isn't true of what is there
-pub left_alone : (kind : WriteKind) (pred : Condition) (table pos : ℕ) (cell : Cell) → verdict kind pred table pos None cell ≡ Ok None → truth_at pred cell ≡ false
+pub left_alone : (kind : WriteKind) (pred : Condition) (table pos : ℕ) (cell : Cell) → verdict kind pred table pos None cell ≡ Ok None
+    → truth_at pred cell ≡ false
 left_alone kind pred table pos None e = refl
 left_alone kind pred table pos (Some row) e = not_selected (truth_of pred row) table pos (new_cell kind row) e
 
 -- and the other way round
-pub leaves_alone : (kind : WriteKind) (pred : Condition) (table pos : ℕ) (cell : Cell) → truth_at pred cell ≡ false → verdict kind pred table pos None cell ≡ Ok None
+pub leaves_alone : (kind : WriteKind) (pred : Condition) (table pos : ℕ) (cell : Cell) → truth_at pred cell ≡ false
+    → verdict kind pred table pos None cell ≡ Ok None
 leaves_alone kind pred table pos None e = refl
 leaves_alone kind pred table pos (Some row) e = rw e refl
 
@@ -106,7 +108,8 @@ put_width : (width : ℕ) (row : List Value) (column : ℕ) (value : Result Valu
 put_width width row column (Ok value) h = length-set row column value ∙ h
 put_width width row column (Err range) h = tt
 
-assigned_width : (width : ℕ) (sets : List Assign) (old : List Value) (made : Option (List Value)) → HasWidth width made → HasWidth width (assigned_to sets old made)
+assigned_width : (width : ℕ) (sets : List Assign) (old : List Value) (made : Option (List Value)) → HasWidth width made
+    → HasWidth width (assigned_to sets old made)
 assigned_width width [] old None h = tt
 assigned_width width [] old (Some new) h = h
 assigned_width width (set ∷ sets) old None h = tt

@@ -55,8 +55,7 @@ verdict_good : (setting : Setting) (view : Tables) (kind : WriteKind) (pred : Co
 verdict_good setting view kind pred table shape wide pos new v =
     let width : ℕ = (shape_of setting.shapes table).width in
     let made = made_of_row kind pred table pos (item_at view table pos) new v in
-    let long : length made.0 ≡ width = subst (HasWidth width) made.1.0 (width_at width (get_or view table []) (wide table) pos) in
-    (
+    let long : length made.0 ≡ width = subst (HasWidth width) made.1.0 (width_at width (get_or view table []) (wide table) pos) in (
       some_width width (new_cell kind made.0) new (new_width width kind made.0 long) made.1.1,
       there_is view (length setting.first) (capacity setting) table pos made.0 shape made.1.0,
     )
@@ -102,10 +101,13 @@ verdict_again : SelectsByRead → (shape : Shape) (kind : WriteKind) (number tab
     ⊎ ((item_at later table pos ≡ None) × (verdict kind pred table pos None before ≡ Ok None → verdict kind pred table pos None after ≡ Ok None))
 verdict_again selects shape kind number table sets pred pos later few before after w v (inl same) = inl (ap (verdict kind pred table pos None) same)
 verdict_again selects shape kind number table sets pred pos later few before after w v (inr unseen) =
-    inr (unseen.apart, λ left. leaves_alone kind pred table pos after
-    (sym (truths_alike selects number shape table sets pred few before after w v
-    (one_missed (write_record number shape table sets pred) table before after refl unseen.missed))
-    ∙ left_alone kind pred table pos before left))
+    inr (
+      unseen.apart,
+      λ left. leaves_alone kind pred table pos after
+          (sym (truths_alike selects number shape table sets pred few before after w v
+          (one_missed (write_record number shape table sets pred) table before after refl unseen.missed))
+          ∙ left_alone kind pred table pos before left),
+    )
 
 pub changed_again : SelectsByRead → (setting : Setting) (tables others : Tables) (own : Own) (kind : WriteKind) (number table : ℕ)
     (sets : List Assign) (pred : Condition) (given : One) → BothFit setting tables others → FitsOwn setting own

@@ -1,0 +1,11 @@
+pub mod Cells
+pub mod Hits
+pub mod Changes
+pub mod Views
+pub mod Truths
+pub mod Selects
+pub mod Sweeps
+pub mod Writes
+pub mod Inserts
+pub mod Statements
+pub mod Runs

@@ -1,1 +1,2 @@
-mod OverCells
+pub mod OverCells
+pub mod Presents

@@ -1,2 +1,3 @@
 pub mod OverCells
 pub mod Presents
+pub mod BagUpdates

@@ -1,3 +1,4 @@
 pub mod OverCells
 pub mod Presents
 pub mod BagUpdates
+pub mod BagInserts

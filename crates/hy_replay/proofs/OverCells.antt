@@ -1,10 +1,11 @@
 -- Tables with a transaction's own writes over them, after one more write and after many.
-use Rattle.std.proofs.Common.{◌≡◌, ℕ, zero, suc, ◌≤◌, List, [], ◌∷◌, Option, None, Some, length, map, get_or, replicate, refl, ap, sym, ◌∙◌, subst, arith}
+use Rattle.std.proofs.Common.{◌≡◌, ℕ, zero, suc, ◌<◌, ◌≤◌, List, [], ◌∷◌, Option, None, Some, length, map, get_or, replicate, refl, ap, sym, ◌∙◌, subst, arith}
 use Rattle.std.proofs.Math.ListN.{set}
 use Rattle.std.specs.List.{AllByRecursion}
 use Rattle.std.proofs.lemmas.List.{length-set, set-get_or}
 use Rattle.hy_value.specs.declared.Value.{Value}
 use Rattle.hy_machine.specs.declared.Write.{Write}
+use Rattle.hy_machine.specs.Positions.{item_at}
 use Rattle.hy_machine.specs.Tables.{Cell, Tables, Own, overlaid, covered, over}
 use Rattle.hy_machine.specs.Writes.{with_write, with_writes}
 
@@ -140,3 +141,26 @@ over_writes tables own table (write ∷ writes) h in_it =
     over_writes tables (with_write own write) table writes (write_alike tables own write h) in_it.1
     ∙ (ap (λ (more : Tables). set more table (puts (get_or more table []) writes)) first
     ∙ set_again view table [] here (λ cells. puts cells writes))
+
+-- ---- positions
+
+pub positions_there : (positions : ℕ) (tables : Tables) (table : ℕ) → HavePositions positions tables → table < length tables
+    → length (get_or tables table []) ≡ positions
+positions_there positions [] table h below = absurd (omega arith)
+positions_there positions (cells ∷ tables) zero h below = h.0
+positions_there positions (cells ∷ tables) (suc table) h below = positions_there positions tables table h.1 (omega arith)
+
+laid_none : (cells : List Cell) (items : List (Option Cell)) (pos : ℕ) → get_or cells pos None ≡ None → get_or items pos None ≡ None
+    → get_or (laid cells items) pos None ≡ None
+laid_none [] items pos e f = refl
+laid_none (cell ∷ cells) [] pos e f = e
+laid_none (cell ∷ cells) (item ∷ items) zero e f = ap (covered (λ (own : Cell). own) cell) f ∙ e
+laid_none (cell ∷ cells) (item ∷ items) (suc pos) e f = laid_none cells items pos e f
+
+-- where neither the tables nor own writes have anything there is nothing
+pub over_none : (tables : Tables) (own : Own) (table pos : ℕ) → item_at tables table pos ≡ None → item_at own table pos ≡ None
+    → item_at (over tables own) table pos ≡ None
+over_none [] own table pos e f = refl
+over_none (cells ∷ tables) [] table pos e f = e
+over_none (cells ∷ tables) (items ∷ own) zero pos e f = laid_none cells items pos e f
+over_none (cells ∷ tables) (items ∷ own) (suc table) pos e f = over_none tables own table pos e f

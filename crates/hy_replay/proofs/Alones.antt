@@ -7,7 +7,6 @@ use Rattle.std.specs.Option.{option_map}
 use Rattle.std.proofs.lemmas.List.{length-set, length-map}
 use Rattle.std.proofs.lemmas.List.Sorted.{IsPermutation-trans}
 use Rattle.std.proofs.lemmas.Option.{same_Some}
-use Rattle.hy_value.specs.declared.Value.{Value}
 use Rattle.hy_value.specs.Sorted.{sorted}
 use Rattle.hy_value.specs.Sorting.{sorted_twice}
 use Rattle.hy_bound.specs.declared.Bound.{Bound}
@@ -21,7 +20,7 @@ use Rattle.hy_bound.specs.Condition.{Condition}
 use Rattle.hy_bound.specs.Predicate.{truth_of}
 use Rattle.hy_bound.specs.Records.{shape_of}
 use Rattle.hy_plan.specs.Reads.{records_of}
-use Rattle.hy_meaning.specs.Serial.{Alone, and_then, goes_on, alone_from}
+use Rattle.hy_meaning.specs.Serial.{and_then, goes_on, alone_from}
 use Rattle.hy_meaning.specs.Statement.{Table, Database, rows_in, gathered_by, has_key_of, updated_rows, with_table, mean}
 use Rattle.hy_laws.specs.Bags.{SameBags}
 use Rattle.hy_machine.specs.declared.Setting.{Setting}
@@ -32,7 +31,8 @@ use Rattle.hy_replay.specs.Laws.{AreTables, bags_of}
 use Rattle.hy_replay.specs.BagLaws.{IsPosition, alone_as, and_logged, logged_from, RunsAreAlone, RunsLogAlone}
 use Rattle.hy_replay.proofs.OverCells.{Alike, HavePositions, blank_alike, over_blank, over_length}
 use Rattle.hy_replay.proofs.Presents.{rows_of, IsKept, same_rows, bags_kept, kept_is_bags, filter_kept, set_kept, kept_at}
-use Rattle.hy_replay.proofs.BagInserts.{Means, Steps, one_steps}
+use Rattle.hy_replay.proofs.BagMeanings.{Means, Steps}
+use Rattle.hy_replay.proofs.BagStatements.{one_steps}
 
 -- ---- that only the bag of rows matters
 
@@ -92,18 +92,23 @@ mean_bags replies leaves shapes statement before after told means long = by_give
   where
     same_reply : option_map (λ given. given.0) (mean shapes statement (bags_of before)) ≡ Some told
     same_reply = replies shapes statement (bags_of before) (rows_of before) (same_rows before) ∙ ap (option_map (λ given. given.0)) means.given
+
     as_long : length (bags_of before) ≡ length (rows_of before)
     as_long = length-map before (λ (cells : List Cell). sorted (present cells)) ∙ sym (length-map before (λ (cells : List Cell). present cells))
+
     same_bags : (given : Reply × Database) → mean shapes statement (bags_of before) ≡ Some given → SameBags given.1 (rows_of after)
     same_bags given e table = IsPermutation-trans _ (rows_in means.db table) _
         (leaves shapes statement (bags_of before) (rows_of before) (same_rows before) given.1 means.db (ap (option_map (λ one. one.1)) e)
         (ap (option_map (λ one. one.1)) means.given) as_long table) (means.bags table)
+
     same_database : (given : Reply × Database) → mean shapes statement (bags_of before) ≡ Some given → given.1 ≡ bags_of after
     same_database given e =
         let left : IsLeft (bags_of before) given.1 = mean_left shapes statement (bags_of before) given (bags_kept before) e in
         kept_is_bags given.1 after left.kept (same_bags given e)
         (left.long ∙ (length-map before (λ (cells : List Cell). sorted (present cells)) ∙ sym long))
-    by_given : (given : Option (Reply × Database)) → mean shapes statement (bags_of before) ≡ given → mean shapes statement (bags_of before) ≡ Some (told, bags_of after)
+
+    by_given : (given : Option (Reply × Database)) → mean shapes statement (bags_of before) ≡ given
+        → mean shapes statement (bags_of before) ≡ Some (told, bags_of after)
     by_given None e = absurd (cc (same_reply, ap (option_map (λ one. one.0)) e))
     by_given (Some given) e =
         let first : given.0 ≡ told = same_Some given.0 told (sym (ap (option_map (λ one. one.0)) e) ∙ same_reply) in
@@ -145,14 +150,16 @@ first_alone log replies leaves setting tables own number statement statements fi
   where
     here : List Record
     here = records_of setting.shapes number statement (gathered_by statement (bags_of (over tables own)))
+
     meant : mean setting.shapes statement (bags_of (over tables own)) ≡ Some (first.reply, bags_of (over tables first.own))
     meant = mean_bags replies leaves setting.shapes statement (over tables own) (over tables first.own) first.reply step.means
         (over_length tables first.own ∙ sym (over_length tables own))
+
     logged : first.records ≡ here
     logged = step.logs ∙ sym (log setting.shapes number statement (bags_of (over tables own)) (rows_of (over tables own)) (same_rows (over tables own)))
 
-runs_alone : LogsSame → RepliesSame → LeavesSame → (setting : Setting) (tables : Tables) → HavePositions (capacity setting) tables → (own : Own) → Alike tables own
-    → (number : ℕ) (statements : List Bound) (took : List (Option ℕ)) (given : Ran) → AllByRecursion (IsPosition setting) took
+runs_alone : LogsSame → RepliesSame → LeavesSame → (setting : Setting) (tables : Tables) → HavePositions (capacity setting) tables
+    → (own : Own) → Alike tables own → (number : ℕ) (statements : List Bound) (took : List (Option ℕ)) (given : Ran) → AllByRecursion (IsPosition setting) took
     → ran_from setting tables own number statements took ≡ Some given → RunsAlone setting tables own number statements given
 runs_alone log replies leaves setting tables h own alike number [] took given within e =
     subst (RunsAlone setting tables own number []) (same_Some (record { own = own; replies = []; records = [] }) given e) (record { alone = refl; logs = refl })

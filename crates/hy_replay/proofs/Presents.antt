@@ -1,6 +1,6 @@
 -- The rows of tables of positions: table by table, sorted, and with one more where there was none.
-use Rattle.std.proofs.Common.{◌≡◌, ℕ, zero, suc, ◌+◌, ◌<◌, ◌≤◌, List, [], ◌∷◌, ◌++◌, Option, None, Some, Bool, true, false, length, map, get_or, filter, refl, ap, sym, ◌∙◌}
-use Rattle.std.proofs.Common.{subst, arith}
+use Rattle.std.proofs.Common.{◌≡◌, ℕ, zero, suc, ◌+◌, ◌<◌, ◌≤◌, List, [], ◌∷◌, Option, None, Some, Bool, true, false, length}
+use Rattle.std.proofs.Common.{map, get_or, filter, refl, ap, sym, ◌∙◌, subst, arith}
 use Rattle.std.proofs.Math.ListN.{set}
 use Rattle.std.specs.Prelude.{◌||◌, cond}
 use Rattle.std.specs.Ordering.{is_lt}
@@ -129,7 +129,8 @@ key_found row key at start (suc many) [] h few =
     ap (λ (cell : Cell). has_key_in row key cell || list_any (λ pos. has_key_in row key (at pos)) (range_with_len (start + 1) many)) (shows_first at start [] h)
     ∙ key_found row key at (start + 1) many [] (shows_past at start h) (omega arith)
 key_found row key at start (suc many) (None ∷ cells) h few =
-    ap (λ (cell : Cell). has_key_in row key cell || list_any (λ pos. has_key_in row key (at pos)) (range_with_len (start + 1) many)) (shows_first at start (None ∷ cells) h)
+    ap (λ (cell : Cell). has_key_in row key cell || list_any (λ pos. has_key_in row key (at pos)) (range_with_len (start + 1) many))
+    (shows_first at start (None ∷ cells) h)
     ∙ key_found row key at (start + 1) many cells (shows_rest at start None cells h) (omega arith)
 key_found row key at start (suc many) (Some one ∷ cells) h few =
     ap (λ (cell : Cell). has_key_in row key cell || list_any (λ pos. has_key_in row key (at pos)) (range_with_len (start + 1) many))

@@ -9,3 +9,11 @@ pub mod Writes
 pub mod Inserts
 pub mod Statements
 pub mod Runs
+pub mod OverCells
+pub mod Presents
+pub mod BagSweeps
+pub mod BagMeanings
+pub mod BagUpdates
+pub mod BagInserts
+pub mod BagStatements
+pub mod Alones

@@ -1,4 +1,5 @@
 -- GROUP BY over two chunks: a line for each value, ascending, NULL first, with the sum of the group.
+-- Run as hy run --chunks 2 --rows 2.
 
 CREATE TABLE t (g TEXT, v INT);
 INSERT INTO t VALUES ('a',1);

@@ -1,6 +1,6 @@
 -- Predicate-many-preceders with a write: b deletes the rows of which value = 20, while a raises all values by
--- 10, so that another row has the value 20 when a has committed. Were b to delete none, or the row that it did
--- not see before, its own two statements would speak of different tables.
+-- 10, so that another row has the value 20 when a has committed. Were b to delete none, or the row that its SELECT
+-- did not find, its two statements would speak of two states.
 -- The row that b sees and selects has a's uncommitted version: b is refused as a conflict.
 
 CREATE TABLE test (id INT PRIMARY KEY, value INT);

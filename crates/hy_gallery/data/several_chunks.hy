@@ -2,6 +2,7 @@
 -- first chunk, 2 and 3 in the second, 4 and 5 in the third.
 -- Each INSERT takes the first free position of the first chunk that has one: 3, and then 4. The UPDATE goes through
 -- all chunks. The deleted row's position 0 stays empty, since only a later transaction may take it.
+-- Run as hy run --chunks 3 --rows 2.
 
 CREATE TABLE acc (id INT PRIMARY KEY, bal INT);
 INSERT INTO acc VALUES (1,100);

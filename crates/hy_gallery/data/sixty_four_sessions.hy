@@ -1,0 +1,328 @@
+-- As many sessions as there may be, each of which writes the same row, a statement each by turns.
+-- The first to write is s1, and commits. Each other meets its version and is refused as a conflict.
+
+CREATE TABLE acc (id INT PRIMARY KEY, bal INT);
+INSERT INTO acc VALUES (1,100);
+INSERT INTO acc VALUES (2,100);
+
+SESSION s1;
+BEGIN;
+UPDATE acc SET bal = 1 WHERE id = 1;
+COMMIT;
+
+SESSION s2;
+BEGIN;
+UPDATE acc SET bal = 1 WHERE id = 1;
+COMMIT;
+
+SESSION s3;
+BEGIN;
+UPDATE acc SET bal = 1 WHERE id = 1;
+COMMIT;
+
+SESSION s4;
+BEGIN;
+UPDATE acc SET bal = 1 WHERE id = 1;
+COMMIT;
+
+SESSION s5;
+BEGIN;
+UPDATE acc SET bal = 1 WHERE id = 1;
+COMMIT;
+
+SESSION s6;
+BEGIN;
+UPDATE acc SET bal = 1 WHERE id = 1;
+COMMIT;
+
+SESSION s7;
+BEGIN;
+UPDATE acc SET bal = 1 WHERE id = 1;
+COMMIT;
+
+SESSION s8;
+BEGIN;
+UPDATE acc SET bal = 1 WHERE id = 1;
+COMMIT;
+
+SESSION s9;
+BEGIN;
+UPDATE acc SET bal = 1 WHERE id = 1;
+COMMIT;
+
+SESSION s10;
+BEGIN;
+UPDATE acc SET bal = 1 WHERE id = 1;
+COMMIT;
+
+SESSION s11;
+BEGIN;
+UPDATE acc SET bal = 1 WHERE id = 1;
+COMMIT;
+
+SESSION s12;
+BEGIN;
+UPDATE acc SET bal = 1 WHERE id = 1;
+COMMIT;
+
+SESSION s13;
+BEGIN;
+UPDATE acc SET bal = 1 WHERE id = 1;
+COMMIT;
+
+SESSION s14;
+BEGIN;
+UPDATE acc SET bal = 1 WHERE id = 1;
+COMMIT;
+
+SESSION s15;
+BEGIN;
+UPDATE acc SET bal = 1 WHERE id = 1;
+COMMIT;
+
+SESSION s16;
+BEGIN;
+UPDATE acc SET bal = 1 WHERE id = 1;
+COMMIT;
+
+SESSION s17;
+BEGIN;
+UPDATE acc SET bal = 1 WHERE id = 1;
+COMMIT;
+
+SESSION s18;
+BEGIN;
+UPDATE acc SET bal = 1 WHERE id = 1;
+COMMIT;
+
+SESSION s19;
+BEGIN;
+UPDATE acc SET bal = 1 WHERE id = 1;
+COMMIT;
+
+SESSION s20;
+BEGIN;
+UPDATE acc SET bal = 1 WHERE id = 1;
+COMMIT;
+
+SESSION s21;
+BEGIN;
+UPDATE acc SET bal = 1 WHERE id = 1;
+COMMIT;
+
+SESSION s22;
+BEGIN;
+UPDATE acc SET bal = 1 WHERE id = 1;
+COMMIT;
+
+SESSION s23;
+BEGIN;
+UPDATE acc SET bal = 1 WHERE id = 1;
+COMMIT;
+
+SESSION s24;
+BEGIN;
+UPDATE acc SET bal = 1 WHERE id = 1;
+COMMIT;
+
+SESSION s25;
+BEGIN;
+UPDATE acc SET bal = 1 WHERE id = 1;
+COMMIT;
+
+SESSION s26;
+BEGIN;
+UPDATE acc SET bal = 1 WHERE id = 1;
+COMMIT;
+
+SESSION s27;
+BEGIN;
+UPDATE acc SET bal = 1 WHERE id = 1;
+COMMIT;
+
+SESSION s28;
+BEGIN;
+UPDATE acc SET bal = 1 WHERE id = 1;
+COMMIT;
+
+SESSION s29;
+BEGIN;
+UPDATE acc SET bal = 1 WHERE id = 1;
+COMMIT;
+
+SESSION s30;
+BEGIN;
+UPDATE acc SET bal = 1 WHERE id = 1;
+COMMIT;
+
+SESSION s31;
+BEGIN;
+UPDATE acc SET bal = 1 WHERE id = 1;
+COMMIT;
+
+SESSION s32;
+BEGIN;
+UPDATE acc SET bal = 1 WHERE id = 1;
+COMMIT;
+
+SESSION s33;
+BEGIN;
+UPDATE acc SET bal = 1 WHERE id = 1;
+COMMIT;
+
+SESSION s34;
+BEGIN;
+UPDATE acc SET bal = 1 WHERE id = 1;
+COMMIT;
+
+SESSION s35;
+BEGIN;
+UPDATE acc SET bal = 1 WHERE id = 1;
+COMMIT;
+
+SESSION s36;
+BEGIN;
+UPDATE acc SET bal = 1 WHERE id = 1;
+COMMIT;
+
+SESSION s37;
+BEGIN;
+UPDATE acc SET bal = 1 WHERE id = 1;
+COMMIT;
+
+SESSION s38;
+BEGIN;
+UPDATE acc SET bal = 1 WHERE id = 1;
+COMMIT;
+
+SESSION s39;
+BEGIN;
+UPDATE acc SET bal = 1 WHERE id = 1;
+COMMIT;
+
+SESSION s40;
+BEGIN;
+UPDATE acc SET bal = 1 WHERE id = 1;
+COMMIT;
+
+SESSION s41;
+BEGIN;
+UPDATE acc SET bal = 1 WHERE id = 1;
+COMMIT;
+
+SESSION s42;
+BEGIN;
+UPDATE acc SET bal = 1 WHERE id = 1;
+COMMIT;
+
+SESSION s43;
+BEGIN;
+UPDATE acc SET bal = 1 WHERE id = 1;
+COMMIT;
+
+SESSION s44;
+BEGIN;
+UPDATE acc SET bal = 1 WHERE id = 1;
+COMMIT;
+
+SESSION s45;
+BEGIN;
+UPDATE acc SET bal = 1 WHERE id = 1;
+COMMIT;
+
+SESSION s46;
+BEGIN;
+UPDATE acc SET bal = 1 WHERE id = 1;
+COMMIT;
+
+SESSION s47;
+BEGIN;
+UPDATE acc SET bal = 1 WHERE id = 1;
+COMMIT;
+
+SESSION s48;
+BEGIN;
+UPDATE acc SET bal = 1 WHERE id = 1;
+COMMIT;
+
+SESSION s49;
+BEGIN;
+UPDATE acc SET bal = 1 WHERE id = 1;
+COMMIT;
+
+SESSION s50;
+BEGIN;
+UPDATE acc SET bal = 1 WHERE id = 1;
+COMMIT;
+
+SESSION s51;
+BEGIN;
+UPDATE acc SET bal = 1 WHERE id = 1;
+COMMIT;
+
+SESSION s52;
+BEGIN;
+UPDATE acc SET bal = 1 WHERE id = 1;
+COMMIT;
+
+SESSION s53;
+BEGIN;
+UPDATE acc SET bal = 1 WHERE id = 1;
+COMMIT;
+
+SESSION s54;
+BEGIN;
+UPDATE acc SET bal = 1 WHERE id = 1;
+COMMIT;
+
+SESSION s55;
+BEGIN;
+UPDATE acc SET bal = 1 WHERE id = 1;
+COMMIT;
+
+SESSION s56;
+BEGIN;
+UPDATE acc SET bal = 1 WHERE id = 1;
+COMMIT;
+
+SESSION s57;
+BEGIN;
+UPDATE acc SET bal = 1 WHERE id = 1;
+COMMIT;
+
+SESSION s58;
+BEGIN;
+UPDATE acc SET bal = 1 WHERE id = 1;
+COMMIT;
+
+SESSION s59;
+BEGIN;
+UPDATE acc SET bal = 1 WHERE id = 1;
+COMMIT;
+
+SESSION s60;
+BEGIN;
+UPDATE acc SET bal = 1 WHERE id = 1;
+COMMIT;
+
+SESSION s61;
+BEGIN;
+UPDATE acc SET bal = 1 WHERE id = 1;
+COMMIT;
+
+SESSION s62;
+BEGIN;
+UPDATE acc SET bal = 1 WHERE id = 1;
+COMMIT;
+
+SESSION s63;
+BEGIN;
+UPDATE acc SET bal = 1 WHERE id = 1;
+COMMIT;
+
+SESSION s64;
+BEGIN;
+UPDATE acc SET bal = 1 WHERE id = 1;
+COMMIT;
+
+END;

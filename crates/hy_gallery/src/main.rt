@@ -1,0 +1,82 @@
+//! Runs the scripts of the gallery, and tells of each whether it prints what it should.
+//!
+//! A line of `gallery.txt` names a script and the words it is run with. `NAME.hy` is the script, and
+//! `NAME.out` is what it should print.
+#![tactic(auto)]
+
+use hy_outside::{MemSink, MemSource};
+use std::alloc::{AllocError, Global};
+use std::io::{Print, Write};
+use std::rt::Files;
+use std::{fs, io};
+
+/// The file that names the scripts.
+const LIST: &str = "gallery.txt";
+
+/// How many bytes of a script the program is given at once.
+const PIECE: usize = 64;
+
+/// How many bytes a script may print.
+const ROOM: usize = 65_536;
+
+/// What a run came to: its status, and what it printed.
+#[derive(Drop)]
+struct Printed {
+    status: u8,
+    bytes: Vec<u8>,
+}
+
+/// Goes through the list, and tells at the end how many scripts print what they should.
+fn main(rt: HostRuntime) -> io::Result<()> {
+    let list = fs::read_to_string(&rt, LIST)?;
+    let mut scripts = 0u32;
+    let mut as_expected = 0u32;
+    for line in list.as_str().lines() {
+        let (name, words) = line.split_once(' ').unwrap_or((line, ""));
+        scripts = scripts.saturating_add(1);
+        if shows_what_is_expected(&rt, name, words)? {
+            as_expected = as_expected.saturating_add(1);
+        }
+    }
+    println!(rt; "{as_expected} of {scripts} as expected")
+}
+
+/// Runs a script, and prints its name and whether it printed what is expected; else also what it printed.
+fn shows_what_is_expected(
+    rt: &(impl Files + Print + AllocGlobal),
+    name: &str,
+    words: &str,
+) -> io::Result<bool> {
+    let alloc = rt.alloc();
+    let script = fs::read(rt, format!(in alloc; "{name}.hy")?)?;
+    let expected = fs::read(rt, format!(in alloc; "{name}.out")?)?;
+    let printed = printed_by(alloc, words, script)?;
+    let status = printed.status;
+    if printed.bytes.as_slice() != expected.as_slice() {
+        println!(rt; "{name}: differs, status {status}")?;
+        io::writer(rt).write_all(printed.bytes.as_slice())?;
+        return Ok(false);
+    }
+    if status == 0 {
+        println!(rt; "{name}: as expected")?;
+    } else {
+        println!(rt; "{name}: as expected, status {status}")?;
+    }
+    Ok(true)
+}
+
+/// Runs `hy` with these words on a script in memory.
+fn printed_by(alloc: Global, words: &str, script: Vec<u8>) -> Result<Printed, AllocError> {
+    let mut all = Vec::new(alloc);
+    all.push(String::from_str(alloc, "hy")?)?;
+    for word in words.split_whitespace() {
+        all.push(String::from_str(alloc, word)?)?;
+    }
+    let mut source = MemSource::new(script, PIECE, Vec::new(alloc));
+    let mut sink = MemSink::new(alloc, ROOM, Vec::new(alloc))?;
+    let status = hy_top::run(alloc, &all, &mut source, &mut sink).status;
+    Ok(Printed {
+        status,
+        bytes: sink.bytes().to_vec(alloc)?,
+    })
+}

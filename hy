@@ -1,9 +1,163 @@
 #!/bin/sh
-# Runs the program, which is proved and built first where that has not been done yet.
-root=$(cd "$(dirname "$0")" && pwd)
-program="$root/crates/hy_main/out/hy_main"
-if [ ! -x "$program" ]; then
-    (cd "$root/crates/hy_main" && rt run </dev/null >build.log 2>&1)
-    [ -x "$program" ] || { cat "$root/crates/hy_main/build.log" >&2; exit 70; }
-fi
+# Runs the program. Where it is missing, or was built from other sources or by another toolchain, rt proves and builds
+# it first. This script writes to standard error, and only while it builds; its own failures end with status 70.
+
+newline='
+'
+
+complain() {
+    printf 'hy: %s\n' "$1" >&2
+}
+
+fail() {
+    complain "$1"
+    exit 70
+}
+
+# The folder that this file stands in, links followed. A path may hold any bytes: $(..) takes newlines off its end, so
+# each path is read with one more byte behind it, which goes again.
+find_root() {
+    self=$0
+    while [ -L "$self" ]; do
+        target=$(readlink -- "$self" && printf x) || fail "the link $self can't be followed"
+        target=${target%"${newline}x"}
+        case $target in
+            /*) self=$target ;;
+            *) case $self in
+                */*) self=${self%/*}/$target ;;
+                *) self=$target ;;
+            esac ;;
+        esac
+    done
+    case $self in
+        */*) folder=${self%/*}/ ;;
+        *) folder=./ ;;
+    esac
+    root=$(CDPATH='' cd -P -- "$folder" && pwd -P && printf x) || fail "the folder of $0 can't be entered"
+    root=${root%"${newline}x"}
+}
+
+# A checksum of all that the program is made from: names, sizes and bytes.
+sum_of_sources() {
+    (
+        cd "$root" &&
+            find crates.txt crates/*/src crates/*/specs crates/*/proofs -type f -exec cksum {} + 2>/dev/null |
+            LC_ALL=C sort | cksum
+    )
+}
+
+# The name of the toolchain, or nothing where there is none. rt version prints the file KIT-ID of its kit, which is read
+# in its place where it lies there, since a start of rt takes half a second.
+toolchain() {
+    rt=$(command -v rt) || return
+    rt=$(readlink -f -- "$rt") || rt=
+    kit=${rt%/bin/*}/KIT-ID
+    if [ -n "$rt" ] && [ -r "$kit" ]; then cat "$kit"; else rt version </dev/null 2>/dev/null; fi
+}
+
+# What was built from what: the sources, the toolchain and the program itself, as it is written beside the program.
+state() {
+    printf '%s\n%s\n%s\n' "$sources" "$1" "$(cksum <"$program")"
+}
+
+# Whether the program is the one that these sources give. Where there is no toolchain, any that built it will do.
+is_built() {
+    [ -x "$program" ] && [ -r "$record" ] || return 1
+    sources=$(sum_of_sources)
+    present=$(toolchain)
+    [ -n "$present" ] || present=$(sed -n 2p "$record")
+    [ "$(cat "$record")" = "$(state "$present")" ]
+}
+
+# One start builds at a time: the folder is the lock, and the file in it names the process that holds it. A lock whose
+# process is gone is taken over, by the one start that makes the folder within.
+take_lock() {
+    waited=0
+    while ! mkdir "$lock" 2>/dev/null; do
+        [ -d "$lock" ] || fail "$crate can't be written, and the program must be built there"
+        holder=$(cat "$lock/process" 2>/dev/null)
+        if is_gone "$holder" "$waited"; then
+            if mkdir "$lock/taken" 2>/dev/null; then
+                if is_gone "$(cat "$lock/process" 2>/dev/null)" "$waited"; then
+                    complain "a build was cut off; going on in its place"
+                    break
+                fi
+                rmdir "$lock/taken"
+            elif [ "$waited" -gt 30 ]; then
+                fail "a build was cut off: remove the folder $lock"
+            fi
+        fi
+        [ "$waited" -eq 2 ] && complain "waiting for another start that builds the program (process $holder)"
+        sleep 1
+        waited=$((waited + 1))
+    done
+    trap 'drop_lock' EXIT
+    trap 'exit 130' INT
+    trap 'exit 143' TERM HUP
+    echo $$ >"$lock/process" || fail "$lock can't be written"
+    rmdir "$lock/taken" 2>/dev/null
+}
+
+# Whether the process of a lock has ended, or, where the lock names none for a while, never came to write it down.
+is_gone() {
+    case $1 in
+        '') [ "$2" -ge 5 ] ;;
+        *) ! kill -0 "$1" 2>/dev/null && [ ! -d "/proc/$1" ] ;;
+    esac
+}
+
+drop_lock() {
+    [ -z "$ticker" ] || { kill "$ticker" && wait "$ticker"; } 2>/dev/null
+    rm -rf "$lock"
+}
+
+# Tells twice a minute that the build goes on, as long as it does.
+tick() {
+    while sleep 30 >/dev/null 2>&1 && kill -0 $$ 2>/dev/null; do
+        complain "still building, after $(($(date +%s) - began)) s"
+    done
+}
+
+# Proves and builds the program. rt runs it then, on a script without anything in it, so that rt's status is 0 just
+# where the program was built and runs.
+build() {
+    command -v rt >/dev/null || fail "the program must be built, and the toolchain's command rt is not on the PATH"
+    take_lock
+    if is_built; then
+        drop_lock
+        trap - EXIT INT TERM HUP
+        return
+    fi
+    rm -f "$record"
+    sources=$(sum_of_sources)
+    began=$(date +%s)
+    if [ -e "$program" ]; then
+        complain "the program isn't that of these sources and this toolchain: proving and building it anew (log: $log)"
+    else
+        complain "proving and building the program; the first time this takes some minutes (log: $log)"
+    fi
+    tick &
+    ticker=$!
+    (cd "$crate" && printf 'END;\n' | rt run -- check) >"$log" 2>&1
+    status=$?
+    took=$(($(date +%s) - began))
+    if [ "$status" -ne 0 ] || [ ! -x "$program" ]; then
+        tail -n 20 "$log" >&2
+        fail "the build failed after $took s: rt ended with status $status (whole log: $log)"
+    fi
+    [ "$sources" = "$(sum_of_sources)" ] || fail "the sources changed during the build: start again"
+    { state "$(toolchain)" >"$record.new" && mv "$record.new" "$record"; } || fail "$record can't be written"
+    complain "built in $took s"
+    drop_lock
+    trap - EXIT INT TERM HUP
+}
+
+ticker=
+find_root
+crate=$root/crates/hy_main
+program=$crate/out/hy_main
+record=$crate/out/hy_main.built
+lock=$crate/build.lock
+log=$crate/build.log
+is_built || build
 exec "$program" "$@"

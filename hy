@@ -111,10 +111,10 @@ drop_lock() {
     rm -rf "$lock"
 }
 
-# Tells twice a minute that the build goes on, as long as it does.
+# Tells each minute that the build goes on, as long as it does.
 tick() {
-    while sleep 30 >/dev/null 2>&1 && kill -0 $$ 2>/dev/null; do
-        complain "still building, after $(($(date +%s) - began)) s"
+    while sleep 60 >/dev/null 2>&1 && kill -0 $$ 2>/dev/null; do
+        complain "still building, after $((($(date +%s) - began) / 60)) min"
     done
 }
 
@@ -134,7 +134,7 @@ build() {
     if [ -e "$program" ]; then
         complain "the program isn't that of these sources and this toolchain: proving and building it anew (log: $log)"
     else
-        complain "proving and building the program; the first time this takes some minutes (log: $log)"
+        complain "proving and building the program; from nothing this can take half an hour (log: $log)"
     fi
     tick &
     ticker=$!

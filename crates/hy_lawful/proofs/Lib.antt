@@ -1,1 +1,16 @@
+pub mod Booleans
+pub mod Lists
+pub mod Fits
+pub mod Grows
+pub mod Moves
+pub mod Opponents
+pub mod Refusals
+pub mod Tables
+pub mod Places
+pub mod Turns
+pub mod Reached
+pub mod Outcomes
+pub mod Over
+pub mod Endings
+pub mod Followers
 pub mod Laws

@@ -61,7 +61,7 @@ pub record EndsRolledBack (programs : Programs) (txn : TxnOutcome) : Type 0 wher
 -- another session
 pub record EndsInConflict (programs : Programs) (outcome : Outcome) (txn : TxnOutcome) (table : ℕ) (other : Label) : Type 0 where
   pub changes : IsTrue (changes_rows table (refused_statement programs txn))
-  pub other : IsSomeAnd (outcome_at outcome other) (λ rival. IsFalse (rival.label.session == txn.label.session))
+  pub rival : IsSomeAnd (outcome_at outcome other) (λ rival. IsFalse (rival.label.session == txn.label.session))
 
 -- invalid: it closes with COMMIT and wrote something, the statement that is named is one that it answered, and the
 -- transaction that is named has committed since its start
@@ -69,6 +69,7 @@ pub record EndsInvalid (programs : Programs) (outcome : Outcome) (txn : TxnOutco
   pub answers : AnswersAll programs txn
   pub closes : ClosesWithCommit (txn_of programs txn.label)
   pub wrote : 0 < length txn.wrote
+  pub named : (0 < statement) × (statement ≤ length txn.replies)
   pub since : IsSomeAnd (outcome_at outcome other) (λ rival. IsSomeAnd (committed_at rival.ending) (λ (rank : ℕ). txn.start ≤ rank))
 
 -- when an ending may come: out of range where the refused statement is an UPDATE of the table, full where it is an

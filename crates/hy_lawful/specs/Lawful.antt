@@ -34,7 +34,8 @@ pub record Lawful (setting : Setting) (outcome : Outcome) : Type 0 where
   -- a committed transaction stands in the order, at its rank
   pub committed : AllByRecursion (λ (txn : TxnOutcome). IfSome (committed_at txn.ending) (StandsAt outcome.order txn)) outcome.txns
   -- what stands in the order has committed at its rank, and so stands there once
-  pub order : EachFrom 0 (λ (rank : ℕ) (entry : Entry). option_map (λ (txn : TxnOutcome). txn.ending) (outcome_at outcome entry.label) ≡ Some (Committed rank)) outcome.order
+  pub order : EachFrom 0 (λ (rank : ℕ) (entry : Entry).
+      option_map (λ (txn : TxnOutcome). txn.ending) (outcome_at outcome entry.label) ≡ Some (Committed rank)) outcome.order
   -- along a session starts never fall, and lie behind the commits before them
   pub sessions : AllByRecursion (λ (txn : TxnOutcome). AllByRecursion (Follows txn) (later_than outcome txn)) outcome.txns
   -- every ending is one that may come

@@ -94,7 +94,7 @@ few_checks : (setting : Setting) (key : Option ℕ) → checks_of setting key �
 few_checks setting None = omega arith
 few_checks setting (Some key) = omega arith
 
-statement_advances : (setting : Setting) (state : State) (number : ℕ) (begun : Begun) (visited count : ℕ) (statement : Bound)
+pub statement_advances : (setting : Setting) (state : State) (number : ℕ) (begun : Begun) (visited count : ℕ) (statement : Bound)
     → Advances visited (visits_of setting statement) (statement_turn setting state number begun visited count statement)
 statement_advances setting state number begun visited count (Select tables ons pred items) =
     read_advances setting begun visited (length tables) (setting.chunks * length tables) (Select tables ons pred items) (map (rows_seen (view setting state begun)) tables) (answer_of ons pred items (map (rows_seen (view setting state begun)) tables)) (omega arith)
@@ -159,20 +159,20 @@ IsActing (Answers writes reply took records) = Unit {0}
 IsActing Enters = Unit {0}
 IsActing (Ends ending) = Unit {0}
 
-drop_more_of : (statements : List Bound) (n : ℕ) (statement : Bound) → slice_get statements n ≡ Some statement → drop n statements ≡ statement ∷ drop (suc n) statements
-drop_more_of [] n statement e = absurd (cc e)
-drop_more_of (one ∷ statements) zero statement e = ap (λ (s : Bound). s ∷ statements) (cc e)
-drop_more_of (one ∷ statements) (suc n) statement e = drop_more_of statements n statement e
+pub drop_at : {A : Type 0} (xs : List A) (n : ℕ) (x : A) → slice_get xs n ≡ Some x → drop n xs ≡ x ∷ drop (suc n) xs
+drop_at [] n x e = absurd (cc e)
+drop_at (y ∷ ys) zero x e = ap (λ z. z ∷ ys) (same_Some y x e)
+drop_at (y ∷ ys) (suc n) x e = drop_at ys n x e
 
 advance_falls : (setting : Setting) (txn : Txn) (begun : Begun) (visited count rest : ℕ) (statement : Bound) (turn : Turn) → slice_get txn.statements (length begun.replies) ≡ Some statement
     → Advances visited (visits_of setting statement) turn → left_after setting txn begun rest turn < open_left setting txn begun (Working visited count) + rest
 advance_falls setting txn begun visited count rest statement (Visits writes (Working next more)) e a =
-    let left = drop_more_of txn.statements (length begun.replies) statement e in
+    let left = drop_at txn.statements (length begun.replies) statement e in
     rw (left, with_writes_length begun.own writes, a.0) (omega (arith, a.1))
 advance_falls setting txn begun visited count rest statement (Visits writes (Undoing next cause)) e a =
     rw (with_writes_length begun.own writes) (omega (arith, a))
 advance_falls setting txn begun visited count rest statement (Answers writes reply took records) e a =
-    let left = drop_more_of txn.statements (length begun.replies) statement e in
+    let left = drop_at txn.statements (length begun.replies) statement e in
     let one : length (begun.replies ++ reply ∷ []) ≡ suc (length begun.replies) = omega (arith, length-append begun.replies (reply ∷ [])) in
     rw (left, with_writes_length begun.own writes, one) (omega arith)
 advance_falls setting txn begun visited count rest statement Done e a = absurd a
@@ -252,10 +252,10 @@ none_open : (setting : Setting) (txns : List Txn) → txns_left setting None txn
 none_open setting [] = refl
 none_open setting (txn ∷ txns) = refl
 
-session_set : (state : State) (number : ℕ) (session : Session) → number < length state.sessions → session_at (with_session state number session) number ≡ session
+pub session_set : (state : State) (number : ℕ) (session : Session) → number < length state.sessions → session_at (with_session state number session) number ≡ session
 session_set state number session l = get_or-set_same state.sessions number session fresh l
 
-left_is : (setting : Setting) (state : State) (number : ℕ) (done : List Finished) (current : Open) (txn : Txn) (txns : List Txn) (turn : Turn) → number < length state.sessions
+pub left_is : (setting : Setting) (state : State) (number : ℕ) (done : List Finished) (current : Open) (txn : Txn) (txns : List Txn) (turn : Turn) → number < length state.sessions
     → session_at state number ≡ record { done = done; now = Some current } → drop (length done) (program_of setting number) ≡ txn ∷ txns → IsActing turn
     → steps_left setting number (session_at (after_turn setting state number turn).0 number) ≡ left_after setting txn current.begun (later_left setting txns) turn
 left_is setting state number done current txn txns (Visits writes phase) l s d a =
@@ -288,11 +288,6 @@ moved_acts setting state number (Ends how) e = tt
 not_begun : (setting : Setting) (state : State) (number : ℕ) (by : Option Label) → is_moved (after_turn setting state number (unless_blocked by Begins)).1 ≡ true → ⊥
 not_begun setting state number None e = absurd (cc e)
 not_begun setting state number (Some by) e = absurd (cc e)
-
-drop_at : {A : Type 0} (xs : List A) (n : ℕ) (x : A) → slice_get xs n ≡ Some x → drop n xs ≡ x ∷ drop (suc n) xs
-drop_at [] n x e = absurd (cc e)
-drop_at (y ∷ ys) zero x e = ap (λ z. z ∷ ys) (same_Some y x e)
-drop_at (y ∷ ys) (suc n) x e = drop_at ys n x e
 
 fresh_past : (state : State) (number : ℕ) → length state.sessions ≤ number → session_at state number ≡ fresh
 fresh_past state number h = get_or_past state.sessions number fresh h

@@ -6,5 +6,7 @@ pub mod Snapshots
 pub mod Replaced
 pub mod Entries
 pub mod Falls
+pub mod Marks
 pub mod Rounds
 pub mod Reached
+pub mod Ends

@@ -10,7 +10,7 @@ use Rattle.hy_machine.specs.Measures.{steps_left, measure_of}
 use Rattle.hy_machine.specs.Runs.{opening_of, after_steps, is_moved, moves, whole_of, item_of, items_of, round_from, round_of, all_ended_from, repeated, run_of, RunsAreSteps}
 
 -- a state that comes after some steps of another one
-IsAfter : Setting → State → State → Type 0
+unfoldable pub IsAfter : Setting → State → State → Type 0
 IsAfter setting from state = (numbers : List ℕ) × (state ≡ after_steps setting from numbers)
 
 after_append : (setting : Setting) (state : State) (first second : List ℕ) → after_steps setting state (first ++ second) ≡ after_steps setting (after_steps setting state first) second
@@ -38,7 +38,7 @@ moves_after (suc most) setting state number = elim (cases_Bool (is_moved (step_o
   | inr f ↦ rw f (one_step setting state number)
 ]
 
-whole_is_after : (setting : Setting) (state : State) (number : ℕ) → IsAfter setting state (whole_of setting state number)
+pub whole_is_after : (setting : Setting) (state : State) (number : ℕ) → IsAfter setting state (whole_of setting state number)
 whole_is_after setting state number = moves_after (steps_left setting number (session_at state number)) setting state number
 
 item_after : (setting : Setting) (state : State) (item : Item) → IsAfter setting state (item_of setting state item)
@@ -47,12 +47,12 @@ item_after setting state item = elim (cases_Bool item.whole) [
   | inr f ↦ rw f (one_step setting state item.session)
 ]
 
-items_after : (setting : Setting) (state : State) (items : List Item) → IsAfter setting state (items_of setting state items)
+pub items_after : (setting : Setting) (state : State) (items : List Item) → IsAfter setting state (items_of setting state items)
 items_after setting state [] = no_steps setting state
 items_after setting state (item ∷ items) =
     more_steps setting state (item_of setting state item) (items_of setting (item_of setting state item) items) (item_after setting state item) (items_after setting (item_of setting state item) items)
 
-round_after : (setting : Setting) (state : State) (number left : ℕ) → IsAfter setting state (round_from setting state number left)
+pub round_after : (setting : Setting) (state : State) (number left : ℕ) → IsAfter setting state (round_from setting state number left)
 round_after setting state number zero = no_steps setting state
 round_after setting state number (suc left) =
     more_steps setting state (whole_of setting state number) (round_from setting (whole_of setting state number) (suc number) left) (whole_is_after setting state number) (round_after setting (whole_of setting state number) (suc number) left)

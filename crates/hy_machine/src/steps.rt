@@ -278,14 +278,16 @@ fn entry(
     Ok(Entry { label, cells })
 }
 
-/// The entry of a session's open transaction goes into the commit order, and the session is marked.
+/// The entry of a session's open transaction goes into the commit order, and the session is marked: what the step
+/// came to.
 fn enter(
     alloc: Global,
     setting: &Setting,
     machine: &mut Machine,
     session: u32,
-) -> Result<(), AllocError>
-    ensures { OnOk result (machine.new ≡ with_entry setting.now machine.old session) }
+) -> Result<Stepped, AllocError>
+    ensures machine { OnOk result (machine.new ≡ with_entry setting.now machine.old session) }
+    ensures stepped { IfOk result (λ stepped. stepped ≡ Stepped.Moved) }
 {
     let _: Met = None;
     if let Some(current) = open_at(machine.state(), session) {
@@ -294,7 +296,8 @@ fn enter(
     }
     machine.set_mark(Some(session));
     let phase = Phase::Stamping { visited: 0 };
-    visit(alloc, machine, session, Seq::new(alloc), phase)
+    visit(alloc, machine, session, Seq::new(alloc), phase)?;
+    Ok(Stepped::Moved)
 }
 
 /// The ended transactions of a session, and the one that ends, if one is open.
@@ -333,13 +336,19 @@ fn close(
     Ok(())
 }
 
-/// A session's open transaction ends, and no session is marked.
-fn end(alloc: Global, machine: &mut Machine, session: u32, ending: Ending) -> Result<(), AllocError>
-    ensures { OnOk result (machine.new ≡ without_mark (with_session machine.old session (with_ended ending (session_at machine.old session)))) }
+/// A session's open transaction ends, and no session is marked: what the step came to.
+fn end(
+    alloc: Global,
+    machine: &mut Machine,
+    session: u32,
+    ending: Ending,
+) -> Result<Stepped, AllocError>
+    ensures machine { OnOk result (machine.new ≡ without_mark (with_session machine.old session (with_ended ending (session_at machine.old session)))) }
+    ensures stepped { IfOk result (λ stepped. stepped ≡ Stepped.Answered) }
 {
     close(alloc, machine, session, ending)?;
     machine.set_mark(None);
-    Ok(())
+    Ok(Stepped::Answered)
 }
 
 /// What a session's turn makes of the machine, and what the step came to.
@@ -379,14 +388,8 @@ fn take_turn(
             answer_open(alloc, machine, session, given)?;
             Ok(Stepped::Answered)
         }
-        Turn::Enters => {
-            enter(alloc, setting, machine, session)?;
-            Ok(Stepped::Moved)
-        }
-        Turn::Ends { ending } => {
-            end(alloc, machine, session, ending)?;
-            Ok(Stepped::Answered)
-        }
+        Turn::Enters => enter(alloc, setting, machine, session),
+        Turn::Ends { ending } => end(alloc, machine, session, ending),
     }
 }
 

@@ -179,6 +179,23 @@ struct Grouping<'a> {
     aggregate: Aggregate,
 }
 
+impl<'a> Grouping<'a> {
+    /// By its parts.
+    fn new(table: u32, pred: &'a Pred, key: u32, aggregate: Aggregate) -> Grouping<'a>
+        ensures table { result.table ≡ table }
+        ensures pred { result.pred.now ≡ pred.now }
+        ensures key { result.key ≡ key }
+        ensures aggregate { result.aggregate ≡ aggregate }
+    {
+        Grouping {
+            table,
+            pred,
+            key,
+            aggregate,
+        }
+    }
+}
+
 /// A visit of a SELECT with GROUP BY: the last one answers.
 fn read_groups(
     alloc: Global,
@@ -368,29 +385,16 @@ fn visit(
             key,
             aggregate,
         } => {
-            let by = Grouping {
-                table: *table,
-                pred,
-                key: *key,
-                aggregate: *aggregate,
-            };
+            let by = Grouping::new(*table, pred, *key, *aggregate);
             read_groups(alloc, actor, visited, statement, &by)
         }
         Bound::Insert { table, row } => insert(alloc, actor, visited, statement, *table, row),
         Bound::Update { table, sets, pred } => {
-            let work = Work {
-                table: *table,
-                sets: Some(sets),
-                pred,
-            };
+            let work = Work::new(*table, Some(sets), pred);
             write(alloc, actor, &work, visited, count, statement)
         }
         Bound::Delete { table, pred } => {
-            let work = Work {
-                table: *table,
-                sets: None,
-                pred,
-            };
+            let work = Work::new(*table, None, pred);
             write(alloc, actor, &work, visited, count, statement)
         }
     }

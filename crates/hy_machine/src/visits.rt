@@ -29,6 +29,17 @@ pub struct Work<'a> {
     pub pred: &'a Pred,
 }
 
+impl<'a> Work<'a> {
+    /// By its parts.
+    pub fn new(table: u32, sets: Option<&'a Sets>, pred: &'a Pred) -> Work<'a>
+        ensures table { result.table ≡ table }
+        ensures sets { option_copied result.sets ≡ option_copied sets.entry }
+        ensures pred { result.pred.now ≡ pred.now }
+    {
+        Work { table, sets, pred }
+    }
+}
+
 /// What a row that is selected becomes, or none where a value is out of range.
 fn changed_row(alloc: Global, sets: Option<&Sets>, row: &Row) -> Result<Option<Cell>, AllocError>
     ensures { IfOk result (λ cell. cell ≡ new_cell (kind_of (option_copied sets.entry)) row.now) }

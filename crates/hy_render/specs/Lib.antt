@@ -1,3 +1,4 @@
 pub mod Report
 pub mod Named
 pub mod Telling
+pub mod Summary

@@ -11,12 +11,14 @@ ghost use Rattle.hy_render.specs.Report.{placed_line, placed_lines, start_line, 
 ghost use Rattle.hy_render.specs.Report.{order_lines, table_line, table_lines, text};
 
 mod laws;
+mod summary;
 
 use hy_bound::{Grouped, Replies, Reply, Rows};
 use hy_change::{Change, Changes};
 use hy_stamp::Label;
 use hy_value::{Row, Seq, Text, print, print_row};
 pub use laws::text_tells_the_outcome;
+pub use summary::summarize;
 use std::alloc::AllocError;
 
 /// Names, in file order.

@@ -1,5 +1,5 @@
 -- The words that `hy` takes, in clap's own terms.
-use Rattle.std.specs.Prelude.{ℤ, true, false, [], ◌∷◌, Some, codes, pos}
+use Rattle.std.specs.Prelude.{ℕ, ℤ, true, false, [], ◌∷◌, Some, codes, pos}
 use Rattle.clap.specs.Walk.{Rule, Text}
 use Rattle.clap.specs.Simple.{App, Shape, new_rule, new_shape}
 use Rattle.clap.specs.declared.builder.action.ArgAction.TheVariants.{Set, SetTrue}
@@ -19,6 +19,15 @@ number_option name most default = record (new_rule name) {
   defaults = default ∷ [];
 }
 
+-- an option that takes one number from `least` to `most` and has to be there
+abbrev pub needed_number : Text → ℕ → ℕ → Rule
+needed_number name least most = record (new_rule name) {
+  long = Some name;
+  action = Some Set;
+  parser = Some (Signed (pos least) (pos most));
+  required = true;
+}
+
 abbrev pub chunks : Rule
 chunks = number_option (codes "chunks") (pos 64) (codes "4")
 
@@ -31,9 +40,21 @@ run = record (new_shape (codes "run")) { rules = prune_flag ∷ chunks ∷ rows 
 abbrev pub check : Shape
 check = record (new_shape (codes "check")) { rules = chunks ∷ rows ∷ [] }
 
--- the program: it wants one of these subcommands, and answers to no call for help or for a version
-abbrev pub hy : App
-hy = record {
+abbrev pub seed : Rule
+seed = needed_number (codes "seed") 0 4294967295
+
+abbrev pub sessions : Rule
+sessions = needed_number (codes "sessions") 1 64
+
+abbrev pub transactions : Rule
+transactions = needed_number (codes "transactions") 1 1000
+
+abbrev pub generate : Shape
+generate = record (new_shape (codes "gen")) { rules = seed ∷ sessions ∷ transactions ∷ [] }
+
+-- the commands that take a script: one of these subcommands is wanted, and no call for help or for a version answered
+abbrev pub script_words : App
+script_words = record {
   top = record (new_shape (codes "hy")) {
     is_leaf = false;
     subcommand_required = true;
@@ -43,3 +64,7 @@ hy = record {
   };
   subs = run ∷ check ∷ [];
 }
+
+-- the program: these and `gen`
+abbrev pub hy : App
+hy = record script_words { subs = run ∷ check ∷ generate ∷ [] }

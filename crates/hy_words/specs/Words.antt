@@ -11,7 +11,7 @@ use Rattle.clap.specs.declared.error.kind.ErrorKind.{ErrorKind}
 use Rattle.clap.specs.declared.error.kind.ErrorKind.TheVariants as kind
 use Rattle.hy_words.specs.Grammar.{hy}
 use Rattle.hy_words.specs.declared.Command.{Command}
-use Rattle.hy_words.specs.declared.Command.TheVariants.{Run, Check}
+use Rattle.hy_words.specs.declared.Command.TheVariants.{Run, Check, Gen}
 use Rattle.hy_words.specs.declared.WordsError.{WordsError}
 use Rattle.hy_words.specs.declared.WordsError.TheVariants.{Refused, OutOfMemory}
 
@@ -41,7 +41,11 @@ abbrev pub check_with : Option ℕ → Option ℕ → Option Command
 check_with (Some chunks) (Some rows) = Some (Check chunks rows)
 check_with _ _ = None
 
--- what the matches of `run` and of `check` ask for
+abbrev pub gen_with : Option ℕ → Option ℕ → Option ℕ → Option Command
+gen_with (Some seed) (Some sessions) (Some txns) = Some (Gen seed sessions txns)
+gen_with _ _ _ = None
+
+-- what the matches of each command ask for
 abbrev pub run_by : List Row → Option Command
 run_by matches = run_with (truth_in (codes "no-prune") matches) (number_in (codes "chunks") matches)
     (number_in (codes "rows") matches)
@@ -50,10 +54,15 @@ abbrev pub check_by : List Row → Option Command
 check_by matches =
     check_with (number_in (codes "chunks") matches) (number_in (codes "rows") matches)
 
+abbrev pub gen_by : List Row → Option Command
+gen_by matches =
+    gen_with (number_in (codes "seed") matches) (number_in (codes "sessions") matches) (number_in (codes "transactions") matches)
+
 -- what a subcommand with its matches asks for
 abbrev pub asked_by : Option (Text × List Row) → Option Command
 asked_by = option_and_then (λ s. if bytes_eq s.0 (codes "run") then run_by s.1
-    else if bytes_eq s.0 (codes "check") then check_by s.1 else None)
+    else if bytes_eq s.0 (codes "check") then check_by s.1
+    else if bytes_eq s.0 (codes "gen") then gen_by s.1 else None)
 
 -- The command that the words are: where clap finds no fault with them, what it makes of them asks for
 -- that command.

@@ -1,8 +1,8 @@
 //! The words that `hy` takes, as clap has them.
-ghost use Rattle.std.specs.Prelude.{◌≡◌, ◌≤ℤ◌, pos, IfOk, false};
+ghost use Rattle.std.specs.Prelude.{◌≡◌, ◌≤◌, ◌≤ℤ◌, pos, IfOk, false};
 ghost use Rattle.clap.specs.Words.{app_of, rule_of, shape_of};
 ghost use Rattle.clap.specs.declared.Command.TheViews.{out-Command as fields_of};
-ghost use Rattle.hy_words.specs.Grammar.{check, chunks, hy, number_option, prune_flag, rows, run};
+ghost use Rattle.hy_words.specs.Grammar.{check, chunks, generate, hy, needed_number, number_option, prune_flag, rows, run, script_words, seed, sessions, transactions};
 
 use clap::{Arg, ArgAction, Command, value_parser};
 use std::alloc::{AllocError, Global};
@@ -10,6 +10,14 @@ use std::alloc::{AllocError, Global};
 /// The words that `hy` takes.
 pub(crate) fn hy<'a>(alloc: Global) -> Result<Command<'a>, AllocError>
     ensures { IfOk result (λ c. app_of c ≡ hy) }
+{
+    script_words(alloc)?.subcommand(generate(alloc)?)
+}
+
+/// The words that take a script.
+fn script_words<'a>(alloc: Global) -> Result<Command<'a>, AllocError>
+    ensures app { IfOk result (λ c. app_of c ≡ script_words) }
+    ensures local { IfOk result (λ c. (fields_of c).has_globals ≡ false) }
 {
     Command::new(alloc, "hy")
         .subcommand_required(true)
@@ -41,6 +49,17 @@ fn check<'a>(alloc: Global) -> Result<Command<'a>, AllocError>
         .arg(rows(alloc))
 }
 
+/// The words that `gen` takes.
+fn generate<'a>(alloc: Global) -> Result<Command<'a>, AllocError>
+    ensures shape { IfOk result (λ c. shape_of c ≡ generate) }
+    ensures local { IfOk result (λ c. (fields_of c).has_globals ≡ false) }
+{
+    Command::new(alloc, "gen")
+        .arg(seed(alloc))?
+        .arg(sessions(alloc))?
+        .arg(transactions(alloc))
+}
+
 /// The flag `--no-prune`.
 fn prune_flag<'a>(alloc: Global) -> Arg<'a>
     ensures rule { rule_of result ≡ prune_flag }
@@ -65,6 +84,43 @@ fn rows<'a>(alloc: Global) -> Arg<'a>
     ensures local { result.global ≡ false }
 {
     number_option(alloc, "rows", 1024, "1024")
+}
+
+/// The option `--seed`.
+fn seed<'a>(alloc: Global) -> Arg<'a>
+    ensures rule { rule_of result ≡ seed }
+    ensures local { result.global ≡ false }
+{
+    needed_number(alloc, "seed", 0, 4_294_967_295)
+}
+
+/// The option `--sessions`.
+fn sessions<'a>(alloc: Global) -> Arg<'a>
+    ensures rule { rule_of result ≡ sessions }
+    ensures local { result.global ≡ false }
+{
+    needed_number(alloc, "sessions", 1, 64)
+}
+
+/// The option `--transactions`.
+fn transactions<'a>(alloc: Global) -> Arg<'a>
+    ensures rule { rule_of result ≡ transactions }
+    ensures local { result.global ≡ false }
+{
+    needed_number(alloc, "transactions", 1, 1000)
+}
+
+/// An option that takes one number from `least` to `most` and has to be there.
+fn needed_number<'a>(alloc: Global, name: &'a str, least: u32, most: u32) -> Arg<'a>
+    requires { least ≤ most }
+    ensures rule { rule_of result ≡ needed_number name.entry.now least most }
+    ensures local { result.global ≡ false }
+{
+    Arg::new(alloc, name)
+        .long(name)
+        .action(ArgAction::Set)
+        .value_parser(value_parser!(u32).range(i64::from(least)..=i64::from(most)))
+        .required(true)
 }
 
 /// An option that takes one number from 1 to `most`.

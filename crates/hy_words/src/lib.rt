@@ -4,7 +4,7 @@
 ghost use Rattle.std.specs.Prelude.{◌≡◌, Some, None, Err, IfOk, map};
 ghost use Rattle.std.specs.String.{string_bytes};
 ghost use Rattle.clap.specs.Words.{found_of, rows_of, subcommand_rows_of};
-ghost use Rattle.hy_words.specs.Words.{asked_by, check_by, command_of, number_in, refusal_of, run_by, truth_in};
+ghost use Rattle.hy_words.specs.Words.{asked_by, check_by, command_of, gen_by, number_in, refusal_of, run_by, truth_in};
 
 mod grammar;
 
@@ -31,6 +31,15 @@ pub enum Command {
         chunks: u32,
         /// How many positions a chunk has.
         rows: u32,
+    },
+    /// Make a script, run it and summarize what it came to.
+    Gen {
+        /// The number that the script is made from.
+        seed: u32,
+        /// How many sessions it has.
+        sessions: u32,
+        /// How many transactions each has.
+        txns: u32,
     },
 }
 
@@ -84,6 +93,7 @@ fn asked(matches: &ArgMatches<'_>) -> Option<Command>
     match name {
         "run" => run_asked(given),
         "check" => check_asked(given),
+        "gen" => gen_asked(given),
         _ => None,
     }
 }
@@ -109,6 +119,20 @@ fn check_asked(given: &ArgMatches<'_>) -> Option<Command>
     let chunks = number(given, "chunks")?;
     let rows = number(given, "rows")?;
     Some(Command::Check { chunks, rows })
+}
+
+/// What the matches of `gen` ask for.
+fn gen_asked(given: &ArgMatches<'_>) -> Option<Command>
+    ensures { result ≡ gen_by (rows_of (found_of given.now)) }
+{
+    let seed = number(given, "seed")?;
+    let sessions = number(given, "sessions")?;
+    let txns = number(given, "transactions")?;
+    Some(Command::Gen {
+        seed,
+        sessions,
+        txns,
+    })
 }
 
 /// The number that the matches have for an option.

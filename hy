@@ -70,26 +70,36 @@ is_built() {
 }
 
 # One start builds at a time: the folder is the lock, and the file in it names the process that holds it. A lock whose
-# process is gone is taken over, by the one start that makes the folder within.
+# process is gone is taken over, by the one start that makes the folder within. A lock that isn't there, and can't be
+# made either, may have been dropped in between: so that is tried again before it is called a failure.
 take_lock() {
     waited=0
+    missing=0
+    nameless=0
     while ! mkdir "$lock" 2>/dev/null; do
-        [ -d "$lock" ] || fail "$crate can't be written, and the program must be built there"
+        if [ ! -d "$lock" ]; then
+            missing=$((missing + 1))
+            [ "$missing" -lt 4 ] || fail "$crate can't be written, and the program must be built there"
+            continue
+        fi
+        missing=0
         holder=$(cat "$lock/process" 2>/dev/null)
-        if is_gone "$holder" "$waited"; then
+        [ -z "$holder" ] || nameless=0
+        if is_gone "$holder"; then
             if mkdir "$lock/taken" 2>/dev/null; then
-                if is_gone "$(cat "$lock/process" 2>/dev/null)" "$waited"; then
+                if is_gone "$(cat "$lock/process" 2>/dev/null)"; then
                     complain "a build was cut off; going on in its place"
                     break
                 fi
                 rmdir "$lock/taken"
-            elif [ "$waited" -gt 30 ]; then
+            elif [ "$waited" -gt 30 ] && [ -d "$lock/taken" ]; then
                 fail "a build was cut off: remove the folder $lock"
             fi
         fi
-        [ "$waited" -eq 2 ] && complain "waiting for another start that builds the program (process $holder)"
+        [ "$waited" -ne 2 ] || complain "waiting for another start that builds the program (process ${holder:-unknown})"
         sleep 1
         waited=$((waited + 1))
+        nameless=$((nameless + 1))
     done
     trap 'drop_lock' EXIT
     trap 'exit 130' INT
@@ -98,10 +108,10 @@ take_lock() {
     rmdir "$lock/taken" 2>/dev/null
 }
 
-# Whether the process of a lock has ended, or, where the lock names none for a while, never came to write it down.
+# Whether the process that a lock names has ended, or, where it has named none for some seconds, never wrote it down.
 is_gone() {
     case $1 in
-        '') [ "$2" -ge 5 ] ;;
+        '') [ "$nameless" -ge 5 ] ;;
         *) ! kill -0 "$1" 2>/dev/null && [ ! -d "/proc/$1" ] ;;
     esac
 }

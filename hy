@@ -118,7 +118,30 @@ is_gone() {
 
 drop_lock() {
     [ -z "$ticker" ] || { kill "$ticker" && wait "$ticker"; } 2>/dev/null
+    [ -z "$copy" ] || rm -rf "$copy"
     rm -rf "$lock"
+}
+
+# Sets the folder that rt works in. It can't work in one whose path isn't text, so then it gets a copy of the sources.
+find_bench() {
+    bench=$root
+    printf '%s' "$root" | iconv -f UTF-8 -t UTF-8 >/dev/null 2>&1 && return
+    copy=$(mktemp -d) || fail "the path isn't text, and no folder for a copy of the sources can be made"
+    bench=$copy
+    complain "the path isn't text, so the program is built from a copy of the sources in $copy"
+    (
+        cd "$root" && cp crates.txt HANDLES "$copy" || exit
+        for part in crates/*/src crates/*/specs crates/*/proofs; do
+            [ -d "$part" ] || continue
+            mkdir -p "$copy/${part%/*}" && cp -R "$part" "$copy/$part" || exit
+        done
+    ) || fail "the sources can't be copied to $copy"
+}
+
+# Takes the program over from the copy.
+take_program() {
+    [ "$bench" = "$root" ] && return
+    mkdir -p "$crate/out" && cp "$bench/crates/hy_main/out/hy_main" "$program.new" && mv "$program.new" "$program"
 }
 
 # Tells each minute that the build goes on, as long as it does.
@@ -146,12 +169,13 @@ build() {
     else
         complain "proving and building the program; from nothing this can take half an hour (log: $log)"
     fi
+    find_bench
     tick &
     ticker=$!
-    (cd "$crate" && printf 'END;\n' | rt run -- check) >"$log" 2>&1
+    (cd "$bench/crates/hy_main" && printf 'END;\n' | rt run -- check) >"$log" 2>&1
     status=$?
     took=$(($(date +%s) - began))
-    if [ "$status" -ne 0 ] || [ ! -x "$program" ]; then
+    if [ "$status" -ne 0 ] || ! take_program || [ ! -x "$program" ]; then
         tail -n 20 "$log" >&2
         fail "the build failed after $took s: rt ended with status $status (whole log: $log)"
     fi
@@ -163,6 +187,7 @@ build() {
 }
 
 ticker=
+copy=
 find_root
 crate=$root/crates/hy_main
 program=$crate/out/hy_main

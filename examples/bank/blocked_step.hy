@@ -1,0 +1,21 @@
+-- A BEGIN that falls between the steps of another's COMMIT waits.
+--
+--   ./hy run --chunks 1 --rows 4 < examples/bank/blocked_step.hy
+
+CREATE TABLE acc (id INT PRIMARY KEY, owner TEXT, bal INT);
+INSERT INTO acc VALUES (1, 'ann', 100);
+INSERT INTO acc VALUES (2, 'ann', 100);
+INSERT INTO acc VALUES (3, 'bob', 50);
+
+SESSION a;
+BEGIN;
+UPDATE acc SET bal = bal - 30 WHERE id = 1;
+COMMIT;
+
+SESSION b;
+BEGIN;
+SELECT bal FROM acc WHERE id = 1;
+COMMIT;
+
+SCHEDULE a! a! a b! a a b! b! b!;
+END;

@@ -1,0 +1,21 @@
+-- A change of a column that was not read hits nothing.
+--
+--   ./hy run --chunks 1 --rows 4 < examples/bank/other_columns.hy
+
+CREATE TABLE acc (id INT PRIMARY KEY, owner TEXT, bal INT);
+INSERT INTO acc VALUES (1, 'ann', 100);
+INSERT INTO acc VALUES (2, 'ann', 100);
+INSERT INTO acc VALUES (3, 'bob', 50);
+
+SESSION a;
+BEGIN;
+UPDATE acc SET bal = bal - 30 WHERE id = 1;
+COMMIT;
+
+SESSION b;
+BEGIN;
+SELECT COUNT(*) FROM acc WHERE owner = 'ann';
+UPDATE acc SET bal = 0 WHERE id = 3;
+COMMIT;
+
+END;

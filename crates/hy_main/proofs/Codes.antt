@@ -11,7 +11,7 @@ pub answers_by_code : (asked : Option Command) (rest : Option (List ℕ)) (statu
     (before after : Option (List ℕ)) → code ≡ status
     → IfSome asked (λ command. IsNone (made_by command) → IfSome rest (λ all. (status ≡ 3) ⊎ Answers command (bytes_read all) status outcome before after))
     → IfSome asked (λ command. IsNone (made_by command) → IfSome rest
-      (λ all. (code ≡ 3) ⊎ ((given : Option Outcome) × Answers command (bytes_read all) code given before after)))
+    (λ all. (code ≡ 3) ⊎ ((given : Option Outcome) × Answers command (bytes_read all) code given before after)))
 answers_by_code None rest status code outcome before after same h = tt
 answers_by_code (Some command) None status code outcome before after same h = λ none. tt
 answers_by_code (Some command) (Some all) status code outcome before after same h = λ none. answer_by_code command all status code outcome before after same (h none)

@@ -18,8 +18,8 @@ use hy_change::{Change, Changes};
 use hy_stamp::Label;
 use hy_value::{Row, Seq, Text, print, print_row};
 pub use laws::text_tells_the_outcome;
-pub use summary::summarize;
 use std::alloc::AllocError;
+pub use summary::summarize;
 
 /// Names, in file order.
 pub type Texts = Seq<Text>;

@@ -5,6 +5,7 @@
 mod unseen;
 
 pub use unseen::what_is_unseen_leaves_a_run;
+
 mod bags;
 
 pub use bags::a_run_over_cells_is_alone;

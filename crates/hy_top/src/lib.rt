@@ -87,11 +87,13 @@ pub fn run<R: Source, W: Sink>(
     ensures statuses { result.status ≤ 5 }
 {
     match hy_words::command_of(alloc, words) {
-        Ok(Command::Gen {
-            seed,
-            sessions,
-            txns,
-        }) => run_made(alloc, seed, sessions, txns, sink),
+        Ok(
+            Command::Gen {
+                seed,
+                sessions,
+                txns,
+            },
+        ) => run_made(alloc, seed, sessions, txns, sink),
         Ok(command) => run_command(alloc, command, source, sink),
         Err(WordsError::Refused) => Report {
             status: write(sink, USAGE, 1),

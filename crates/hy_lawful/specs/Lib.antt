@@ -3,3 +3,5 @@ pub mod Outcomes
 pub mod Positions
 pub mod Endings
 pub mod Lawful
+pub mod Serial
+pub mod Reached

@@ -8,10 +8,10 @@ ghost use Rattle.hy_machine.specs.Runs.{run_of};
 ghost use Rattle.hy_machine.specs.Outcomes.{outcome_of};
 ghost use Rattle.hy_lawful.specs.Lawful.{Lawful};
 
-mod reached;
+mod states;
 
 use hy_machine::runs_are_steps;
-pub use reached::{the_committed_passed_unseen, transactions_have_run};
+pub use states::{the_committed_passed_unseen, transactions_have_run};
 
 /// Whatever the script and the schedule, what the machine makes of them is lawful.
 pub fn runs_are_lawful()

@@ -4,7 +4,7 @@
 
 mod unseen;
 
-pub use unseen::what_is_unseen_leaves_a_run;
+pub use unseen::{a_run_keeps_widths, what_is_unseen_leaves_a_run};
 mod bags;
 
 pub use bags::a_run_over_cells_is_alone;

@@ -5,3 +5,4 @@ pub mod Endings
 pub mod Lawful
 pub mod Serial
 pub mod Reached
+pub mod Laws

@@ -1,4 +1,4 @@
-//! Lawful outcomes, and the theorem that the snapshot machine gives no others.
+//! Lawful and serializable outcomes, and the theorems that the snapshot machine gives no others.
 #![tactic(auto)]
 
 ghost use Rattle.std.specs.Prelude.{List};
@@ -6,16 +6,26 @@ ghost use Rattle.hy_machine.specs.declared.Setting.{Setting};
 ghost use Rattle.hy_schedule.specs.declared.Item.{Item};
 ghost use Rattle.hy_machine.specs.Runs.{run_of};
 ghost use Rattle.hy_machine.specs.Outcomes.{outcome_of};
+ghost use Rattle.hy_lawful.specs.Laws.{SerialRuns};
 ghost use Rattle.hy_lawful.specs.Lawful.{Lawful};
 
 mod states;
 
 use hy_machine::runs_are_steps;
+use hy_replay::{a_run_keeps_widths, a_run_over_cells_is_alone, what_is_unseen_leaves_a_run};
 pub use states::{the_committed_passed_unseen, transactions_have_run};
 
-/// Whatever the script and the schedule, what the machine makes of them is lawful.
+/// Whatever the script and the schedule, what the machine makes of them is lawful; and where the script fits, every
+/// transaction was told what it is told when it runs alone, from the rows that the commits before its start left in
+/// the order of their ranks, and those that committed, from the rows that the commits before their own left.
 pub fn runs_are_lawful()
-    ensures { (setting : Setting) (schedule : List Item) → Lawful setting (outcome_of setting (run_of setting schedule)) }
+    ensures lawful { (setting : Setting) (schedule : List Item) → Lawful setting (outcome_of setting (run_of setting schedule)) }
+    ensures serial { SerialRuns }
 {
     runs_are_steps();
+    transactions_have_run();
+    the_committed_passed_unseen();
+    what_is_unseen_leaves_a_run();
+    a_run_keeps_widths();
+    a_run_over_cells_is_alone();
 }

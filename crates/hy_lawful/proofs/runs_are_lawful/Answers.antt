@@ -1,7 +1,11 @@
 use Rattle.hy_machine.specs.Runs.{run_of}
 use Rattle.hy_lawful.proofs.Laws.{lawful}
+use Rattle.hy_lawful.proofs.SerialTables.{snapshot_are, opening_bags, opening_widths}
 use Rattle.hy_lawful.proofs.runs_are_lawful.Goals as goal
 
-pub returns : goal.returns
-returns c = λ setting schedule. lawful setting (run_of setting schedule) (c.runs_are_steps.ensures.steps setting schedule)
+pub returns-clause-lawful : goal.returns-clause-lawful
+returns-clause-lawful c = λ setting schedule. lawful setting (run_of setting schedule) (c.runs_are_steps.ensures.steps setting schedule)
     (c.runs_are_steps.ensures.ends setting schedule)
+
+pub returns-clause-serial : goal.returns-clause-serial
+returns-clause-serial c = ?

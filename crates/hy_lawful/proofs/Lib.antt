@@ -15,3 +15,5 @@ pub mod Endings
 pub mod Followers
 pub mod Laws
 pub mod SerialTables
+pub mod SerialAlone
+pub mod SerialHistory

@@ -17,3 +17,5 @@ pub mod Laws
 pub mod SerialTables
 pub mod SerialAlone
 pub mod SerialHistory
+pub mod SerialScripts
+pub mod SerialRuns

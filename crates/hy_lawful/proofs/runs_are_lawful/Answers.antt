@@ -1,8 +1,6 @@
 use Rattle.hy_machine.specs.Runs.{run_of}
 use Rattle.hy_lawful.proofs.Laws.{lawful}
-use Rattle.hy_lawful.proofs.SerialTables.{snapshot_are, opening_bags, opening_widths}
-use Rattle.hy_lawful.proofs.SerialAlone.{first_replies}
-use Rattle.hy_lawful.proofs.SerialHistory.{serial_to}
+use Rattle.hy_lawful.proofs.SerialRuns as runs
 use Rattle.hy_lawful.proofs.runs_are_lawful.Goals as goal
 
 pub returns-clause-lawful : goal.returns-clause-lawful

@@ -1,16 +1,13 @@
 -- What the machine comes to is serializable, in the order of its commits.
-use Rattle.std.proofs.Common.{◌≡◌, ℕ, suc, ◌*◌, ◌<◌, ◌≤◌, List, [], Option, None, Some, true, length, map, get_or, take, refl, ap, sym, ◌∙◌, subst, arith}
+use Rattle.std.proofs.Common.{◌≡◌, ℕ, suc, ◌*◌, ◌<◌, ◌≤◌, List, [], Option, None, Some, length, map, get_or, take, refl, ap, sym, ◌∙◌, subst, arith}
 use Rattle.std.specs.Prelude.{IfSome, slice_get}
-use Rattle.std.specs.List.{All, AllByRecursion}
 use Rattle.std.proofs.lemmas.List.{length-map, take_all, take-map}
 use Rattle.std.proofs.lemmas.Option.{same_Some}
 use Rattle.hy_bound.specs.declared.Bound.{Bound}
 use Rattle.hy_bound.specs.declared.Reply.{Reply}
-use Rattle.hy_bound.specs.Fits.{FitsStatement, Fits as FitsScript}
+use Rattle.hy_bound.specs.Fits.{Fits as FitsScript}
 use Rattle.hy_meaning.specs.Statement.{Database}
 use Rattle.hy_meaning.specs.Serial.{Alone, alone_of, serial, database_of}
-use Rattle.hy_stamp.specs.declared.Label.{Label}
-use Rattle.hy_schedule.specs.declared.Item.{Item}
 use Rattle.hy_render.specs.declared.Ending.{Ending}
 use Rattle.hy_render.specs.declared.Ending.TheVariants.{Committed, Read, RolledBack, Conflict, Invalid, Range, Full}
 use Rattle.hy_render.specs.declared.TxnOutcome.{TxnOutcome}
@@ -19,20 +16,20 @@ use Rattle.hy_machine.specs.declared.Setting.{Setting}
 use Rattle.hy_machine.specs.declared.State.{State}
 use Rattle.hy_machine.specs.declared.Finished.{Finished}
 use Rattle.hy_machine.specs.declared.Entry.{Entry}
-use Rattle.hy_machine.specs.Tables.{Own, Tables, capacity, history, opening_tables, over}
-use Rattle.hy_machine.specs.Sessions.{session_at, program_of, snapshot}
+use Rattle.hy_machine.specs.Tables.{history, opening_tables, over}
+use Rattle.hy_machine.specs.Sessions.{session_at, snapshot}
 use Rattle.hy_machine.specs.Validation.{committed_of}
 use Rattle.hy_machine.specs.Outcomes.{txn_outcome_of, outcome_of}
 use Rattle.hy_machine.specs.Runs.{IsReached, RunsAreSteps, RunsEnd, run_of}
 use Rattle.hy_replay.specs.Ran.{Ran, ran}
-use Rattle.hy_replay.specs.Laws.{DifferUnseen, RunsAgain, RunsKeepWidths, bags_of}
+use Rattle.hy_replay.specs.Laws.{RunsAgain, RunsKeepWidths, bags_of}
 use Rattle.hy_replay.specs.BagLaws.{RunsAreAlone, alone_as}
 use Rattle.hy_lawful.specs.Scripts.{statements_of}
 use Rattle.hy_lawful.specs.Outcomes.{committed_at}
-use Rattle.hy_lawful.specs.Reached.{AllHaveRun, AllPassedUnseen, EndedHasRun, HasRun, PassedUnseen, ReachedHaveRun, ReachedPassUnseen, statements_at}
+use Rattle.hy_lawful.specs.Reached.{AllHaveRun, AllPassedUnseen, EndedHasRun, PassedUnseen, ReachedHaveRun, ReachedPassUnseen, statements_at}
 use Rattle.hy_lawful.specs.Serial.{AreFirstOf, IsSerial, RepliesAreOfStart, ReplaysAt, alone_at, database_at}
 use Rattle.hy_lawful.specs.Laws.{SerialRuns}
-use Rattle.hy_lawful.proofs.Fits.{DoneFits, Ends, IsCommitted, label_at}
+use Rattle.hy_lawful.proofs.Fits.{Ends, IsCommitted}
 use Rattle.hy_lawful.proofs.Laws.{done_fits}
 use Rattle.hy_lawful.proofs.Outcomes.{each_outcome}
 use Rattle.hy_lawful.proofs.Over.{IsOver, HasCommitted, is_over, entry_committed}
@@ -128,8 +125,7 @@ ran_in_order setting state end rank below =
     sym (transaction_at setting.programs state.order rank there.0 there.1 ∙ statements_behind setting there.0 committed.has.before committed.has.is) in
     let c : Commits setting state there.0.session committed.has.before committed.has.finished rank =
     record { at = committed.has.at; ending = committed.ending } in
-    let given : Ran = (end.ran there.0.session committed.has.before committed.has.finished committed.has.at).given in
-    (
+    let given : Ran = (end.ran there.0.session committed.has.before committed.has.finished committed.has.at).given in (
       given,
       subst (λ (statements : List Bound). RanAt setting (snapshot setting state) statements given rank) same
           (ran_at setting state end there.0.session committed.has.before committed.has.finished rank c),

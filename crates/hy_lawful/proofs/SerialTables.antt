@@ -1,11 +1,9 @@
 -- The tables after each prefix of the commit order: they are tables of the script, and those before any commit have its
 -- first rows.
-use Rattle.std.proofs.Common.{◌≡◌, ℕ, zero, suc, ◌+◌, ◌*◌, ◌<◌, ◌≤◌, List, [], ◌∷◌, ◌++◌, Option, None, Some, length, map, get_or, take, refl, ap, sym}
-use Rattle.std.proofs.Common.{◌∙◌, subst, arith, inl, inr, zero-add}
+use Rattle.std.proofs.Common.{◌≡◌, ℕ, zero, suc, ◌+◌, ◌≤◌, List, [], ◌∷◌, Option, None, Some, length, map, get_or, take, refl, ap, sym}
+use Rattle.std.proofs.Common.{◌∙◌, subst, arith, zero-add}
 use Rattle.std.specs.Prelude.{slice_get}
-use Rattle.std.specs.List.{AllByRecursion, All, AllZip, range_with_len}
-use Rattle.std.proofs.Math.ListN.{get_or-eq_default}
-use Rattle.std.proofs.lemmas.Bool.{cases_lt}
+use Rattle.std.specs.List.{AllByRecursion, AllZip, range_with_len}
 use Rattle.std.proofs.lemmas.List.{length-map}
 use Rattle.std.proofs.lemmas.List.Elements.{recursion_from_All}
 use Rattle.std.proofs.lemmas.List.FromFn.{length-map-range_with_len}
@@ -15,14 +13,13 @@ use Rattle.hy_bound.specs.declared.Shape.{Shape}
 use Rattle.hy_bound.specs.Agreement.{HaveWidth}
 use Rattle.hy_bound.specs.Changes.{present}
 use Rattle.hy_bound.specs.Fits.{FitsRows}
-use Rattle.hy_bound.specs.Records.{no_shape, shape_of}
+use Rattle.hy_bound.specs.Records.{no_shape}
 use Rattle.hy_meaning.specs.Serial.{database_of}
 use Rattle.hy_machine.specs.declared.Setting.{Setting}
 use Rattle.hy_machine.specs.declared.State.{State}
 use Rattle.hy_machine.specs.declared.Pair.{Pair}
 use Rattle.hy_machine.specs.declared.Entry.{Entry}
-use Rattle.hy_machine.specs.Tables.{Cell, Tables, capacity, overlaid, covered, covered_tables, after_entry, history, laid_out, opening_tables}
-use Rattle.hy_machine.specs.Turns.{rows_seen}
+use Rattle.hy_machine.specs.Tables.{Cell, Tables, capacity, overlaid, covered, after_entry, history, laid_out, opening_tables}
 use Rattle.hy_machine.specs.Sessions.{snapshot}
 use Rattle.hy_replay.specs.Laws.{AreTables, HaveWidths, bags_of}
 

@@ -14,3 +14,4 @@ pub mod Over
 pub mod Endings
 pub mod Followers
 pub mod Laws
+pub mod PassTables

@@ -14,6 +14,7 @@ pub mod Over
 pub mod Endings
 pub mod Followers
 pub mod Laws
+pub mod PassTables
 pub mod SerialTables
 pub mod SerialAlone
 pub mod SerialHistory

@@ -16,7 +16,7 @@ use Rattle.hy_machine.specs.declared.Setting.{Setting}
 use Rattle.hy_machine.specs.declared.State.{State}
 use Rattle.hy_machine.specs.declared.Finished.{Finished}
 use Rattle.hy_machine.specs.declared.Entry.{Entry}
-use Rattle.hy_machine.specs.Tables.{history, opening_tables, over}
+use Rattle.hy_machine.specs.Tables.{Tables, history, opening_tables, over}
 use Rattle.hy_machine.specs.Sessions.{session_at, snapshot}
 use Rattle.hy_machine.specs.Validation.{committed_of}
 use Rattle.hy_machine.specs.Outcomes.{txn_outcome_of, outcome_of}
@@ -37,7 +37,8 @@ use Rattle.hy_lawful.proofs.Reached.{reached_fits}
 use Rattle.hy_lawful.proofs.SerialAlone.{first_replies}
 use Rattle.hy_lawful.proofs.SerialHistory.{RanAt, History, alone_at_rank, serial_to}
 use Rattle.hy_lawful.proofs.SerialScripts.{statements_behind, transactions_of, transaction_at, has_label, label_within, statements_stand}
-use Rattle.hy_lawful.proofs.SerialTables.{snapshot_are, opening_bags, opening_widths}
+use Rattle.hy_lawful.proofs.PassTables.{tables_are}
+use Rattle.hy_lawful.proofs.SerialTables.{opening_bags, opening_widths}
 
 -- what is known of a state at its end
 record AtEnd (setting : Setting) (state : State) : Type 0 where
@@ -134,7 +135,7 @@ ran_in_order setting state end rank below =
 history_of : (setting : Setting) (state : State) → AtEnd setting state → History setting (snapshot setting state) (transactions_of setting.programs state.order)
 history_of setting state end = record {
   shapes = end.script.tables;
-  are = snapshot_are setting state;
+  are = tables_are setting state.order;
   wide = opening_widths setting end.script.first_rows;
   ran = ran_in_order setting state end;
 }
@@ -171,7 +172,7 @@ replies_of_start laws setting state end number before finished at =
     let statements : List Bound = statements_at setting number before in
     let db : Database = bags_of (snapshot setting state start) in
     let first : alone_of setting.shapes (take many statements) db ≡ alone_as (snapshot setting state start) has.given =
-    laws.alone setting (snapshot setting state start) (take many statements) finished.begun.took has.given (snapshot_are setting state start)
+    laws.alone setting (snapshot setting state start) (take many statements) finished.begun.took has.given (tables_are setting state.order start)
     has.has_run.positions has.has_run.came_to in
     let told : (alone_of setting.shapes (take many statements) db).replies ≡ finished.begun.replies =
     ap (λ (one : Alone). one.replies) first ∙ has.has_run.replies in
@@ -188,11 +189,12 @@ replays_at laws setting state end number before finished rank c =
     let has : EndedHasRun setting state number before finished = end.ran number before finished c.at in
     let below : rank < length state.order =
     label_within state.order rank (record { session = number; txn = suc before }) (stands_committed setting state end number before finished rank c).stands in
-    let given : alone_of setting.shapes (statements_at setting number before) (bags_of (snapshot setting state rank)) ≡ alone_as (snapshot setting state rank) has.given =
+    let there : Tables = snapshot setting state rank in
+    let given : alone_of setting.shapes (statements_at setting number before) (bags_of there) ≡ alone_as there has.given =
     alone_at_rank laws.again laws.keeps laws.alone setting (snapshot setting state) (transactions_of setting.programs state.order)
     (history_of setting state end) (statements_at setting number before) has.given rank (ran_at setting state end number before finished rank c)
     (omega (arith, below, transactions_length setting state)) in
-    let is : alone_at setting (map committed_of state.order) (record { session = number; txn = suc before }) rank ≡ alone_as (snapshot setting state rank) has.given =
+    let is : alone_at setting (map committed_of state.order) (record { session = number; txn = suc before }) rank ≡ alone_as there has.given =
     sym (alone_there laws setting state end number before rank (omega (arith, below))) ∙ given in
     record {
       gives = ap (λ (one : Alone). one.replies) is ∙ has.has_run.replies;

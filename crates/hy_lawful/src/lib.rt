@@ -15,9 +15,10 @@ use hy_machine::runs_are_steps;
 use hy_replay::{a_run_keeps_widths, a_run_over_cells_is_alone, what_is_unseen_leaves_a_run};
 pub use states::{the_committed_passed_unseen, transactions_have_run};
 
-/// Whatever the script and the schedule, what the machine makes of them is lawful; and where the script fits, every
-/// transaction was told what it is told when it runs alone, from the rows that the commits before its start left in
-/// the order of their ranks, and those that committed, from the rows that the commits before their own left.
+/// Whatever the script and the schedule, what the machine makes of them is lawful. Where the script fits, it is also
+/// serializable in the order of its commits: the replies of every transaction are the first of those that it gets
+/// alone over the rows that the commits before its start leave, those of a committed one are all that it gets alone
+/// over the rows that the commits before its own leave, and the final tables are those of the whole order.
 pub fn runs_are_lawful()
     ensures lawful { (setting : Setting) (schedule : List Item) → Lawful setting (outcome_of setting (run_of setting schedule)) }
     ensures serial { SerialRuns }

@@ -33,7 +33,7 @@ use Rattle.hy_lawful.proofs.Over.{IsOver, HasCommitted, is_over, entry_committed
 use Rattle.hy_lawful.proofs.Endings.{stands_at, may_end}
 use Rattle.hy_lawful.proofs.Followers.{follows}
 
-done_fits : (setting : Setting) (state : State) → Fits setting state → (number before : ℕ) (finished : Finished)
+pub done_fits : (setting : Setting) (state : State) → Fits setting state → (number before : ℕ) (finished : Finished)
     → slice_get (session_at state number).done before ≡ Some finished → DoneFits setting state.order number before finished
 done_fits setting state fits number before finished e =
     item_at_number (DoneFits setting state.order number) (session_at state number).done (fits.sessions number).done before finished e

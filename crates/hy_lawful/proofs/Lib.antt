@@ -14,3 +14,9 @@ pub mod Over
 pub mod Endings
 pub mod Followers
 pub mod Laws
+pub mod PassTables
+pub mod SerialTables
+pub mod SerialAlone
+pub mod SerialHistory
+pub mod SerialScripts
+pub mod SerialRuns

@@ -1,4 +1,4 @@
-//! Lawful outcomes, and the theorem that the snapshot machine gives no others.
+//! Lawful and serializable outcomes, and the theorems that the snapshot machine gives no others.
 #![tactic(auto)]
 
 ghost use Rattle.std.specs.Prelude.{List};
@@ -6,13 +6,27 @@ ghost use Rattle.hy_machine.specs.declared.Setting.{Setting};
 ghost use Rattle.hy_schedule.specs.declared.Item.{Item};
 ghost use Rattle.hy_machine.specs.Runs.{run_of};
 ghost use Rattle.hy_machine.specs.Outcomes.{outcome_of};
+ghost use Rattle.hy_lawful.specs.Laws.{SerialRuns};
 ghost use Rattle.hy_lawful.specs.Lawful.{Lawful};
 
-use hy_machine::runs_are_steps;
+mod states;
 
-/// Whatever the script and the schedule, what the machine makes of them is lawful.
+use hy_machine::runs_are_steps;
+use hy_replay::{a_run_keeps_widths, a_run_over_cells_is_alone, what_is_unseen_leaves_a_run};
+pub use states::{the_committed_passed_unseen, transactions_have_run};
+
+/// Whatever the script and the schedule, what the machine makes of them is lawful. Where the script fits, it is also
+/// serializable in the order of its commits: the replies of every transaction are the first of those that it gets
+/// alone over the rows that the commits before its start leave, those of a committed one are all that it gets alone
+/// over the rows that the commits before its own leave, and the final tables are those of the whole order.
 pub fn runs_are_lawful()
-    ensures { (setting : Setting) (schedule : List Item) → Lawful setting (outcome_of setting (run_of setting schedule)) }
+    ensures lawful { (setting : Setting) (schedule : List Item) → Lawful setting (outcome_of setting (run_of setting schedule)) }
+    ensures serial { SerialRuns }
 {
     runs_are_steps();
+    transactions_have_run();
+    the_committed_passed_unseen();
+    what_is_unseen_leaves_a_run();
+    a_run_keeps_widths();
+    a_run_over_cells_is_alone();
 }

@@ -1,4 +1,4 @@
--- Statements one after another over tables that differ unseen come to the same.
+-- Statements one after another over tables that differ unseen come to the same, and leave rows of their tables' widths.
 use Rattle.std.proofs.Common.{◌≡◌, ℕ, zero, suc, ◌≤◌, inl, inr, List, [], ◌∷◌, ◌++◌, Option, None, Some, length, refl, ap, sym, ◌∙◌, subst, arith}
 use Rattle.std.specs.List.{All}
 use Rattle.std.specs.Option.{option_and_then, option_map}
@@ -13,11 +13,11 @@ use Rattle.hy_bound.specs.Fits.{FitsShape, FitsStatement}
 use Rattle.hy_bound.specs.Records.{no_shape, shape_of}
 use Rattle.hy_machine.specs.declared.Setting.{Setting}
 use Rattle.hy_machine.specs.Positions.{item_at}
-use Rattle.hy_machine.specs.Tables.{Tables, Own, capacity}
+use Rattle.hy_machine.specs.Tables.{Tables, Own, capacity, over}
 use Rattle.hy_machine.specs.Writes.{blank_own}
-use Rattle.hy_replay.specs.Laws.{AreTables, HaveWidths, DifferUnseen, RunsAgain}
+use Rattle.hy_replay.specs.Laws.{AreTables, HaveWidths, DifferUnseen, RunsAgain, RunsKeepWidths}
 use Rattle.hy_replay.specs.Ran.{One, one, Ran, after_one, ran_from}
-use Rattle.hy_replay.proofs.Cells.{FitsOwn, writes_fit, writes_grow, blank_fits}
+use Rattle.hy_replay.proofs.Cells.{FitsOwn, writes_fit, writes_grow, blank_fits, over_widths}
 use Rattle.hy_replay.proofs.Changes.{ShapesFit}
 use Rattle.hy_replay.proofs.Selects.{KeepsRecords, KeepsReplies}
 use Rattle.hy_replay.proofs.Views.{BothFit}
@@ -149,3 +149,24 @@ runs_again keeps replies selects setting tables others statements took given sha
     let fit : BothFit setting tables others =
     record { shapes = shapes_fit setting.shapes shapes; are = are; others_are = also; wide = wide; others_wide = wide_too } in
     run_again keeps replies selects setting tables others (blank_own setting) 1 statements took given fit stand (blank_fits setting) e unseen
+
+-- ---- widths
+
+run_fits : (setting : Setting) (tables : Tables) (own : Own) (number : ℕ) (statements : List Bound) (took : List (Option ℕ)) (given : Ran)
+    → All (FitsStatement setting.shapes) statements → AreTables setting tables → HaveWidths setting.shapes tables → FitsOwn setting own
+    → ran_from setting tables own number statements took ≡ Some given → FitsOwn setting given.own
+run_fits setting tables own number [] took given stand are wide fits e =
+    subst (λ (given : Ran). FitsOwn setting given.own) (same_Some (record { own = own; replies = []; records = [] }) given e) fits
+run_fits setting tables own number (statement ∷ statements) [] given stand are wide fits e = absurd cc
+run_fits setting tables own number (statement ∷ statements) (at ∷ took) given stand are wide fits e =
+    let parts = parts_of (one setting tables own number statement at) (λ later. ran_from setting tables later (suc number) statements took) given e in
+    let leaves : LeavesWrites setting own parts.one = one_leaves setting tables own number statement at parts.one are wide fits
+    (all_first (FitsStatement setting.shapes) statement statements stand) parts.first_is in
+    subst (λ (given : Ran). FitsOwn setting given.own) parts.is
+    (run_fits setting tables parts.one.own (suc number) statements took parts.rest
+    (all_rest (FitsStatement setting.shapes) statement statements stand) are wide (leaves_fit setting own parts.one fits leaves) parts.rest_is)
+
+pub runs_keep_widths : RunsKeepWidths
+runs_keep_widths setting tables statements took given stand are wide e =
+    over_widths setting tables given.own are wide
+    (run_fits setting tables (blank_own setting) 1 statements took given stand are wide (blank_fits setting) e)

@@ -12,7 +12,7 @@ use Rattle.hy_bound.specs.Records.{shape_of}
 use Rattle.hy_meaning.specs.Statement.{Database}
 use Rattle.hy_machine.specs.declared.Setting.{Setting}
 use Rattle.hy_machine.specs.Positions.{item_at}
-use Rattle.hy_machine.specs.Tables.{Cell, Tables, Own, capacity}
+use Rattle.hy_machine.specs.Tables.{Cell, Tables, Own, capacity, over}
 use Rattle.hy_machine.specs.Turns.{rows_seen}
 use Rattle.hy_machine.specs.Validation.{record_hit}
 use Rattle.hy_replay.specs.Ran.{Ran, ran}
@@ -51,3 +51,10 @@ RunsAgain =
     → AreTables setting tables → AreTables setting others → HaveWidths setting.shapes tables → HaveWidths setting.shapes others
     → ran setting tables statements took ≡ Some given → DifferUnseen tables others given.own given.records
     → ran setting others statements took ≡ Some given
+
+-- what statements write leaves the rows of tables with the widths of theirs
+abbrev pub RunsKeepWidths : Type 0
+RunsKeepWidths =
+    (setting : Setting) (tables : Tables) (statements : List Bound) (took : List (Option ℕ)) (given : Ran)
+    → All (FitsStatement setting.shapes) statements → AreTables setting tables → HaveWidths setting.shapes tables
+    → ran setting tables statements took ≡ Some given → HaveWidths setting.shapes (over tables given.own)

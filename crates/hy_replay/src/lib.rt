@@ -2,10 +2,8 @@
 //! tables they come to the same, and that this is what they come to alone, over bags of rows.
 #![tactic(auto)]
 
+mod bags;
 mod unseen;
 
-pub use unseen::what_is_unseen_leaves_a_run;
-
-mod bags;
-
 pub use bags::a_run_over_cells_is_alone;
+pub use unseen::{a_run_keeps_widths, what_is_unseen_leaves_a_run};

@@ -1,6 +1,6 @@
 //! What is unseen leaves a run: the law that precision locking rests on.
 
-ghost use Rattle.hy_replay.specs.Laws.{RunsAgain};
+ghost use Rattle.hy_replay.specs.Laws.{RunsAgain, RunsKeepWidths};
 
 use hy_laws::{a_row_is_changed_by_what_is_read, changes_that_miss_are_unseen};
 
@@ -14,3 +14,8 @@ pub fn what_is_unseen_leaves_a_run()
     changes_that_miss_are_unseen();
     a_row_is_changed_by_what_is_read();
 }
+
+/// What a transaction writes over tables whose rows have the widths of their tables leaves them so.
+pub fn a_run_keeps_widths()
+    ensures { RunsKeepWidths }
+{}

@@ -1,0 +1,6 @@
+use Rattle.hy_lawful.specs.Reached.{ReachedHaveRun, ReachedPassUnseen}
+use Rattle.hy_lawful.proofs.PassTables.{tables_at}
+use Rattle.hy_lawful.proofs.states.the_committed_passed_unseen.Goals as goal
+
+pub returns : goal.returns
+returns c = ?

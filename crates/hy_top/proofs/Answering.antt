@@ -1,5 +1,5 @@
 -- How a report answers what was read.
-use Rattle.std.proofs.Common.{◌≡◌, ℕ, ◌+◌, ◌<◌, ◌≤◌, List, [], Option, None, Some, Result, Ok, Err, IsNone, IsSome, IfSome, length, refl, ap, sym, ◌∙◌, subst, arith, ◌⊎◌, inl, inr}
+use Rattle.std.proofs.Common.{◌≡◌, ℕ, ◌+◌, ◌*◌, ◌<◌, ◌≤◌, List, [], Option, None, Some, Result, Ok, Err, IsNone, IsSome, IfSome, length, map, refl, ap, sym, ◌∙◌, subst, arith, ◌⊎◌, inl, inr}
 use Rattle.std.proofs.Math.Logic.{⊎_elim}
 use Rattle.std.proofs.lemmas.List.{take_all, drop_all, length-take-le}
 use Rattle.hy_schedule.specs.declared.Item.{Item}
@@ -13,7 +13,11 @@ use Rattle.hy_render.specs.declared.Outcome.{Outcome}
 use Rattle.hy_machine.specs.declared.Setting.{Setting}
 use Rattle.hy_machine.specs.Runs.{run_of}
 use Rattle.hy_machine.specs.Outcomes.{outcome_of}
+use Rattle.hy_bind.specs.Shapes.{catalog_shapes}
+use Rattle.hy_bound.specs.Fits.{Fits}
 use Rattle.hy_lawful.specs.Lawful.{Lawful}
+use Rattle.hy_lawful.specs.Serial.{IsSerial}
+use Rattle.hy_lawful.specs.Laws.{SerialRuns}
 use Rattle.hy_words.specs.declared.Command.{Command}
 use Rattle.hy_words.specs.declared.Command.TheVariants.{Run, Check, Gen}
 use Rattle.hy_top.specs.Lines.{refusal_line_of}
@@ -48,12 +52,13 @@ same_script s t h = cc
 same_refusal : (s t : Refused) → ◌≡◌ {A = Result Script Refused} (Err s) (Err t) → s ≡ t
 same_refusal s t h = cc
 
-abbrev IsLawful : Script → Option Outcome → Type 0
-IsLawful script given = IfSome given (λ o. Lawful (setting_at script) o)
+-- what holds of an outcome that is there
+no_outcome : (P : Outcome → Type 0) (given : Option Outcome) → IsNone given → IfSome given P
+no_outcome P None h = tt
+no_outcome P (Some o) h = absurd (none_is_not_some (Some o) h (let some : IsSome (Some o) = search in some))
 
-no_outcome : (script : Script) (given : Option Outcome) → IsNone given → IsLawful script given
-no_outcome script None h = tt
-no_outcome script (Some o) h = absurd (none_is_not_some (Some o) h (let some : IsSome (Some o) = search in some))
+given_outcome : (P : Outcome → Type 0) (given : Option Outcome) (o : Outcome) → given ≡ Some o → P o → IfSome given P
+given_outcome P given o is p = subst (λ (g : Option Outcome). IfSome g P) (sym is) p
 
 -- a refusal is an answer to what is refused
 pub refused_answers : (command : Command) (bytes : List ℕ) (why : Refused) (status : ℕ) (given : Option Outcome) (before after : Option (List ℕ)) → Once → IsRefused command bytes why
@@ -64,12 +69,26 @@ refused_answers command bytes why status given before after once is w nothing =
       refuses = λ h. (why, is);
       does = λ script s. absurd (not_both script why (once bytes (options_by command) (Ok script) (Err why) s is));
       lawful = λ script s. absurd (not_both script why (once bytes (options_by command) (Ok script) (Err why) s is));
+      serial = λ script s. absurd (not_both script why (once bytes (options_by command) (Ok script) (Err why) s is));
       outcome_there = λ h. absurd (none_is_not_some given nothing h);
     }
 
--- what the machine's runs come to is lawful
-abbrev pub Theorem : Type 0
-Theorem = (setting : Setting) (schedule : List Item) → Lawful setting (outcome_of setting (run_of setting schedule))
+-- what the machine's runs come to is lawful, and serializable where the script fits
+pub record Theorem : Type 0 where
+  pub lawful : (setting : Setting) (schedule : List Item) → Lawful setting (outcome_of setting (run_of setting schedule))
+  pub serial : SerialRuns
+
+-- what is read fits
+abbrev pub ReadFits : Type 0
+ReadFits = (bytes : List ℕ) (options : Options) (script : Script) → Reads bytes options (Ok script)
+    → Fits (setting_at script).shapes ((setting_at script).chunks * (setting_at script).rows) (setting_at script).first (setting_at script).programs
+
+pub read_fits : ((bytes : List ℕ) (options : Options) (script : Script) → Reads bytes options (Ok script)
+    → Fits (catalog_shapes script.catalog) (options.chunks * options.rows) script.rows (map (λ session. session.txns) script.sessions))
+    → ((bytes : List ℕ) (options : Options) (script : Script) → Reads bytes options (Ok script) → script.options ≡ options) → ReadFits
+read_fits fits same bytes options script s =
+    subst (λ (o : Options). Fits (catalog_shapes script.catalog) (o.chunks * o.rows) script.rows (map (λ session. session.txns) script.sessions))
+    (sym (same bytes options script s)) (fits bytes options script s)
 
 -- nothing was done for want of memory
 gave_up : (command : Command) (bytes : List ℕ) (script : Script) (status : ℕ) (given : Option Outcome) (before after : Option (List ℕ)) → Once → Spells command bytes script → status ≡ 5 → IsNone given → Answers command bytes status given before after
@@ -78,7 +97,8 @@ gave_up command bytes script status given before after once s five nothing =
       refused = λ why h. inl five;
       refuses = λ h. absurd (omega (arith, five));
       does = λ other t. inl five;
-      lawful = λ other t. no_outcome other given nothing;
+      lawful = λ other t. no_outcome (Lawful (setting_at other)) given nothing;
+      serial = λ other t. no_outcome (IsSerial (setting_at other)) given nothing;
       outcome_there = λ h. absurd (none_is_not_some given nothing h);
     }
 
@@ -86,16 +106,19 @@ not_two : (status : ℕ) → (status ≡ 0) ⊎ (status ≡ 4) → status ≡ 2 
 not_two status ends two = ⊎_elim (λ e. let never : ⊥ = omega arith in never) (λ e. let never : ⊥ = omega arith in never) ends
 
 -- what a command did that runs its script is an answer
-ran_answers : (command : Command) (bytes : List ℕ) (script : Script) (status : ℕ) (given : Option Outcome) (before after : Option (List ℕ)) → Once → Theorem → IsRun command
+ran_answers : (command : Command) (bytes : List ℕ) (script : Script) (status : ℕ) (given : Option Outcome) (before after : Option (List ℕ)) → Once → Theorem → ReadFits → IsRun command
     → Spells command bytes script → given ≡ Some (comes_to script) → (status ≡ 0) ⊎ (status ≡ 4) → Does command script status given before after → Answers command bytes status given before after
-ran_answers command bytes script status given before after once law run s is ends did =
+ran_answers command bytes script status given before after once law fit run s is ends did =
     let only : (other : Script) → Spells command bytes other → script ≡ other = λ other t. same_script script other (once bytes (options_by command) (Ok script) (Ok other) s t) in
     record {
       refused = λ why h. absurd (not_both script why (once bytes (options_by command) (Ok script) (Err why) s h));
       refuses = λ h. absurd (not_two status ends h);
       does = λ other t. inr (subst (λ (x : Script). Does command x status given before after) (only other t) did);
-      lawful = λ other t. subst (λ (x : Script). IsLawful x given) (only other t)
-          (subst (λ (o : Option Outcome). IsLawful script o) (sym is) (law (setting_at script) script.schedule));
+      lawful = λ other t. subst (λ (x : Script). IfSome given (Lawful (setting_at x))) (only other t)
+          (given_outcome (Lawful (setting_at script)) given (comes_to script) is (law.lawful (setting_at script) script.schedule));
+      serial = λ other t. subst (λ (x : Script). IfSome given (IsSerial (setting_at x))) (only other t)
+          (given_outcome (IsSerial (setting_at script)) given (comes_to script) is
+          (law.serial (setting_at script) script.schedule (fit bytes (options_by command) script s)));
       outcome_there = λ h. (run, (script, s), ends);
     }
 
@@ -109,19 +132,20 @@ checked_answers chunks rows bytes script status given before after once s done =
       refused = λ why h. absurd (not_both script why (once bytes (options_by (Check chunks rows)) (Ok script) (Err why) s h));
       refuses = λ h. absurd (not_two status ends h);
       does = λ other t. inr (subst (λ (x : Script). Checks x status given before after) (only other t) done);
-      lawful = λ other t. no_outcome other given done.nothing_is_run;
+      lawful = λ other t. no_outcome (Lawful (setting_at other)) given done.nothing_is_run;
+      serial = λ other t. no_outcome (IsSerial (setting_at other)) given done.nothing_is_run;
       outcome_there = λ h. absurd (none_is_not_some given done.nothing_is_run h);
     }
 
 -- what was done with a script is an answer to the bytes that spell it
-pub done_answers : (command : Command) (bytes : List ℕ) (script : Script) (status : ℕ) (given : Option Outcome) (before after : Option (List ℕ)) → Once → Theorem → Spells command bytes script
+pub done_answers : (command : Command) (bytes : List ℕ) (script : Script) (status : ℕ) (given : Option Outcome) (before after : Option (List ℕ)) → Once → Theorem → ReadFits → Spells command bytes script
     → ((status ≡ 5) × IsNone given) ⊎ Does command script status given before after → Answers command bytes status given before after
-done_answers command bytes script status given before after once law s (inl none) = gave_up command bytes script status given before after once s none.0 none.1
-done_answers (Run prune chunks rows) bytes script status given before after once law s (inr ran) =
-    ran_answers (Run prune chunks rows) bytes script status given before after once law tt s ran.outcome_is (done_or_four 0 status before after _ ran.writes) ran
-done_answers (Gen seed sessions txns) bytes script status given before after once law s (inr ran) =
-    ran_answers (Gen seed sessions txns) bytes script status given before after once law tt s ran.outcome_is (done_or_four 0 status before after _ ran.writes) ran
-done_answers (Check chunks rows) bytes script status given before after once law s (inr done) = checked_answers chunks rows bytes script status given before after once s done
+done_answers command bytes script status given before after once law fit s (inl none) = gave_up command bytes script status given before after once s none.0 none.1
+done_answers (Run prune chunks rows) bytes script status given before after once law fit s (inr ran) =
+    ran_answers (Run prune chunks rows) bytes script status given before after once law fit tt s ran.outcome_is (done_or_four 0 status before after _ ran.writes) ran
+done_answers (Gen seed sessions txns) bytes script status given before after once law fit s (inr ran) =
+    ran_answers (Gen seed sessions txns) bytes script status given before after once law fit tt s ran.outcome_is (done_or_four 0 status before after _ ran.writes) ran
+done_answers (Check chunks rows) bytes script status given before after once law fit s (inr done) = checked_answers chunks rows bytes script status given before after once s done
 
 whole_is_read : (all : List ℕ) → length all ≤ MOST_BYTES → bytes_read all ≡ all
 whole_is_read all h = take_all (MOST_BYTES + 1) all (omega arith)
@@ -161,14 +185,14 @@ answers_cut command status given old new (Some all) after once h w nothing =
 -- a made script was not run, for want of memory
 no_memory_made : (seed sessions txns : ℕ) (script : Script) (status : ℕ) (given : Option Outcome) (before after : Option (List ℕ)) → status ≡ 5 → IsNone given
     → Makes (Gen seed sessions txns) script status given before after
-no_memory_made seed sessions txns script status given before after five nothing = record { does = inl five; lawful = no_outcome script given nothing }
+no_memory_made seed sessions txns script status given before after five nothing = record { does = inl five; lawful = no_outcome (Lawful (setting_at script)) given nothing }
 
 -- what was done with a made script
 pub made_answers : (seed sessions txns : ℕ) (script : Script) (status : ℕ) (given : Option Outcome) (before after : Option (List ℕ)) → Theorem → script ≡ made seed sessions txns
     → ((status ≡ 5) × IsNone given) ⊎ Summarizes script status given before after → Makes (Gen seed sessions txns) (made seed sessions txns) status given before after
 made_answers seed sessions txns script status given before after law is done =
     subst (λ (x : Script). Makes (Gen seed sessions txns) x status given before after) is (⊎_elim (λ p. no_memory_made seed sessions txns script status given before after p.0 p.1)
-    (λ ran. record { does = inr ran; lawful = subst (λ (o : Option Outcome). IsLawful script o) (sym ran.outcome_is) (law (setting_at script) script.schedule) }) done)
+    (λ ran. record { does = inr ran; lawful = given_outcome (Lawful (setting_at script)) given (comes_to script) ran.outcome_is (law.lawful (setting_at script) script.schedule) }) done)
 
 -- memory ran out before anything was done
 pub nothing_read : (asked : Option Command) (before after : Option (List ℕ))

@@ -8,6 +8,7 @@ use Rattle.hy_render.specs.declared.Outcome.{Outcome}
 use Rattle.hy_render.specs.Report.{text}
 use Rattle.hy_render.specs.Summary.{summary_of}
 use Rattle.hy_lawful.specs.Lawful.{Lawful}
+use Rattle.hy_lawful.specs.Serial.{IsSerial}
 use Rattle.hy_words.specs.declared.Command.{Command}
 use Rattle.hy_words.specs.declared.Command.TheVariants.{Run, Check, Gen}
 use Rattle.hy_top.specs.Lines.{refusal_line_of, checked_line}
@@ -56,7 +57,7 @@ Does (Gen seed sessions txns) script status outcome before after = Summarizes sc
 -- what a command did with a script that it made: what it asks for, unless memory ran out, and a lawful outcome
 pub record Makes (command : Command) (script : Script) (status : ℕ) (outcome : Option Outcome) (before after : Option (List ℕ)) : Type 0 where
   pub does : (status ≡ 5) ⊎ Does command script status outcome before after
-  pub lawful : IfSome outcome (λ given. Lawful (setting_at script) given)
+  pub lawful : IfSome outcome (Lawful (setting_at script))
 
 -- the answer to bytes that a command read: a status, an outcome or none, and what the sink holds before and after
 pub record Answers (command : Command) (bytes : List ℕ) (status : ℕ) (outcome : Option Outcome) (before after : Option (List ℕ)) : Type 0 where
@@ -65,7 +66,8 @@ pub record Answers (command : Command) (bytes : List ℕ) (status : ℕ) (outcom
   pub refuses : status ≡ 2 → (why : Refused) × IsRefused command bytes why
   -- where they spell a script, what the command asks for is done, unless memory ran out
   pub does : (script : Script) → Spells command bytes script → (status ≡ 5) ⊎ Does command script status outcome before after
-  -- the outcome is lawful
-  pub lawful : (script : Script) → Spells command bytes script → IfSome outcome (λ given. Lawful (setting_at script) given)
+  -- the outcome is lawful, and serializable in the order that it prints
+  pub lawful : (script : Script) → Spells command bytes script → IfSome outcome (Lawful (setting_at script))
+  pub serial : (script : Script) → Spells command bytes script → IfSome outcome (IsSerial (setting_at script))
   -- an outcome is there only of a script that was run
   pub outcome_there : IsSome outcome → IsRun command × ((script : Script) × Spells command bytes script) × ((status ≡ 0) ⊎ (status ≡ 4))

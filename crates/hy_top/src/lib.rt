@@ -22,7 +22,7 @@ use hy_lawful::runs_are_lawful;
 use hy_limits::MOST_BYTES;
 use hy_outside::{ReadAllError, Sink, Source, read_all, write_all};
 use hy_render::{Names, Outcome, render, summarize};
-use hy_script::{Code, Options, ReadError, Refused, Script, read_once};
+use hy_script::{Code, Options, ReadError, Refused, Script, read_once, what_is_read_fits};
 use hy_words::{Command, WordsError};
 use lines::{checked, refusal_line};
 use settings::setting_of;
@@ -225,6 +225,7 @@ fn answer<W: Sink>(alloc: Global, command: Command, bytes: &[u8], sink: &mut W) 
     ensures statuses { (result.status ≢ 1) × (result.status ≢ 3) × (result.status ≤ 5) }
 {
     read_once();
+    what_is_read_fits();
     runs_are_lawful();
     match hy_script::read(alloc, bytes, &options_of(command)) {
         Ok(script) => perform(alloc, command, script, sink),

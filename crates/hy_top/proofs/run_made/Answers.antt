@@ -5,5 +5,5 @@ use Rattle.hy_top.proofs.run_made.Goals as goal
 
 pub returns-in-Ok-clause-makes : goal.returns-in-Ok-clause-makes
 returns-in-Ok-clause-makes g c =
-    made_answers c.args.seed c.args.sessions c.args.txns c.in-Ok.script _ _ _ _ c.runs_are_lawful.ensures c.in-Ok.ensures
+    made_answers c.args.seed c.args.sessions c.args.txns c.in-Ok.script _ _ _ _ (record { lawful = c.runs_are_lawful.ensures.lawful; serial = c.runs_are_lawful.ensures.serial }) c.in-Ok.ensures
     (⊎_elim (λ p. inl (p.0, p.2)) (λ r. inr r) c.summarize_script.ensures.run)

@@ -209,6 +209,7 @@ nothing_answers command bytes held =
       refuses = λ h. absurd (omega (arith, h));
       does = λ script s. inl refl;
       lawful = λ script s. tt;
+      serial = λ script s. tt;
       outcome_there = λ h. absurd (none_is_not_some None none h);
     }
 

@@ -1,5 +1,5 @@
 -- Which command the words are.
-use Rattle.std.specs.Prelude.{ℕ, Bool, true, false, not, List, Option, Some, None, codes}
+use Rattle.std.specs.Prelude.{ℕ, ◌<◌, ◌≤◌, ◌&&◌, nat_le, Bool, true, false, not, List, Option, Some, None, codes}
 use Rattle.std.specs.Prelude.{if◌then◌else◌, option_and_then}
 use Rattle.std.specs.Str.{bytes_eq}
 use Rattle.std.specs.Str.Parse.{digits_value, without_leading_plus}
@@ -25,9 +25,23 @@ abbrev pub truth_of : Text → Option Bool
 truth_of text = if bytes_eq text (codes "true") then Some true
     else if bytes_eq text (codes "false") then Some false else None
 
+-- a number that lies within bounds
+abbrev pub bounded : ℕ → ℕ → ℕ → Option ℕ
+bounded least most number = if nat_le least number && nat_le number most then Some number else None
+
 -- the number or the truth value that the matches have for an argument
 abbrev pub number_in : Text → List Row → Option ℕ
 number_in name matches = option_and_then number_of (one_of name matches)
+
+-- the number, where it lies within bounds
+abbrev pub number_within : ℕ → ℕ → Text → List Row → Option ℕ
+number_within least most name matches = option_and_then (bounded least most) (number_in name matches)
+
+abbrev pub chunks_in : List Row → Option ℕ
+chunks_in matches = number_within 1 64 (codes "chunks") matches
+
+abbrev pub rows_in : List Row → Option ℕ
+rows_in matches = number_within 1 1024 (codes "rows") matches
 
 abbrev pub truth_in : Text → List Row → Option Bool
 truth_in name matches = option_and_then truth_of (one_of name matches)
@@ -47,16 +61,14 @@ gen_with _ _ _ = None
 
 -- what the matches of each command ask for
 abbrev pub run_by : List Row → Option Command
-run_by matches = run_with (truth_in (codes "no-prune") matches) (number_in (codes "chunks") matches)
-    (number_in (codes "rows") matches)
+run_by matches = run_with (truth_in (codes "no-prune") matches) (chunks_in matches) (rows_in matches)
 
 abbrev pub check_by : List Row → Option Command
-check_by matches =
-    check_with (number_in (codes "chunks") matches) (number_in (codes "rows") matches)
+check_by matches = check_with (chunks_in matches) (rows_in matches)
 
 abbrev pub gen_by : List Row → Option Command
 gen_by matches =
-    gen_with (number_in (codes "seed") matches) (number_in (codes "sessions") matches) (number_in (codes "transactions") matches)
+    gen_with (number_in (codes "seed") matches) (number_within 1 64 (codes "sessions") matches) (number_within 1 1000 (codes "transactions") matches)
 
 -- what a subcommand with its matches asks for
 abbrev pub asked_by : Option (Text × List Row) → Option Command
@@ -68,6 +80,12 @@ asked_by = option_and_then (λ s. if bytes_eq s.0 (codes "run") then run_by s.1
 -- that command.
 abbrev pub command_of : List Text → Option Command
 command_of words = if is_empty (fault_of hy words) then asked_by (subcommand_of hy words) else None
+
+-- the numbers that a command asks for lie within their bounds
+abbrev pub IsWithin : Command → Type 0
+IsWithin (Run prune chunks rows) = (0 < chunks) × (chunks ≤ 64) × (0 < rows) × (rows ≤ 1024)
+IsWithin (Check chunks rows) = (0 < chunks) × (chunks ≤ 64) × (0 < rows) × (rows ≤ 1024)
+IsWithin (Gen seed sessions txns) = (0 < sessions) × (sessions ≤ 64) × (0 < txns) × (txns ≤ 1000)
 
 -- what a failed parse comes to
 abbrev pub refusal_of : ErrorKind → WordsError

@@ -1,10 +1,10 @@
 //! The words of the command line: which command they ask for.
 #![tactic(auto)]
 
-ghost use Rattle.std.specs.Prelude.{◌≡◌, Some, None, Err, IfOk, map};
+ghost use Rattle.std.specs.Prelude.{◌≡◌, ◌≤◌, Some, None, Err, IfOk, IfSome, map};
 ghost use Rattle.std.specs.String.{string_bytes};
 ghost use Rattle.clap.specs.Words.{found_of, rows_of, subcommand_rows_of};
-ghost use Rattle.hy_words.specs.Words.{asked_by, check_by, command_of, gen_by, number_in, refusal_of, run_by, truth_in};
+ghost use Rattle.hy_words.specs.Words.{IsWithin, asked_by, check_by, command_of, gen_by, number_in, number_within, refusal_of, run_by, truth_in};
 
 mod grammar;
 
@@ -65,6 +65,7 @@ impl From<AllocError> for WordsError {
 /// The command that these words are. The first word is the program's name.
 pub fn command_of(alloc: Global, words: &[String]) -> Result<Command, WordsError>
     ensures accepted { IfOk result (λ command. command_of (map string_bytes words.now) ≡ Some command) }
+    ensures within { IfOk result (λ command. IsWithin command) }
     ensures refused { result ≡ Err WordsError.Refused → command_of (map string_bytes words.now) ≡ None }
 {
     match hy(alloc)?.try_get_matches_from(words) {
@@ -85,7 +86,8 @@ fn refusal(kind: ErrorKind) -> WordsError
 
 /// The command that the matches name.
 fn asked(matches: &ArgMatches<'_>) -> Option<Command>
-    ensures { result ≡ asked_by (subcommand_rows_of matches.now) }
+    ensures asked { result ≡ asked_by (subcommand_rows_of matches.now) }
+    ensures within { IfSome result (λ command. IsWithin command) }
 {
     let Some((name, given)) = matches.subcommand() else {
         return None;
@@ -100,11 +102,12 @@ fn asked(matches: &ArgMatches<'_>) -> Option<Command>
 
 /// What the matches of `run` ask for.
 fn run_asked(given: &ArgMatches<'_>) -> Option<Command>
-    ensures { result ≡ run_by (rows_of (found_of given.now)) }
+    ensures asked { result ≡ run_by (rows_of (found_of given.now)) }
+    ensures within { IfSome result (λ command. IsWithin command) }
 {
     let keeps = truth(given, "no-prune")?;
-    let chunks = number(given, "chunks")?;
-    let rows = number(given, "rows")?;
+    let chunks = number_between(given, "chunks", 1, 64)?;
+    let rows = number_between(given, "rows", 1, 1024)?;
     Some(Command::Run {
         prune: !keeps,
         chunks,
@@ -114,20 +117,22 @@ fn run_asked(given: &ArgMatches<'_>) -> Option<Command>
 
 /// What the matches of `check` ask for.
 fn check_asked(given: &ArgMatches<'_>) -> Option<Command>
-    ensures { result ≡ check_by (rows_of (found_of given.now)) }
+    ensures asked { result ≡ check_by (rows_of (found_of given.now)) }
+    ensures within { IfSome result (λ command. IsWithin command) }
 {
-    let chunks = number(given, "chunks")?;
-    let rows = number(given, "rows")?;
+    let chunks = number_between(given, "chunks", 1, 64)?;
+    let rows = number_between(given, "rows", 1, 1024)?;
     Some(Command::Check { chunks, rows })
 }
 
 /// What the matches of `gen` ask for.
 fn gen_asked(given: &ArgMatches<'_>) -> Option<Command>
-    ensures { result ≡ gen_by (rows_of (found_of given.now)) }
+    ensures asked { result ≡ gen_by (rows_of (found_of given.now)) }
+    ensures within { IfSome result (λ command. IsWithin command) }
 {
     let seed = number(given, "seed")?;
-    let sessions = number(given, "sessions")?;
-    let txns = number(given, "transactions")?;
+    let sessions = number_between(given, "sessions", 1, 64)?;
+    let txns = number_between(given, "transactions", 1, 1000)?;
     Some(Command::Gen {
         seed,
         sessions,
@@ -140,6 +145,25 @@ fn number(given: &ArgMatches<'_>, name: &str) -> Option<u32>
     ensures { result ≡ number_in name.now (rows_of (found_of given.now)) }
 {
     given.get_one(name)
+}
+
+/// The number that the matches have for an option, where it lies within bounds. The option's parser lets no other
+/// pass; that it is asked here again is what the contract knows it by.
+fn number_between(
+    given: &ArgMatches<'_>,
+    name: &str,
+    least: u32,
+    most: u32,
+) -> Option<u32>
+    ensures number { result ≡ number_within least most name.now (rows_of (found_of given.now)) }
+    ensures within { IfSome result (λ number. (least ≤ number) × (number ≤ most)) }
+{
+    let number = number(given, name)?;
+    if least <= number && number <= most {
+        Some(number)
+    } else {
+        None
+    }
 }
 
 /// The truth value that the matches have for a flag.

@@ -15,3 +15,5 @@ pub mod Endings
 pub mod Followers
 pub mod Laws
 pub mod PassTables
+pub mod PassHits
+pub mod PassHolds

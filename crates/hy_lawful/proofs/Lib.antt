@@ -17,3 +17,4 @@ pub mod Laws
 pub mod PassTables
 pub mod PassHits
 pub mod PassHolds
+pub mod PassStates

@@ -18,3 +18,6 @@ pub mod PassTables
 pub mod PassHits
 pub mod PassHolds
 pub mod PassStates
+pub mod PassMays
+pub mod PassTurns
+pub mod PassSteps

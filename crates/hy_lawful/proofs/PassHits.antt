@@ -1,7 +1,7 @@
 -- What it says of the pairs of entries that none changed a position, none wrote it, and none hit a record.
-use Rattle.std.proofs.Common.{◌≡◌, ℕ, zero, suc, ◌+◌, ◌-◌, ◌≤◌, List, [], ◌∷◌, ◌++◌, Option, None, Some, Bool, true, false, is_some, map, drop, get_or, cond, refl, ap, sym}
-use Rattle.std.proofs.Common.{◌∙◌, subst, arith, inl, inr, ◌⊎◌, zero-add, add-zero}
-use Rattle.std.specs.Prelude.{◌==◌, ◌||◌}
+use Rattle.std.proofs.Common.{◌≡◌, ℕ, zero, suc, ◌+◌, ◌-◌, ◌≤◌, List, [], ◌∷◌, ◌++◌, Option, None, Some, Bool, true, false, is_some, map}
+use Rattle.std.proofs.Common.{drop, get_or, cond, refl, ap, sym, ◌∙◌, subst, arith, inl, inr, zero-add, add-zero}
+use Rattle.std.specs.Prelude.{◌==◌}
 use Rattle.std.specs.List.{list_any}
 use Rattle.std.specs.Option.{option_or, option_map}
 use Rattle.std.proofs.lemmas.Bool.{cases_Bool, or_parts}
@@ -51,7 +51,7 @@ unchanged table pos (entry ∷ entries) e zero =
 unchanged table pos (entry ∷ entries) e (suc i) =
     unchanged table pos entries (or_none (last_some (changer_at table pos) entries) (changer_at table pos entry) e).0 i
 
-pub none_there : {X : Type 0} (item : Option X) → is_some item ≡ false → item ≡ None
+none_there : {X : Type 0} (item : Option X) → is_some item ≡ false → item ≡ None
 none_there None e = refl
 none_there (Some x) e = absurd cc
 

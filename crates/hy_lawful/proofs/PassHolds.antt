@@ -1,21 +1,19 @@
 -- Who holds a position: one's own are held, and where there is no holder no other session holds one.
-use Rattle.std.proofs.Common.{◌≡◌, ℕ, zero, suc, ◌+◌, ◌*◌, ◌/◌, ◌%◌, ◌<◌, ◌≤◌, List, [], ◌∷◌, ◌++◌, Option, None, Some, Bool, true, false, not, is_some, length, map, drop}
-use Rattle.std.proofs.Common.{get_or, cond, refl, ap, sym, ◌∙◌, subst, arith, inl, inr, ◌⊎◌, zero-add, add-zero}
+use Rattle.std.proofs.Common.{◌≡◌, ℕ, zero, suc, ◌+◌, ◌*◌, ◌/◌, ◌%◌, ◌<◌, ◌≤◌, List, [], ◌∷◌, ◌++◌, Option, None, Some, Bool, true, false, not, is_some}
+use Rattle.std.proofs.Common.{length, map, drop, get_or, cond, refl, ap, sym, ◌∙◌, subst, arith, inl, inr, ◌⊎◌, zero-add, add-zero}
 use Rattle.std.proofs.Math.ListN.{set}
 use Rattle.std.specs.Prelude.{◌&&◌, ◌||◌, ◌==◌, filter}
 use Rattle.std.specs.List.{AllByRecursion, list_any, range_with_len}
-use Rattle.std.proofs.lemmas.Bool.{cases_Bool, cases_eq, cases_lt, eq-eqb, eqb-true, ne_eqb, or_parts, or_left, or_right, or_cases, and_from, and_parts}
-use Rattle.std.proofs.lemmas.List.{get_or_past, get_or-set_same, get_or-set_other, set_past}
+use Rattle.std.proofs.lemmas.Bool.{cases_Bool, cases_eq, cases_lt, eq-eqb, eqb-true, ne_eqb, or_parts, or_left, or_right, and_from}
+use Rattle.std.proofs.lemmas.List.{get_or-set_same, get_or-set_other, set_past}
 use Rattle.std.proofs.lemmas.List.Folds.{list_any-append}
 use Rattle.std.proofs.lemmas.Nat.{div-add-mod', div_below}
 use Rattle.std.proofs.Math.Nat.{mod-lt}
-use Rattle.hy_stamp.specs.declared.Label.{Label}
 use Rattle.hy_machine.specs.declared.Setting.{Setting}
 use Rattle.hy_machine.specs.declared.Session.{Session}
-use Rattle.hy_machine.specs.declared.Open.{Open}
 use Rattle.hy_machine.specs.declared.Write.{Write}
 use Rattle.hy_machine.specs.Positions.{item_at}
-use Rattle.hy_machine.specs.Tables.{Cell, Own, capacity, positions_in, chunk_of}
+use Rattle.hy_machine.specs.Tables.{Cell, Own, capacity, chunk_of}
 use Rattle.hy_machine.specs.Writes.{with_write, with_writes, has_written_in, chunks_in_table, chunks_from, written_chunks, is_among}
 use Rattle.hy_machine.specs.Sessions.{fresh, label_of}
 use Rattle.hy_machine.specs.Holding.{holds, holder_from}
@@ -69,18 +67,22 @@ among_table setting table cells pos long e =
     (mod-lt pos rows) (ap (λ (n : ℕ). is_some (get_or cells n None)) (div-add-mod' pos setting.rows) ∙ e))
     (any_in_range (λ (one : ℕ). one == chunk) 0 setting.chunks chunk below (eq-eqb (0 + chunk) chunk (zero-add chunk)))
 
+among_joined : (chunks others : List (ℕ × ℕ)) (table chunk : ℕ)
+    → is_among (chunks ++ others) table chunk ≡ (is_among chunks table chunk || is_among others table chunk)
+among_joined chunks others table chunk = list_any-append (λ (one : ℕ × ℕ). one.0 == table && one.1 == chunk) chunks others
+
 among_from : (setting : Setting) (first : ℕ) (own : Own) (table pos : ℕ)
     → AllByRecursion (λ (items : List (Option Cell)). length items ≤ capacity setting) own
     → is_some (item_at own table pos) ≡ true → is_among (chunks_from setting first own) (first + table) (chunk_of setting pos) ≡ true
 among_from setting first [] table pos long e = absurd cc
 among_from setting first (cells ∷ own) zero pos long e =
-    list_any-append (λ (one : ℕ × ℕ). one.0 == first + 0 && one.1 == chunk_of setting pos) (chunks_in_table setting first cells) (chunks_from setting (suc first) own)
+    among_joined (chunks_in_table setting first cells) (chunks_from setting (suc first) own) (first + 0) (chunk_of setting pos)
     ∙ or_left (is_among (chunks_in_table setting first cells) (first + 0) (chunk_of setting pos))
     (is_among (chunks_from setting (suc first) own) (first + 0) (chunk_of setting pos))
     (subst (λ (n : ℕ). is_among (chunks_in_table setting first cells) n (chunk_of setting pos) ≡ true) (sym (add-zero first))
     (among_table setting first cells pos long.0 e))
 among_from setting first (cells ∷ own) (suc table) pos long e =
-    list_any-append (λ (one : ℕ × ℕ). one.0 == first + suc table && one.1 == chunk_of setting pos) (chunks_in_table setting first cells) (chunks_from setting (suc first) own)
+    among_joined (chunks_in_table setting first cells) (chunks_from setting (suc first) own) (first + suc table) (chunk_of setting pos)
     ∙ or_right (is_among (chunks_in_table setting first cells) (first + suc table) (chunk_of setting pos))
     (is_among (chunks_from setting (suc first) own) (first + suc table) (chunk_of setting pos))
     (subst (λ (n : ℕ). is_among (chunks_from setting (suc first) own) n (chunk_of setting pos) ≡ true)

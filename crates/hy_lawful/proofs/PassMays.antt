@@ -1,55 +1,32 @@
 -- What a transaction may write: where nobody else holds a position, and no entry from its start on does anything there.
-use Rattle.std.proofs.Common.{◌≡◌, ℕ, suc, ◌+◌, ◌-◌, ◌*◌, ◌<◌, ◌≤◌, List, [], ◌∷◌, Option, None, Some, Bool, true, false, not, is_some, Result, Ok, Err, zero}
-use Rattle.std.proofs.Common.{map, drop, cond, ltb, refl, ap, sym, ◌∙◌, subst, arith, inl, inr, ◌⊎◌, add-zero}
-use Rattle.std.specs.Prelude.{IfSome, slice_get, find, ◌&&◌, ◌||◌, if◌then◌else◌}
+use Rattle.std.proofs.Common.{◌≡◌, ℕ, suc, ◌+◌, ◌-◌, ◌≤◌, List, [], ◌∷◌, Option, None, Some, Bool, true, false, not, is_some, Result, Ok, Err, zero}
+use Rattle.std.proofs.Common.{drop, cond, refl, ap, sym, ◌∙◌, subst, arith, inl, inr, add-zero}
+use Rattle.std.specs.Prelude.{find, ◌&&◌}
 use Rattle.std.specs.List.{AllByRecursion, list_any}
-use Rattle.std.proofs.lemmas.Bool.{cases_Bool, or_parts, not-true, and_parts}
+use Rattle.std.proofs.lemmas.Bool.{cases_Bool, or_parts, not-true}
 use Rattle.std.proofs.lemmas.Option.{same_Some}
 use Rattle.hy_value.specs.declared.Value.{Value}
-use Rattle.hy_bound.specs.declared.Txn.{Txn}
-use Rattle.hy_bound.specs.declared.Bound.{Bound}
-use Rattle.hy_bound.specs.declared.Bound.TheVariants.{Select, Group, Insert, Update, Delete}
-use Rattle.hy_bound.specs.declared.Reply.{Reply}
-use Rattle.hy_bound.specs.declared.Record.{Record}
 use Rattle.hy_bound.specs.declared.WriteKind.{WriteKind}
-use Rattle.hy_bound.specs.declared.WriteKind.TheVariants as kind
 use Rattle.hy_bound.specs.Condition.{Condition}
 use Rattle.hy_bound.specs.Predicate.{truth_of}
-use Rattle.hy_bound.specs.Records.{shape_of}
-use Rattle.hy_meaning.specs.Statement.{answer_of, grouped}
 use Rattle.hy_stamp.specs.declared.Label.{Label}
-use Rattle.hy_render.specs.declared.Ending.TheVariants as ways
 use Rattle.hy_machine.specs.declared.Setting.{Setting}
 use Rattle.hy_machine.specs.declared.State.{State}
-use Rattle.hy_machine.specs.declared.Session.{Session}
-use Rattle.hy_machine.specs.declared.Open.{Open}
 use Rattle.hy_machine.specs.declared.Begun.{Begun}
-use Rattle.hy_machine.specs.declared.Finished.{Finished}
 use Rattle.hy_machine.specs.declared.Entry.{Entry}
 use Rattle.hy_machine.specs.declared.Pair.{Pair}
 use Rattle.hy_machine.specs.declared.Write.{Write}
 use Rattle.hy_machine.specs.declared.Cause.{Cause}
-use Rattle.hy_machine.specs.declared.Cause.TheVariants.{RolledBack, Conflict, Invalid, Range, Full}
-use Rattle.hy_machine.specs.declared.Phase.{Phase}
-use Rattle.hy_machine.specs.declared.Phase.TheVariants.{Working, Stamping, Undoing}
-use Rattle.hy_machine.specs.declared.Turn.{Turn}
-use Rattle.hy_machine.specs.declared.Turn.TheVariants.{Done, Waits, Begins, Visits, Answers, Enters, Ends}
 use Rattle.hy_machine.specs.Positions.{item_at, last_some}
-use Rattle.hy_machine.specs.Tables.{Cell, covered, positions_in, chunk_of}
-use Rattle.hy_machine.specs.Writes.{wrote_nothing, written_chunks, is_among}
-use Rattle.hy_machine.specs.Sessions.{session_at, blocker, view, snapshot}
+use Rattle.hy_machine.specs.Tables.{Cell, covered, positions_in}
+use Rattle.hy_machine.specs.Sessions.{session_at, view, snapshot}
 use Rattle.hy_machine.specs.Holding.{holds, holder_from, changes_row, changer_at, opponent, is_held, has_pair, is_free}
-use Rattle.hy_machine.specs.Validation.{committed_of, first_hit}
-use Rattle.hy_machine.specs.Visits.{new_cell, judged, verdict, and_write, sweep, verdict_at, swept, sees_key, free_position, checks_of}
-use Rattle.hy_machine.specs.Turns.{rows_seen, read_turn, write_turn, check_turn, place_turn, insert_turn, statement_turn, ending_of, unless_blocked}
-use Rattle.hy_machine.specs.Turns.{undo_turn, stamp_turn, validated_turn, commit_turn, closing_turn, working_turn, phase_turn}
-use Rattle.hy_machine.specs.Steps.{after_visit, after_answer}
-use Rattle.hy_lawful.specs.Outcomes.{committed_at}
+use Rattle.hy_machine.specs.Visits.{new_cell, judged, verdict, and_write, sweep, verdict_at, swept}
 use Rattle.hy_lawful.proofs.Fits.{FitsTables, Fits}
 use Rattle.hy_lawful.proofs.PassTables.{cell_at, pair_at, tables_are, covered_at, AllFit, cell_next}
-use Rattle.hy_lawful.proofs.PassHits.{from_dropped, or_none, unchanged, none_there, unwritten}
-use Rattle.hy_lawful.proofs.PassHolds.{own_among, fewer_among, written_is, unheld, held_by_none}
-use Rattle.hy_lawful.proofs.PassStates.{Passed, EndPasses, Clear, HeldClear, OpenPasses, Befores, HoldsAlone, Passes}
+use Rattle.hy_lawful.proofs.PassHits.{from_dropped, or_none, unchanged, unwritten}
+use Rattle.hy_lawful.proofs.PassHolds.{unheld, held_by_none}
+use Rattle.hy_lawful.proofs.PassStates.{Clear, Befores, Passes}
 
 -- a transaction may write at a position, or has written there
 pub record MayWrite (setting : Setting) (state : State) (number : ℕ) (begun : Begun) (table pos : ℕ) : Type 0 where
@@ -62,8 +39,8 @@ OwnMay setting state number begun = (table pos : ℕ) → is_some (item_at begun
 abbrev pub AllMay : Setting → State → ℕ → Begun → List Write → Type 0
 AllMay setting state number begun writes = AllByRecursion (λ (write : Write). MayWrite setting state number begun write.table write.pos) writes
 
--- a transaction whose statements are answered or that is to be closed
-pub record Writes (setting : Setting) (state : State) (number : ℕ) (begun : Begun) : Type 0 where
+-- a transaction that is at work: it may write where it has written
+pub record IsAtWork (setting : Setting) (state : State) (number : ℕ) (begun : Begun) : Type 0 where
   pub fits : Fits setting state
   pub passes : Passes setting state
   pub own : FitsTables setting begun.own
@@ -113,7 +90,7 @@ row_may setting state number begun table pos row fits passes free e =
       alone = λ other apart. unheld setting number table pos 0 state.sessions parts.0 other (λ same. apart (omega (arith, same)));
     }
 
-seen_may : (setting : Setting) (state : State) (number : ℕ) (begun : Begun) (table pos : ℕ) (row : List Value) → Writes setting state number begun
+seen_may : (setting : Setting) (state : State) (number : ℕ) (begun : Begun) (table pos : ℕ) (row : List Value) → IsAtWork setting state number begun
     → opponent setting state number begun.prefix table pos ≡ None → item_at (view setting state begun) table pos ≡ Some row
     → MayWrite setting state number begun table pos
 seen_may setting state number begun table pos row w free e = by_own (item_at begun.own table pos) refl
@@ -165,7 +142,7 @@ sweep_all P table judge each (pos ∷ positions) writes e =
         subst (AllByRecursion P) (same_ok (record { table = table; pos = pos; cell = cell } ∷ rest) writes e) (each pos cell j, ih rest s)
 
 pub swept_may : (setting : Setting) (state : State) (number : ℕ) (begun : Begun) (kind : WriteKind) (pred : Condition) (table chunk : ℕ) (writes : List Write)
-    → Writes setting state number begun → swept setting state number begun kind pred table chunk ≡ Ok writes → AllMay setting state number begun writes
+    → IsAtWork setting state number begun → swept setting state number begun kind pred table chunk ≡ Ok writes → AllMay setting state number begun writes
 swept_may setting state number begun kind pred table chunk writes w e =
     sweep_all (λ (write : Write). MayWrite setting state number begun write.table write.pos) table
     (verdict_at setting state number begun kind pred table)

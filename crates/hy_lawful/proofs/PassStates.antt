@@ -1,6 +1,6 @@
--- What holds of every state of those that committed or may: none that stands between a transaction's start and its place
--- of the commit order is seen by it.
-use Rattle.std.proofs.Common.{◌≡◌, ℕ, suc, ◌+◌, ◌-◌, ◌<◌, ◌≤◌, List, [], ◌∷◌, ◌++◌, Option, None, Some, Bool, true, false, is_some, length, map, drop, refl, ap, sym}
+-- What is kept along steps for those that committed to be passed unseen: no entry from the start of an open transaction on
+-- does anything at the positions that it holds, no other holds these, and what was passed unseen stays so.
+use Rattle.std.proofs.Common.{◌≡◌, ℕ, suc, ◌+◌, ◌-◌, ◌<◌, ◌≤◌, List, [], ◌∷◌, ◌++◌, Option, None, Some, true, is_some, length, map, drop, refl, ap, sym}
 use Rattle.std.proofs.Common.{◌∙◌, subst, arith, inl, inr, ◌⊎◌}
 use Rattle.std.specs.Prelude.{IfSome}
 use Rattle.std.specs.List.{AllByRecursion}
@@ -18,13 +18,13 @@ use Rattle.hy_machine.specs.declared.Pair.{Pair}
 use Rattle.hy_machine.specs.declared.Phase.{Phase}
 use Rattle.hy_machine.specs.declared.Phase.TheVariants.{Working, Stamping, Undoing}
 use Rattle.hy_machine.specs.Positions.{item_at}
-use Rattle.hy_machine.specs.Tables.{Cell, Tables, Own, covered, over}
+use Rattle.hy_machine.specs.Tables.{Cell, Tables, over}
 use Rattle.hy_machine.specs.Sessions.{session_at, pair_of, entry_cells}
 use Rattle.hy_machine.specs.Holding.{holds}
 use Rattle.hy_machine.specs.Validation.{committed_of, record_hit, first_hit}
 use Rattle.hy_replay.specs.Laws.{IsUnseenAt, DifferUnseen}
 use Rattle.hy_lawful.specs.Outcomes.{committed_at}
-use Rattle.hy_lawful.proofs.Lists.{all_so, all_more}
+use Rattle.hy_lawful.proofs.Lists.{all_so}
 use Rattle.hy_lawful.proofs.Moves.{moved_to, sessions_moved}
 use Rattle.hy_lawful.proofs.PassTables.{tables_at, cell_at, pair_at, AllFit, cell_next, cell_stays, tables_grow, more_pairs, entry_item, entry_lays}
 use Rattle.hy_lawful.proofs.PassHits.{from_dropped, pair_missed}

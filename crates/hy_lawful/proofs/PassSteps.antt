@@ -1,8 +1,8 @@
 -- In each state that the machine comes to, those that have committed were passed unseen.
-use Rattle.std.proofs.Common.{◌≡◌, ℕ, zero, suc, ◌-◌, ◌<◌, ◌≤◌, List, [], ◌∷◌, ◌++◌, Option, None, Some, true, false, is_some, length, map, drop, get_or, replicate, min}
-use Rattle.std.proofs.Common.{refl, ap, sym, ◌∙◌, subst, arith}
+use Rattle.std.proofs.Common.{◌≡◌, ℕ, zero, suc, ◌-◌, ◌<◌, ◌≤◌, List, [], ◌∷◌, ◌++◌, Option, None, Some, true, false, is_some, length, map, drop}
+use Rattle.std.proofs.Common.{get_or, replicate, refl, ap, sym, ◌∙◌, subst, arith}
 use Rattle.std.proofs.Math.ListN.{get_or-map}
-use Rattle.std.specs.Prelude.{slice_get, IfSome}
+use Rattle.std.specs.Prelude.{slice_get}
 use Rattle.std.specs.Option.{option_map}
 use Rattle.std.specs.List.{AllByRecursion}
 use Rattle.std.proofs.lemmas.Bool.{and_parts}
@@ -16,10 +16,7 @@ use Rattle.hy_machine.specs.declared.Setting.{Setting}
 use Rattle.hy_machine.specs.declared.State.{State}
 use Rattle.hy_machine.specs.declared.Session.{Session}
 use Rattle.hy_machine.specs.declared.Open.{Open}
-use Rattle.hy_machine.specs.declared.Finished.{Finished}
 use Rattle.hy_machine.specs.declared.Entry.{Entry}
-use Rattle.hy_machine.specs.declared.Pair.{Pair}
-use Rattle.hy_machine.specs.declared.Phase.{Phase}
 use Rattle.hy_machine.specs.declared.Phase.TheVariants.{Working, Stamping}
 use Rattle.hy_machine.specs.declared.Turn.{Turn}
 use Rattle.hy_machine.specs.declared.Turn.TheVariants.{Done, Waits, Begins, Visits, Answers, Enters, Ends}
@@ -33,7 +30,7 @@ use Rattle.hy_machine.specs.Turns.{unless_blocked, session_turn, phase_turn}
 use Rattle.hy_machine.specs.Steps.{with_session, beginning, after_visit, after_answer, done_with, order_with, after_turn, step_of}
 use Rattle.hy_machine.specs.Runs.{opening_of, after_steps, IsReached}
 use Rattle.hy_lawful.specs.Outcomes.{committed_at}
-use Rattle.hy_lawful.specs.Reached.{AllPassedUnseen, ReachedPassUnseen}
+use Rattle.hy_lawful.specs.Reached.{ReachedPassUnseen}
 use Rattle.hy_lawful.proofs.Lists.{all_more}
 use Rattle.hy_lawful.proofs.Fits.{PhaseFits, OpenFits, NowFits, NowStamps, Fits}
 use Rattle.hy_lawful.proofs.Moves.{moved_to}
@@ -159,8 +156,8 @@ enters setting state number current o may hit free =
           (may table pos (entry_pair setting state.order current.begun (entry_of setting state number current.begun) is_entry table pos pair p).0).alone
           other apart (ap (holds setting table pos) e ∙ h),
       let present : OpenFits setting state.order state.mark other (session_at state other).done one =
-      subst (NowFits setting state.order state.mark other (session_at state other).done) e (o.fits.sessions other).now in
-      not_stamping setting state other (length (session_at state other).done) one (free other) present.phase,
+          subst (NowFits setting state.order state.mark other (session_at state other).done) e (o.fits.sessions other).now in
+          not_stamping setting state other (length (session_at state other).done) one (free other) present.phase,
     )
 
 ends : (setting : Setting) (state : State) (number : ℕ) (current : Open) (ending : Ending) → IsOpen setting state number current
@@ -269,7 +266,8 @@ opening_passes setting = record {
   befores = λ rank table pos pair e. absurd cc;
   sessions = λ number. subst (SessionPasses setting []) (sym (fresh_at setting number)) (record { done = tt; now = tt });
   alone = λ number other table pos apart h. absurd
-      (let never : holds setting table pos None ≡ true = ap (λ (session : Session). holds setting table pos session.now) (sym (fresh_at setting number)) ∙ h in cc);
+      (let never : holds setting table pos None ≡ true =
+      ap (λ (session : Session). holds setting table pos session.now) (sym (fresh_at setting number)) ∙ h in cc);
 }
 
 reached_passes : (setting : Setting) (state : State) → IsReached setting state → Passes setting state

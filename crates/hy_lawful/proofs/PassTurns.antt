@@ -1,32 +1,25 @@
 -- What a session's turn makes of its open transaction passes.
-use Rattle.std.proofs.Common.{◌≡◌, ℕ, suc, ◌+◌, ◌-◌, ◌*◌, ◌<◌, ◌≤◌, List, [], ◌∷◌, ◌++◌, Option, None, Some, Bool, true, false, not, is_some, Result, Ok, Err, length}
-use Rattle.std.proofs.Common.{map, drop, cond, ltb, refl, ap, sym, ◌∙◌, subst, arith, inl, inr, ◌⊎◌, add-zero}
-use Rattle.std.specs.Prelude.{IfSome, slice_get, find, ◌&&◌, ◌||◌, if◌then◌else◌}
-use Rattle.std.specs.List.{AllByRecursion, list_any}
+use Rattle.std.proofs.Common.{◌≡◌, ℕ, suc, ◌-◌, ◌*◌, ◌≤◌, List, [], Option, None, Some, Bool, true, false, is_some, Result, Ok, Err, length}
+use Rattle.std.proofs.Common.{map, drop, cond, ltb, refl, ap, sym, ◌∙◌, subst, arith, inl, inr}
+use Rattle.std.specs.Prelude.{IfSome, slice_get}
 use Rattle.std.proofs.lemmas.Bool.{cases_Bool, and_parts, and_from}
-use Rattle.std.proofs.lemmas.Option.{same_Some}
 use Rattle.hy_value.specs.declared.Value.{Value}
 use Rattle.hy_bound.specs.declared.Txn.{Txn}
 use Rattle.hy_bound.specs.declared.Bound.{Bound}
 use Rattle.hy_bound.specs.declared.Bound.TheVariants.{Select, Group, Insert, Update, Delete}
 use Rattle.hy_bound.specs.declared.Reply.{Reply}
-use Rattle.hy_bound.specs.declared.Record.{Record}
 use Rattle.hy_bound.specs.declared.WriteKind.{WriteKind}
 use Rattle.hy_bound.specs.declared.WriteKind.TheVariants as kind
 use Rattle.hy_bound.specs.Condition.{Condition}
-use Rattle.hy_bound.specs.Predicate.{truth_of}
 use Rattle.hy_bound.specs.Records.{shape_of}
 use Rattle.hy_meaning.specs.Statement.{answer_of, grouped}
 use Rattle.hy_stamp.specs.declared.Label.{Label}
 use Rattle.hy_render.specs.declared.Ending.TheVariants as ways
 use Rattle.hy_machine.specs.declared.Setting.{Setting}
 use Rattle.hy_machine.specs.declared.State.{State}
-use Rattle.hy_machine.specs.declared.Session.{Session}
 use Rattle.hy_machine.specs.declared.Open.{Open}
 use Rattle.hy_machine.specs.declared.Begun.{Begun}
-use Rattle.hy_machine.specs.declared.Finished.{Finished}
 use Rattle.hy_machine.specs.declared.Entry.{Entry}
-use Rattle.hy_machine.specs.declared.Pair.{Pair}
 use Rattle.hy_machine.specs.declared.Write.{Write}
 use Rattle.hy_machine.specs.declared.Cause.{Cause}
 use Rattle.hy_machine.specs.declared.Cause.TheVariants.{RolledBack, Conflict, Invalid, Range, Full}
@@ -34,24 +27,21 @@ use Rattle.hy_machine.specs.declared.Phase.{Phase}
 use Rattle.hy_machine.specs.declared.Phase.TheVariants.{Working, Stamping, Undoing}
 use Rattle.hy_machine.specs.declared.Turn.{Turn}
 use Rattle.hy_machine.specs.declared.Turn.TheVariants.{Done, Waits, Begins, Visits, Answers, Enters, Ends}
-use Rattle.hy_machine.specs.Positions.{item_at, last_some}
-use Rattle.hy_machine.specs.Tables.{Cell, Own, positions_in, chunk_of}
+use Rattle.hy_machine.specs.Positions.{item_at}
+use Rattle.hy_machine.specs.Tables.{Own, positions_in, chunk_of}
 use Rattle.hy_machine.specs.Writes.{with_writes, wrote_nothing, written_chunks, is_among}
-use Rattle.hy_machine.specs.Sessions.{session_at, blocker, view, snapshot}
-use Rattle.hy_machine.specs.Holding.{undone, holds, holder_from, changes_row, changer_at, opponent, is_held, has_pair, is_free}
+use Rattle.hy_machine.specs.Sessions.{blocker, view}
+use Rattle.hy_machine.specs.Holding.{undone, holds, is_free}
 use Rattle.hy_machine.specs.Validation.{committed_of, first_hit}
-use Rattle.hy_machine.specs.Visits.{new_cell, judged, verdict, and_write, sweep, verdict_at, swept, sees_key, free_position, checks_of}
+use Rattle.hy_machine.specs.Visits.{swept, sees_key, free_position, checks_of}
 use Rattle.hy_machine.specs.Turns.{rows_seen, read_turn, write_turn, check_turn, place_turn, insert_turn, statement_turn, ending_of, unless_blocked}
 use Rattle.hy_machine.specs.Turns.{undo_turn, stamp_turn, validated_turn, commit_turn, closing_turn, working_turn, phase_turn}
 use Rattle.hy_machine.specs.Steps.{after_visit, after_answer}
 use Rattle.hy_lawful.specs.Outcomes.{committed_at}
 use Rattle.hy_lawful.proofs.Fits.{FitsTables, Fits}
-use Rattle.hy_lawful.proofs.PassTables.{cell_at, pair_at, tables_are, covered_at, AllFit, cell_next}
-use Rattle.hy_lawful.proofs.PassHits.{from_dropped, or_none, unchanged, none_there, unwritten}
-use Rattle.hy_lawful.proofs.PassHolds.{own_among, fewer_among, written_is, unheld, held_by_none}
-use Rattle.hy_lawful.proofs.PassStates.{Passed, EndPasses, PhasePasses, Clear, HeldClear, OpenPasses, Befores, HoldsAlone, Passes}
-
-use Rattle.hy_lawful.proofs.PassMays.{OwnMay, AllMay, MayWrite, Writes, swept_may, found_is, free_may}
+use Rattle.hy_lawful.proofs.PassHolds.{own_among, fewer_among, written_is}
+use Rattle.hy_lawful.proofs.PassStates.{Passed, EndPasses, PhasePasses, HeldClear, OpenPasses, HoldsAlone, Passes}
+use Rattle.hy_lawful.proofs.PassMays.{OwnMay, AllMay, MayWrite, IsAtWork, swept_may, found_is, free_may}
 
 -- an open transaction goes on as this one
 abbrev pub GoesOn : Setting → State → ℕ → Open → Type 0
@@ -75,30 +65,30 @@ NotStamping (Working visited count) = Unit {0}
 NotStamping (Stamping visited) = ⊥
 NotStamping (Undoing visited cause) = Unit {0}
 
--- a turn of it
-abbrev WritesTurn : Setting → State → ℕ → Begun → Turn → Type 0
-WritesTurn setting state number begun Done = Unit {0}
-WritesTurn setting state number begun (Waits by) = Unit {0}
-WritesTurn setting state number begun Begins = ⊥
-WritesTurn setting state number begun (Visits writes phase) = AllMay setting state number begun writes × NotStamping phase
-WritesTurn setting state number begun (Answers writes reply took records) = AllMay setting state number begun writes
-WritesTurn setting state number begun Enters = first_hit begun.records (map committed_of (drop begun.prefix state.order)) ≡ None
-WritesTurn setting state number begun (Ends ending) = committed_at ending ≡ None
+-- a turn of a transaction at work
+abbrev WorkTurn : Setting → State → ℕ → Begun → Turn → Type 0
+WorkTurn setting state number begun Done = Unit {0}
+WorkTurn setting state number begun (Waits by) = Unit {0}
+WorkTurn setting state number begun Begins = ⊥
+WorkTurn setting state number begun (Visits writes phase) = AllMay setting state number begun writes × NotStamping phase
+WorkTurn setting state number begun (Answers writes reply took records) = AllMay setting state number begun writes
+WorkTurn setting state number begun Enters = first_hit begun.records (map committed_of (drop begun.prefix state.order)) ≡ None
+WorkTurn setting state number begun (Ends ending) = committed_at ending ≡ None
 
 -- ---- statements
 
 read_writes : (setting : Setting) (state : State) (number : ℕ) (begun : Begun) (visited tables : ℕ) (statement : Bound)
     (gathered : List (List (List Value))) (reply : Reply)
-    → WritesTurn setting state number begun (read_turn setting begun visited tables statement gathered reply)
+    → WorkTurn setting state number begun (read_turn setting begun visited tables statement gathered reply)
 read_writes setting state number begun visited tables statement gathered reply = elim (cases_Bool (ltb (suc visited) (setting.chunks * tables))) [
   | inl t ↦ rw t (tt, tt)
   | inr f ↦ rw f tt
 ]
 
 write_writes : (setting : Setting) (state : State) (number : ℕ) (begun : Begun) (visited count : ℕ) (statement : Bound) (kind : WriteKind) (pred : Condition)
-    (table : ℕ) → Writes setting state number begun
+    (table : ℕ) → IsAtWork setting state number begun
     → (result : Result (List Write) Cause) → swept setting state number begun kind pred table visited ≡ result
-    → WritesTurn setting state number begun (write_turn setting begun visited count statement kind result)
+    → WorkTurn setting state number begun (write_turn setting begun visited count statement kind result)
 write_writes setting state number begun visited count statement kind pred table w (Err cause) e = (tt, tt)
 write_writes setting state number begun visited count statement kind pred table w (Ok writes) e =
     elim (cases_Bool (ltb (suc visited) setting.chunks)) [
@@ -107,13 +97,13 @@ write_writes setting state number begun visited count statement kind pred table 
     ]
 
 check_writes : (setting : Setting) (state : State) (number : ℕ) (begun : Begun) (visited : ℕ) (statement : Bound) (found : Bool)
-    → WritesTurn setting state number begun (check_turn setting begun visited statement found)
+    → WorkTurn setting state number begun (check_turn setting begun visited statement found)
 check_writes setting state number begun visited statement true = tt
 check_writes setting state number begun visited statement false = (tt, tt)
 
 place_writes : (setting : Setting) (state : State) (number : ℕ) (begun : Begun) (visited chunk : ℕ) (statement : Bound) (table : ℕ) (row : List Value)
-    → Writes setting state number begun → (pos : Option ℕ) → free_position setting state begun table chunk ≡ pos
-    → WritesTurn setting state number begun (place_turn setting begun visited chunk statement table row pos)
+    → IsAtWork setting state number begun → (pos : Option ℕ) → free_position setting state begun table chunk ≡ pos
+    → WorkTurn setting state number begun (place_turn setting begun visited chunk statement table row pos)
 place_writes setting state number begun visited chunk statement table row w (Some pos) e =
     (free_may setting state number begun table pos w.low (found_is (is_free setting state begun table) (positions_in setting chunk) pos e), tt)
 place_writes setting state number begun visited chunk statement table row w None e = elim (cases_Bool (ltb (suc chunk) setting.chunks)) [
@@ -122,8 +112,8 @@ place_writes setting state number begun visited chunk statement table row w None
 ]
 
 insert_writes : (setting : Setting) (state : State) (number : ℕ) (begun : Begun) (visited : ℕ) (statement : Bound) (table : ℕ) (row : List Value)
-    (key : Option ℕ) → Writes setting state number begun
-    → WritesTurn setting state number begun (insert_turn setting state begun visited statement table row key)
+    (key : Option ℕ) → IsAtWork setting state number begun
+    → WorkTurn setting state number begun (insert_turn setting state begun visited statement table row key)
 insert_writes setting state number begun visited statement table row key w = elim (cases_Bool (ltb visited (checks_of setting key))) [
   | inl t ↦ rw t (check_writes setting state number begun visited statement (sees_key setting state begun table row key visited))
   | inr f ↦ rw f (place_writes setting state number begun visited (visited - checks_of setting key) statement table row w
@@ -131,7 +121,7 @@ insert_writes setting state number begun visited statement table row key w = eli
 ]
 
 statement_writes : (setting : Setting) (state : State) (number : ℕ) (begun : Begun) (visited count : ℕ) (statement : Bound)
-    → Writes setting state number begun → WritesTurn setting state number begun (statement_turn setting state number begun visited count statement)
+    → IsAtWork setting state number begun → WorkTurn setting state number begun (statement_turn setting state number begun visited count statement)
 statement_writes setting state number begun visited count (Select tables ons pred items) w =
     read_writes setting state number begun visited (length tables) (Select tables ons pred items)
     (map (rows_seen (view setting state begun)) tables) (answer_of ons pred items (map (rows_seen (view setting state begun)) tables))
@@ -157,12 +147,12 @@ undone_is (Range table pos) = refl
 undone_is (Full table) = refl
 
 unless_writes : (setting : Setting) (state : State) (number : ℕ) (begun : Begun) (turn : Turn) (by : Option Label)
-    → WritesTurn setting state number begun turn → WritesTurn setting state number begun (unless_blocked by turn)
+    → WorkTurn setting state number begun turn → WorkTurn setting state number begun (unless_blocked by turn)
 unless_writes setting state number begun turn None h = h
 unless_writes setting state number begun turn (Some by) h = tt
 
 undo_writes : (setting : Setting) (state : State) (number : ℕ) (begun : Begun) (visited : ℕ) (cause : Cause)
-    → WritesTurn setting state number begun (undo_turn setting state number begun visited cause)
+    → WorkTurn setting state number begun (undo_turn setting state number begun visited cause)
 undo_writes setting state number begun visited cause = elim (cases_Bool (ltb visited (length (written_chunks setting begun.own)))) [
   | inl t ↦ rw t (tt, tt)
   | inr f ↦ rw f (unless_writes setting state number begun (Ends (ending_of cause)) (blocker state number) (undone_is cause))
@@ -170,12 +160,12 @@ undo_writes setting state number begun visited cause = elim (cases_Bool (ltb vis
 
 validated_writes : (setting : Setting) (state : State) (number : ℕ) (begun : Begun) (hit : Option Cause)
     → first_hit begun.records (map committed_of (drop begun.prefix state.order)) ≡ hit
-    → WritesTurn setting state number begun (validated_turn hit)
+    → WorkTurn setting state number begun (validated_turn hit)
 validated_writes setting state number begun None e = e
 validated_writes setting state number begun (Some cause) e = (tt, tt)
 
 commit_writes : (setting : Setting) (state : State) (number : ℕ) (begun : Begun)
-    → WritesTurn setting state number begun (commit_turn setting state number begun)
+    → WorkTurn setting state number begun (commit_turn setting state number begun)
 commit_writes setting state number begun = unless_writes setting state number begun
     (cond (wrote_nothing begun.own) (Ends ways.Read) (validated_turn (first_hit begun.records (map committed_of (drop begun.prefix state.order)))))
     (blocker state number)
@@ -185,12 +175,12 @@ commit_writes setting state number begun = unless_writes setting state number be
     ])
 
 closing_writes : (setting : Setting) (state : State) (number : ℕ) (begun : Begun) (commits : Bool)
-    → WritesTurn setting state number begun (closing_turn setting state number begun commits)
+    → WorkTurn setting state number begun (closing_turn setting state number begun commits)
 closing_writes setting state number begun true = commit_writes setting state number begun
 closing_writes setting state number begun false = undo_writes setting state number begun 0 RolledBack
 
-working_writes : (setting : Setting) (state : State) (number : ℕ) (txn : Txn) (begun : Begun) (visited count : ℕ) → Writes setting state number begun
-    → (statement : Option Bound) → WritesTurn setting state number begun (working_turn setting state number txn begun visited count statement)
+working_writes : (setting : Setting) (state : State) (number : ℕ) (txn : Txn) (begun : Begun) (visited count : ℕ) → IsAtWork setting state number begun
+    → (statement : Option Bound) → WorkTurn setting state number begun (working_turn setting state number txn begun visited count statement)
 working_writes setting state number txn begun visited count w None = closing_writes setting state number begun txn.commits
 working_writes setting state number txn begun visited count w (Some statement) = statement_writes setting state number begun visited count statement w
 
@@ -202,7 +192,7 @@ phase_clear setting order begun (Working visited count) n h = h
 phase_clear setting order begun (Stamping visited) n h = absurd n
 phase_clear setting order begun (Undoing visited cause) n h = h
 
-goes_on : (setting : Setting) (state : State) (number : ℕ) (begun : Begun) (writes : List Write) (new : Open) → Writes setting state number begun
+goes_on : (setting : Setting) (state : State) (number : ℕ) (begun : Begun) (writes : List Write) (new : Open) → IsAtWork setting state number begun
     → AllMay setting state number begun writes → new.begun.own ≡ with_writes begun.own writes → new.begun.prefix ≡ begun.prefix
     → new.begun.low ≡ begun.low → NotStamping new.phase → GoesOn setting state number new
 goes_on setting state number begun writes new w all own prefix low n = (
@@ -219,8 +209,8 @@ goes_on setting state number begun writes new w all own prefix low n = (
         ∙ (and_parts (is_some (item_at new.begun.own table pos))
         (is_among (drop (undone new.phase) (written_chunks setting new.begun.own)) table (chunk_of setting pos)) h).0)
 
-writes_pass : (setting : Setting) (state : State) (number : ℕ) (current : Open) → Writes setting state number current.begun → (turn : Turn)
-    → WritesTurn setting state number current.begun turn → PassesTurn setting state number current turn
+writes_pass : (setting : Setting) (state : State) (number : ℕ) (current : Open) → IsAtWork setting state number current.begun → (turn : Turn)
+    → WorkTurn setting state number current.begun turn → PassesTurn setting state number current turn
 writes_pass setting state number current w Done h = tt
 writes_pass setting state number current w (Waits by) h = tt
 writes_pass setting state number current w Begins h = absurd h
@@ -276,7 +266,7 @@ pub phase_passes : (setting : Setting) (state : State) → Fits setting state �
     → HoldsAlone setting state number (Some (record { begun = begun; phase = phase }))
     → PassesTurn setting state number (record { begun = begun; phase = phase }) (phase_turn setting state number txn begun phase)
 phase_passes setting state fits passes number txn begun own (Working visited count) present alone =
-    let works : Writes setting state number begun = record {
+    let works : IsAtWork setting state number begun = record {
       fits = fits;
       passes = passes;
       own = own;

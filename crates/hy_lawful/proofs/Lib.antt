@@ -20,3 +20,9 @@ pub mod SerialAlone
 pub mod SerialHistory
 pub mod SerialScripts
 pub mod SerialRuns
+pub mod PassHits
+pub mod PassHolds
+pub mod PassStates
+pub mod PassMays
+pub mod PassTurns
+pub mod PassSteps

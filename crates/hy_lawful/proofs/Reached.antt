@@ -162,7 +162,7 @@ begins_unless setting state number None fits h = h
 begins_unless setting state number (Some by) fits h = fits
 
 -- a session that has a transaction is there
-is_there : (setting : Setting) (state : State) (number : ℕ) (txn : Txn) → Fits setting state → txn_at setting number (session_at state number) ≡ Some txn
+pub is_there : (setting : Setting) (state : State) (number : ℕ) (txn : Txn) → Fits setting state → txn_at setting number (session_at state number) ≡ Some txn
     → number < length state.sessions
 is_there setting state number txn fits e = elim (cases_lt number (length state.sessions)) [
   | inl h ↦ h

@@ -1,6 +1,5 @@
-use Rattle.hy_lawful.specs.Reached.{ReachedHaveRun, ReachedPassUnseen}
-use Rattle.hy_lawful.proofs.PassTables.{tables_at}
+use Rattle.hy_lawful.proofs.PassSteps.{reached_pass}
 use Rattle.hy_lawful.proofs.states.the_committed_passed_unseen.Goals as goal
 
 pub returns : goal.returns
-returns c = ?
+returns c = reached_pass

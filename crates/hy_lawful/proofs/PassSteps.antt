@@ -1,0 +1,286 @@
+-- In each state that the machine comes to, those that have committed were passed unseen.
+use Rattle.std.proofs.Common.{◌≡◌, ℕ, zero, suc, ◌-◌, ◌<◌, ◌≤◌, List, [], ◌∷◌, ◌++◌, Option, None, Some, true, false, is_some, length, map, drop}
+use Rattle.std.proofs.Common.{get_or, replicate, refl, ap, sym, ◌∙◌, subst, arith}
+use Rattle.std.proofs.Math.ListN.{get_or-map}
+use Rattle.std.specs.Prelude.{slice_get}
+use Rattle.std.specs.Option.{option_map}
+use Rattle.std.specs.List.{AllByRecursion}
+use Rattle.std.proofs.lemmas.Bool.{and_parts}
+use Rattle.std.proofs.lemmas.List.{length-append}
+use Rattle.std.proofs.lemmas.Option.{same_Some, IfSome_then}
+use Rattle.hy_value.specs.declared.Value.{Value}
+use Rattle.hy_bound.specs.declared.Txn.{Txn}
+use Rattle.hy_stamp.specs.declared.Label.{Label}
+use Rattle.hy_render.specs.declared.Ending.{Ending}
+use Rattle.hy_machine.specs.declared.Setting.{Setting}
+use Rattle.hy_machine.specs.declared.State.{State}
+use Rattle.hy_machine.specs.declared.Session.{Session}
+use Rattle.hy_machine.specs.declared.Open.{Open}
+use Rattle.hy_machine.specs.declared.Entry.{Entry}
+use Rattle.hy_machine.specs.declared.Phase.TheVariants.{Working, Stamping}
+use Rattle.hy_machine.specs.declared.Turn.{Turn}
+use Rattle.hy_machine.specs.declared.Turn.TheVariants.{Done, Waits, Begins, Visits, Answers, Enters, Ends}
+use Rattle.hy_machine.specs.Positions.{item_at}
+use Rattle.hy_machine.specs.Tables.{Cell, capacity, chunk_of}
+use Rattle.hy_machine.specs.Writes.{blank_own, written_chunks, is_among}
+use Rattle.hy_machine.specs.Sessions.{fresh, session_at, txn_at, blocker, least_with, least_prefix, entry_of}
+use Rattle.hy_machine.specs.Holding.{holds}
+use Rattle.hy_machine.specs.Validation.{committed_of, first_hit}
+use Rattle.hy_machine.specs.Turns.{unless_blocked, session_turn, phase_turn}
+use Rattle.hy_machine.specs.Steps.{with_session, beginning, after_visit, after_answer, done_with, order_with, after_turn, step_of}
+use Rattle.hy_machine.specs.Runs.{opening_of, after_steps, IsReached}
+use Rattle.hy_lawful.specs.Outcomes.{committed_at}
+use Rattle.hy_lawful.specs.Reached.{ReachedPassUnseen}
+use Rattle.hy_lawful.proofs.Lists.{all_more}
+use Rattle.hy_lawful.proofs.Fits.{PhaseFits, OpenFits, NowFits, NowStamps, Fits}
+use Rattle.hy_lawful.proofs.Moves.{moved_to}
+use Rattle.hy_lawful.proofs.Turns.{FitsTurn, phase_fits}
+use Rattle.hy_lawful.proofs.Reached.{is_there, reached_fits}
+use Rattle.hy_lawful.proofs.PassTables.{pair_at}
+use Rattle.hy_lawful.proofs.PassStates.{Passed, EndPasses, OpenPasses, NowPasses, SessionPasses, Passes, passes_moved, done_grows, session_grows, NowSpared}
+use Rattle.hy_lawful.proofs.PassStates.{IsEntry, entry_pair, befores_grow, entered_passed}
+use Rattle.hy_lawful.proofs.PassMays.{OwnMay}
+use Rattle.hy_lawful.proofs.PassTurns.{GoesOn, PassesTurn, phase_passes}
+
+-- ---- a transaction begins
+
+with_below : (least : ℕ) (now : Option Open) → least_with least now ≤ least
+with_below least None = omega arith
+with_below least (Some current) = omega arith
+
+least_below : (least : ℕ) (sessions : List Session) → least_prefix least sessions ≤ least
+least_below least [] = omega arith
+least_below least (session ∷ sessions) = omega (arith, least_below (least_with least session.now) sessions, with_below least session.now)
+
+past_order : (order : List Entry) (rank table pos : ℕ) → length order ≤ rank → pair_at order rank table pos ≡ None
+past_order [] rank table pos h = refl
+past_order (entry ∷ order) zero table pos h = absurd (omega (arith, h))
+past_order (entry ∷ order) (suc rank) table pos h = past_order order rank table pos (omega (arith, h))
+
+blank_cells : (n pos : ℕ) → get_or (replicate {A = Option Cell} n None) pos None ≡ None
+blank_cells zero pos = refl
+blank_cells (suc n) zero = refl
+blank_cells (suc n) (suc pos) = blank_cells n pos
+
+blank_items : (n : ℕ) (rows : List (List (List Value))) (table pos : ℕ) → item_at (map (λ one. replicate {A = Option Cell} n None) rows) table pos ≡ None
+blank_items n [] table pos = refl
+blank_items n (one ∷ rows) zero pos = blank_cells n pos
+blank_items n (one ∷ rows) (suc table) pos = blank_items n rows table pos
+
+blank_free : (setting : Setting) (state : State) (table pos : ℕ)
+    → holds setting table pos (Some (record { begun = beginning setting state; phase = Working 0 0 })) ≡ true → ⊥
+blank_free setting state table pos h =
+    let some : is_some (item_at (blank_own setting) table pos) ≡ true = (and_parts (is_some (item_at (blank_own setting) table pos))
+    (is_among (written_chunks setting (blank_own setting)) table (chunk_of setting pos)) h).0 in
+    let none : item_at (blank_own setting) table pos ≡ None = blank_items (capacity setting) setting.first table pos in
+    let never : is_some (item_at (blank_own setting) table pos) ≡ false = ap is_some none in
+    absurd cc
+
+begins : (setting : Setting) (state : State) (number : ℕ) → Passes setting state → number < length state.sessions
+    → Passes setting (after_turn setting state number Begins).0
+begins setting state number passes there =
+    passes_moved setting state state.order state.mark number
+    (record { done = (session_at state number).done; now = Some (record { begun = beginning setting state; phase = Working 0 0 }) }) there passes.befores
+    (record {
+      done = (passes.sessions number).done;
+      now = record {
+        low = least_below (length state.order) state.sessions;
+        phase = λ table pos h rank from. past_order state.order rank table pos from;
+      };
+    })
+    (λ other apart. passes.sessions other) (λ other table pos apart h. absurd (blank_free setting state table pos h)) passes
+
+-- ---- a transaction goes on
+
+-- what a session is that is open
+record IsOpen (setting : Setting) (state : State) (number : ℕ) (current : Open) : Type 0 where
+  fits : Fits setting state
+  passes : Passes setting state
+  there : number < length state.sessions
+  is : (session_at state number).now ≡ Some current
+  start : current.begun.prefix ≤ length state.order
+  low : current.begun.low ≤ current.begun.prefix
+
+goes : (setting : Setting) (state : State) (number : ℕ) (current new : Open) → IsOpen setting state number current → GoesOn setting state number new
+    → Passes setting (moved_to state state.order state.mark number (record { done = (session_at state number).done; now = Some new }))
+goes setting state number current new o h =
+    passes_moved setting state state.order state.mark number (record { done = (session_at state number).done; now = Some new }) o.there o.passes.befores
+    (record { done = (o.passes.sessions number).done; now = h.0 }) (λ other apart. o.passes.sessions other) h.1 o.passes
+
+not_stamping : (setting : Setting) (state : State) (number before : ℕ) (current : Open) → (state.mark ≡ Some number → ⊥)
+    → PhaseFits setting state.order state.mark number before current.begun current.phase → (visited : ℕ) → current.phase ≡ Stamping visited → ⊥
+not_stamping setting state number before current free fits visited e =
+    free (subst (PhaseFits setting state.order state.mark number before current.begun) e fits).0
+
+enters : (setting : Setting) (state : State) (number : ℕ) (current : Open) → IsOpen setting state number current
+    → OwnMay setting state number current.begun → first_hit current.begun.records (map committed_of (drop current.begun.prefix state.order)) ≡ None
+    → ((other : ℕ) → state.mark ≡ Some other → ⊥)
+    → Passes setting (moved_to state (state.order ++ entry_of setting state number current.begun ∷ []) (Some number) number
+    (record { done = (session_at state number).done; now = Some (after_visit [] (Stamping 0) current) }))
+enters setting state number current o may hit free =
+    passes_moved setting state (state.order ++ entry ∷ []) (Some number) number
+    (record { done = (session_at state number).done; now = Some (after_visit [] (Stamping 0) current) }) o.there
+    (befores_grow setting state.order current.begun entry is_entry)
+    (record {
+      done = done_grows setting state.order (entry ∷ []) (session_at state number).done (o.passes.sessions number).done;
+      now = record {
+        low = o.low;
+        phase = subst (Passed setting (state.order ++ entry ∷ []) current.begun)
+            (let e : length state.order ≡ length (state.order ++ entry ∷ []) - 1 = omega (arith, length-append state.order (entry ∷ [])) in e)
+            (entered_passed setting state.order current.begun entry is_entry hit);
+      };
+    })
+    (λ other apart. session_grows setting state.order entry (session_at state other) (o.passes.sessions other)
+    (spared other apart (session_at state other).now refl))
+    (λ other table pos apart h. (may table pos (and_parts (is_some (item_at current.begun.own table pos))
+    (is_among (written_chunks setting current.begun.own) table (chunk_of setting pos)) h).0).alone other apart)
+    o.passes
+  where
+    entry : Entry
+    entry = entry_of setting state number current.begun
+
+    is_entry : IsEntry setting state.order current.begun (entry_of setting state number current.begun)
+    is_entry = record {
+      fit = o.fits.cells;
+      befores = o.passes.befores;
+      start = o.start;
+      clear = λ table pos own. (may table pos own).clear;
+      cells = refl;
+    }
+
+    spared : (other : ℕ) → (other ≡ number → ⊥) → (now : Option Open) → (session_at state other).now ≡ now
+        → NowSpared setting (entry_of setting state number current.begun) now
+    spared other apart None e = tt
+    spared other apart (Some one) e = (
+      λ table pos pair h p.
+          (may table pos (entry_pair setting state.order current.begun (entry_of setting state number current.begun) is_entry table pos pair p).0).alone
+          other apart (ap (holds setting table pos) e ∙ h),
+      let present : OpenFits setting state.order state.mark other (session_at state other).done one =
+          subst (NowFits setting state.order state.mark other (session_at state other).done) e (o.fits.sessions other).now in
+          not_stamping setting state other (length (session_at state other).done) one (free other) present.phase,
+    )
+
+ends : (setting : Setting) (state : State) (number : ℕ) (current : Open) (ending : Ending) → IsOpen setting state number current
+    → EndPasses setting state.order (record { begun = current.begun; ending = ending })
+    → Passes setting (moved_to state state.order None number
+    (record { done = (session_at state number).done ++ record { begun = current.begun; ending = ending } ∷ []; now = None }))
+ends setting state number current ending o h =
+    passes_moved setting state state.order None number
+    (record { done = (session_at state number).done ++ record { begun = current.begun; ending = ending } ∷ []; now = None }) o.there o.passes.befores
+    (record {
+      done = all_more (EndPasses setting state.order) (session_at state number).done (record { begun = current.begun; ending = ending })
+          (o.passes.sessions number).done h;
+      now = tt;
+    })
+    (λ other apart. o.passes.sessions other) (λ other table pos apart held. absurd cc) o.passes
+
+turn_passes : (setting : Setting) (state : State) (number : ℕ) (current : Open) → IsOpen setting state number current → (turn : Turn)
+    → FitsTurn setting state number current.begun turn → PassesTurn setting state number current turn
+    → Passes setting (after_turn setting state number turn).0
+turn_passes setting state number current o Done f h = o.passes
+turn_passes setting state number current o (Waits by) f h = o.passes
+turn_passes setting state number current o Begins f h = absurd h
+turn_passes setting state number current o (Visits writes phase) f h =
+    subst (λ (now : Option Open). Passes setting
+    (with_session state number (record { done = (session_at state number).done; now = option_map (after_visit writes phase) now })))
+    (sym o.is) (goes setting state number current (after_visit writes phase current) o h)
+turn_passes setting state number current o (Answers writes reply took records) f h =
+    subst (λ (now : Option Open). Passes setting
+    (with_session state number (record { done = (session_at state number).done; now = option_map (after_answer writes reply took records) now })))
+    (sym o.is) (goes setting state number current (after_answer writes reply took records current) o h)
+turn_passes setting state number current o Enters f h =
+    subst (λ (now : Option Open). Passes setting (moved_to state (order_with setting state number now) (Some number) number
+    (record { done = (session_at state number).done; now = option_map (after_visit [] (Stamping 0)) now })))
+    (sym o.is) (enters setting state number current o h.0 h.1 f.1)
+turn_passes setting state number current o (Ends ending) f h =
+    subst (λ (now : Option Open). Passes setting
+    (moved_to state state.order None number (record { done = done_with ending (session_at state number).done now; now = None })))
+    (sym o.is) (ends setting state number current ending o h)
+
+-- ---- steps
+
+begins_unless : (setting : Setting) (state : State) (number : ℕ) (by : Option Label) → Passes setting state
+    → Passes setting (after_turn setting state number Begins).0 → Passes setting (after_turn setting state number (unless_blocked by Begins)).0
+begins_unless setting state number None passes h = h
+begins_unless setting state number (Some by) passes h = passes
+
+session_passes : (setting : Setting) (state : State) (number : ℕ) (txn : Txn) → Fits setting state → Passes setting state
+    → txn_at setting number (session_at state number) ≡ Some txn → (now : Option Open) → (session_at state number).now ≡ now
+    → Passes setting (after_turn setting state number (session_turn setting state number (Some txn) now)).0
+session_passes setting state number txn fits passes e None is =
+    begins_unless setting state number (blocker state number) passes
+    (begins setting state number passes (is_there setting state number txn fits e))
+session_passes setting state number txn fits passes e (Some current) is =
+    let present : OpenFits setting state.order state.mark number (session_at state number).done current =
+    subst (NowFits setting state.order state.mark number (session_at state number).done) is (fits.sessions number).now in
+    let passing : OpenPasses setting state.order current = subst (NowPasses setting state.order) is (passes.sessions number).now in
+    turn_passes setting state number current
+    (record {
+      fits = fits;
+      passes = passes;
+      there = is_there setting state number txn fits e;
+      is = is;
+      start = present.start;
+      low = passing.low;
+    })
+    (phase_turn setting state number txn current.begun current.phase)
+    (phase_fits setting state fits number txn current.begun e present.above present.records current.phase present.phase
+    (λ m. subst NowStamps is (fits.marked number m)))
+    (phase_passes setting state fits passes number txn current.begun present.own current.phase passing
+    (λ other table pos apart h. passes.alone number other table pos apart (ap (holds setting table pos) is ∙ h)))
+
+by_txn : (setting : Setting) (state : State) (number : ℕ) → Fits setting state → Passes setting state → (txn : Option Txn)
+    → txn_at setting number (session_at state number) ≡ txn
+    → Passes setting (after_turn setting state number (session_turn setting state number txn (session_at state number).now)).0
+by_txn setting state number fits passes None e = passes
+by_txn setting state number fits passes (Some txn) e = session_passes setting state number txn fits passes e (session_at state number).now refl
+
+step_passes : (setting : Setting) (state : State) (number : ℕ) → Fits setting state → Passes setting state → Passes setting (step_of setting state number).0
+step_passes setting state number fits passes = by_txn setting state number fits passes (txn_at setting number (session_at state number)) refl
+
+steps_more : (setting : Setting) (state : State) (numbers : List ℕ) (number : ℕ)
+    → after_steps setting state (numbers ++ number ∷ []) ≡ (step_of setting (after_steps setting state numbers) number).0
+steps_more setting state [] number = refl
+steps_more setting state (one ∷ numbers) number = steps_more setting (step_of setting state one).0 numbers number
+
+reached_step : (setting : Setting) (state : State) (number : ℕ) → IsReached setting state → IsReached setting (step_of setting state number).0
+reached_step setting state number r = (
+  r.0 ++ number ∷ [],
+  ap (λ (one : State). (step_of setting one number).0) r.1 ∙ sym (steps_more setting (opening_of setting) r.0 number),
+)
+
+steps_pass : (setting : Setting) (state : State) (numbers : List ℕ) → IsReached setting state → Passes setting state
+    → Passes setting (after_steps setting state numbers)
+steps_pass setting state [] r passes = passes
+steps_pass setting state (number ∷ numbers) r passes =
+    steps_pass setting (step_of setting state number).0 numbers (reached_step setting state number r)
+    (step_passes setting state number (reached_fits setting state r) passes)
+
+-- ---- the opening
+
+fresh_at : (setting : Setting) (number : ℕ) → session_at (opening_of setting) number ≡ fresh
+fresh_at setting number = get_or-map (λ (txns : List Txn). fresh) setting.programs number []
+
+opening_passes : (setting : Setting) → Passes setting (opening_of setting)
+opening_passes setting = record {
+  befores = λ rank table pos pair e. absurd cc;
+  sessions = λ number. subst (SessionPasses setting []) (sym (fresh_at setting number)) (record { done = tt; now = tt });
+  alone = λ number other table pos apart h. absurd
+      (let never : holds setting table pos None ≡ true =
+      ap (λ (session : Session). holds setting table pos session.now) (sym (fresh_at setting number)) ∙ h in cc);
+}
+
+reached_passes : (setting : Setting) (state : State) → IsReached setting state → Passes setting state
+reached_passes setting state r =
+    subst (Passes setting) (sym r.1) (steps_pass setting (opening_of setting) r.0 ([], refl) (opening_passes setting))
+
+one_of : {X : Type 0} (P : X → Type 0) (xs : List X) → AllByRecursion P xs → (i : ℕ) (x : X) → slice_get xs i ≡ Some x → P x
+one_of P [] h i x e = absurd cc
+one_of P (y ∷ xs) h zero x e = subst P (same_Some y x e) h.0
+one_of P (y ∷ xs) h (suc i) x e = one_of P xs h.1 i x e
+
+pub reached_pass : ReachedPassUnseen
+reached_pass setting state r number before finished e =
+    IfSome_then (committed_at finished.ending)
+    (one_of (EndPasses setting state.order) (session_at state number).done ((reached_passes setting state r).sessions number).done before finished e)
+    (λ rank p. record { unseen = p.unseen; lays = p.lays })

@@ -1,0 +1,286 @@
+-- What a session's turn makes of its open transaction passes.
+use Rattle.std.proofs.Common.{◌≡◌, ℕ, suc, ◌-◌, ◌*◌, ◌≤◌, List, [], Option, None, Some, Bool, true, false, is_some, Result, Ok, Err, length}
+use Rattle.std.proofs.Common.{map, drop, cond, ltb, refl, ap, sym, ◌∙◌, subst, arith, inl, inr}
+use Rattle.std.specs.Prelude.{IfSome, slice_get}
+use Rattle.std.proofs.lemmas.Bool.{cases_Bool, and_parts, and_from}
+use Rattle.hy_value.specs.declared.Value.{Value}
+use Rattle.hy_bound.specs.declared.Txn.{Txn}
+use Rattle.hy_bound.specs.declared.Bound.{Bound}
+use Rattle.hy_bound.specs.declared.Bound.TheVariants.{Select, Group, Insert, Update, Delete}
+use Rattle.hy_bound.specs.declared.Reply.{Reply}
+use Rattle.hy_bound.specs.declared.WriteKind.{WriteKind}
+use Rattle.hy_bound.specs.declared.WriteKind.TheVariants as kind
+use Rattle.hy_bound.specs.Condition.{Condition}
+use Rattle.hy_bound.specs.Records.{shape_of}
+use Rattle.hy_meaning.specs.Statement.{answer_of, grouped}
+use Rattle.hy_stamp.specs.declared.Label.{Label}
+use Rattle.hy_render.specs.declared.Ending.TheVariants as ways
+use Rattle.hy_machine.specs.declared.Setting.{Setting}
+use Rattle.hy_machine.specs.declared.State.{State}
+use Rattle.hy_machine.specs.declared.Open.{Open}
+use Rattle.hy_machine.specs.declared.Begun.{Begun}
+use Rattle.hy_machine.specs.declared.Entry.{Entry}
+use Rattle.hy_machine.specs.declared.Write.{Write}
+use Rattle.hy_machine.specs.declared.Cause.{Cause}
+use Rattle.hy_machine.specs.declared.Cause.TheVariants.{RolledBack, Conflict, Invalid, Range, Full}
+use Rattle.hy_machine.specs.declared.Phase.{Phase}
+use Rattle.hy_machine.specs.declared.Phase.TheVariants.{Working, Stamping, Undoing}
+use Rattle.hy_machine.specs.declared.Turn.{Turn}
+use Rattle.hy_machine.specs.declared.Turn.TheVariants.{Done, Waits, Begins, Visits, Answers, Enters, Ends}
+use Rattle.hy_machine.specs.Positions.{item_at}
+use Rattle.hy_machine.specs.Tables.{Own, positions_in, chunk_of}
+use Rattle.hy_machine.specs.Writes.{with_writes, wrote_nothing, written_chunks, is_among}
+use Rattle.hy_machine.specs.Sessions.{blocker, view}
+use Rattle.hy_machine.specs.Holding.{undone, holds, is_free}
+use Rattle.hy_machine.specs.Validation.{committed_of, first_hit}
+use Rattle.hy_machine.specs.Visits.{swept, sees_key, free_position, checks_of}
+use Rattle.hy_machine.specs.Turns.{rows_seen, read_turn, write_turn, check_turn, place_turn, insert_turn, statement_turn, ending_of, unless_blocked}
+use Rattle.hy_machine.specs.Turns.{undo_turn, stamp_turn, validated_turn, commit_turn, closing_turn, working_turn, phase_turn}
+use Rattle.hy_machine.specs.Steps.{after_visit, after_answer}
+use Rattle.hy_lawful.specs.Outcomes.{committed_at}
+use Rattle.hy_lawful.proofs.Fits.{FitsTables, Fits}
+use Rattle.hy_lawful.proofs.PassHolds.{own_among, fewer_among, written_is}
+use Rattle.hy_lawful.proofs.PassStates.{Passed, EndPasses, PhasePasses, HeldClear, OpenPasses, HoldsAlone, Passes}
+use Rattle.hy_lawful.proofs.PassMays.{OwnMay, AllMay, MayWrite, IsAtWork, swept_may, found_is, free_may}
+
+-- an open transaction goes on as this one
+abbrev pub GoesOn : Setting → State → ℕ → Open → Type 0
+GoesOn setting state number new = OpenPasses setting state.order new × HoldsAlone setting state number (Some new)
+
+-- a turn of an open transaction passes
+abbrev pub PassesTurn : Setting → State → ℕ → Open → Turn → Type 0
+PassesTurn setting state number current Done = Unit {0}
+PassesTurn setting state number current (Waits by) = Unit {0}
+PassesTurn setting state number current Begins = ⊥
+PassesTurn setting state number current (Visits writes phase) = GoesOn setting state number (after_visit writes phase current)
+PassesTurn setting state number current (Answers writes reply took records) =
+    GoesOn setting state number (after_answer writes reply took records current)
+PassesTurn setting state number current Enters =
+    OwnMay setting state number current.begun
+    × (first_hit current.begun.records (map committed_of (drop current.begun.prefix state.order)) ≡ None)
+PassesTurn setting state number current (Ends ending) = EndPasses setting state.order (record { begun = current.begun; ending = ending })
+
+abbrev NotStamping : Phase → Type 0
+NotStamping (Working visited count) = Unit {0}
+NotStamping (Stamping visited) = ⊥
+NotStamping (Undoing visited cause) = Unit {0}
+
+-- a turn of a transaction at work
+abbrev WorkTurn : Setting → State → ℕ → Begun → Turn → Type 0
+WorkTurn setting state number begun Done = Unit {0}
+WorkTurn setting state number begun (Waits by) = Unit {0}
+WorkTurn setting state number begun Begins = ⊥
+WorkTurn setting state number begun (Visits writes phase) = AllMay setting state number begun writes × NotStamping phase
+WorkTurn setting state number begun (Answers writes reply took records) = AllMay setting state number begun writes
+WorkTurn setting state number begun Enters = first_hit begun.records (map committed_of (drop begun.prefix state.order)) ≡ None
+WorkTurn setting state number begun (Ends ending) = committed_at ending ≡ None
+
+-- ---- statements
+
+read_writes : (setting : Setting) (state : State) (number : ℕ) (begun : Begun) (visited tables : ℕ) (statement : Bound)
+    (gathered : List (List (List Value))) (reply : Reply)
+    → WorkTurn setting state number begun (read_turn setting begun visited tables statement gathered reply)
+read_writes setting state number begun visited tables statement gathered reply = elim (cases_Bool (ltb (suc visited) (setting.chunks * tables))) [
+  | inl t ↦ rw t (tt, tt)
+  | inr f ↦ rw f tt
+]
+
+write_writes : (setting : Setting) (state : State) (number : ℕ) (begun : Begun) (visited count : ℕ) (statement : Bound) (kind : WriteKind) (pred : Condition)
+    (table : ℕ) → IsAtWork setting state number begun
+    → (result : Result (List Write) Cause) → swept setting state number begun kind pred table visited ≡ result
+    → WorkTurn setting state number begun (write_turn setting begun visited count statement kind result)
+write_writes setting state number begun visited count statement kind pred table w (Err cause) e = (tt, tt)
+write_writes setting state number begun visited count statement kind pred table w (Ok writes) e =
+    elim (cases_Bool (ltb (suc visited) setting.chunks)) [
+      | inl t ↦ rw t (swept_may setting state number begun kind pred table visited writes w e, tt)
+      | inr f ↦ rw f (swept_may setting state number begun kind pred table visited writes w e)
+    ]
+
+check_writes : (setting : Setting) (state : State) (number : ℕ) (begun : Begun) (visited : ℕ) (statement : Bound) (found : Bool)
+    → WorkTurn setting state number begun (check_turn setting begun visited statement found)
+check_writes setting state number begun visited statement true = tt
+check_writes setting state number begun visited statement false = (tt, tt)
+
+place_writes : (setting : Setting) (state : State) (number : ℕ) (begun : Begun) (visited chunk : ℕ) (statement : Bound) (table : ℕ) (row : List Value)
+    → IsAtWork setting state number begun → (pos : Option ℕ) → free_position setting state begun table chunk ≡ pos
+    → WorkTurn setting state number begun (place_turn setting begun visited chunk statement table row pos)
+place_writes setting state number begun visited chunk statement table row w (Some pos) e =
+    (free_may setting state number begun table pos w.low (found_is (is_free setting state begun table) (positions_in setting chunk) pos e), tt)
+place_writes setting state number begun visited chunk statement table row w None e = elim (cases_Bool (ltb (suc chunk) setting.chunks)) [
+  | inl t ↦ rw t (tt, tt)
+  | inr f ↦ rw f (tt, tt)
+]
+
+insert_writes : (setting : Setting) (state : State) (number : ℕ) (begun : Begun) (visited : ℕ) (statement : Bound) (table : ℕ) (row : List Value)
+    (key : Option ℕ) → IsAtWork setting state number begun
+    → WorkTurn setting state number begun (insert_turn setting state begun visited statement table row key)
+insert_writes setting state number begun visited statement table row key w = elim (cases_Bool (ltb visited (checks_of setting key))) [
+  | inl t ↦ rw t (check_writes setting state number begun visited statement (sees_key setting state begun table row key visited))
+  | inr f ↦ rw f (place_writes setting state number begun visited (visited - checks_of setting key) statement table row w
+      (free_position setting state begun table (visited - checks_of setting key)) refl)
+]
+
+statement_writes : (setting : Setting) (state : State) (number : ℕ) (begun : Begun) (visited count : ℕ) (statement : Bound)
+    → IsAtWork setting state number begun → WorkTurn setting state number begun (statement_turn setting state number begun visited count statement)
+statement_writes setting state number begun visited count (Select tables ons pred items) w =
+    read_writes setting state number begun visited (length tables) (Select tables ons pred items)
+    (map (rows_seen (view setting state begun)) tables) (answer_of ons pred items (map (rows_seen (view setting state begun)) tables))
+statement_writes setting state number begun visited count (Group table pred key aggregate) w =
+    read_writes setting state number begun visited 1 (Group table pred key aggregate)
+    [] (grouped pred key aggregate (rows_seen (view setting state begun) table))
+statement_writes setting state number begun visited count (Insert table row) w =
+    insert_writes setting state number begun visited (Insert table row) table row (shape_of setting.shapes table).key w
+statement_writes setting state number begun visited count (Update table sets pred) w =
+    write_writes setting state number begun visited count (Update table sets pred) (kind.Set sets) pred table w
+    (swept setting state number begun (kind.Set sets) pred table visited) refl
+statement_writes setting state number begun visited count (Delete table pred) w =
+    write_writes setting state number begun visited count (Delete table pred) kind.Delete pred table w
+    (swept setting state number begun kind.Delete pred table visited) refl
+
+-- ---- what closes a transaction
+
+undone_is : (cause : Cause) → committed_at (ending_of cause) ≡ None
+undone_is RolledBack = refl
+undone_is (Conflict table pos other) = refl
+undone_is (Invalid table pos other statement) = refl
+undone_is (Range table pos) = refl
+undone_is (Full table) = refl
+
+unless_writes : (setting : Setting) (state : State) (number : ℕ) (begun : Begun) (turn : Turn) (by : Option Label)
+    → WorkTurn setting state number begun turn → WorkTurn setting state number begun (unless_blocked by turn)
+unless_writes setting state number begun turn None h = h
+unless_writes setting state number begun turn (Some by) h = tt
+
+undo_writes : (setting : Setting) (state : State) (number : ℕ) (begun : Begun) (visited : ℕ) (cause : Cause)
+    → WorkTurn setting state number begun (undo_turn setting state number begun visited cause)
+undo_writes setting state number begun visited cause = elim (cases_Bool (ltb visited (length (written_chunks setting begun.own)))) [
+  | inl t ↦ rw t (tt, tt)
+  | inr f ↦ rw f (unless_writes setting state number begun (Ends (ending_of cause)) (blocker state number) (undone_is cause))
+]
+
+validated_writes : (setting : Setting) (state : State) (number : ℕ) (begun : Begun) (hit : Option Cause)
+    → first_hit begun.records (map committed_of (drop begun.prefix state.order)) ≡ hit
+    → WorkTurn setting state number begun (validated_turn hit)
+validated_writes setting state number begun None e = e
+validated_writes setting state number begun (Some cause) e = (tt, tt)
+
+commit_writes : (setting : Setting) (state : State) (number : ℕ) (begun : Begun)
+    → WorkTurn setting state number begun (commit_turn setting state number begun)
+commit_writes setting state number begun = unless_writes setting state number begun
+    (cond (wrote_nothing begun.own) (Ends ways.Read) (validated_turn (first_hit begun.records (map committed_of (drop begun.prefix state.order)))))
+    (blocker state number)
+    (elim (cases_Bool (wrote_nothing begun.own)) [
+      | inl t ↦ rw t refl
+      | inr f ↦ rw f (validated_writes setting state number begun (first_hit begun.records (map committed_of (drop begun.prefix state.order))) refl)
+    ])
+
+closing_writes : (setting : Setting) (state : State) (number : ℕ) (begun : Begun) (commits : Bool)
+    → WorkTurn setting state number begun (closing_turn setting state number begun commits)
+closing_writes setting state number begun true = commit_writes setting state number begun
+closing_writes setting state number begun false = undo_writes setting state number begun 0 RolledBack
+
+working_writes : (setting : Setting) (state : State) (number : ℕ) (txn : Txn) (begun : Begun) (visited count : ℕ) → IsAtWork setting state number begun
+    → (statement : Option Bound) → WorkTurn setting state number begun (working_turn setting state number txn begun visited count statement)
+working_writes setting state number txn begun visited count w None = closing_writes setting state number begun txn.commits
+working_writes setting state number txn begun visited count w (Some statement) = statement_writes setting state number begun visited count statement w
+
+-- ---- what the open transaction is then
+
+phase_clear : (setting : Setting) (order : List Entry) (begun : Begun) (phase : Phase) → NotStamping phase
+    → HeldClear setting order (record { begun = begun; phase = phase }) → PhasePasses setting order begun phase
+phase_clear setting order begun (Working visited count) n h = h
+phase_clear setting order begun (Stamping visited) n h = absurd n
+phase_clear setting order begun (Undoing visited cause) n h = h
+
+goes_on : (setting : Setting) (state : State) (number : ℕ) (begun : Begun) (writes : List Write) (new : Open) → IsAtWork setting state number begun
+    → AllMay setting state number begun writes → new.begun.own ≡ with_writes begun.own writes → new.begun.prefix ≡ begun.prefix
+    → new.begun.low ≡ begun.low → NotStamping new.phase → GoesOn setting state number new
+goes_on setting state number begun writes new w all own prefix low n = (
+  record {
+    low = omega (arith, w.low, prefix, low);
+    phase = phase_clear setting state.order new.begun new.phase n (λ table pos h rank from. (may table pos h).clear rank (omega (arith, from, prefix)));
+  },
+  λ other table pos apart h. (may table pos h).alone other apart,
+)
+  where
+    may : (table pos : ℕ) → holds setting table pos (Some new) ≡ true → MayWrite setting state number begun table pos
+    may table pos h = written_is (MayWrite setting state number begun) writes begun.own all w.may table pos
+        (ap (λ (own : Own). is_some (item_at own table pos)) (sym own)
+        ∙ (and_parts (is_some (item_at new.begun.own table pos))
+        (is_among (drop (undone new.phase) (written_chunks setting new.begun.own)) table (chunk_of setting pos)) h).0)
+
+writes_pass : (setting : Setting) (state : State) (number : ℕ) (current : Open) → IsAtWork setting state number current.begun → (turn : Turn)
+    → WorkTurn setting state number current.begun turn → PassesTurn setting state number current turn
+writes_pass setting state number current w Done h = tt
+writes_pass setting state number current w (Waits by) h = tt
+writes_pass setting state number current w Begins h = absurd h
+writes_pass setting state number current w (Visits writes phase) h =
+    goes_on setting state number current.begun writes (after_visit writes phase current) w h.0 refl refl refl h.1
+writes_pass setting state number current w (Answers writes reply took records) h =
+    goes_on setting state number current.begun writes (after_answer writes reply took records current) w h refl refl refl tt
+writes_pass setting state number current w Enters h = (w.may, h)
+writes_pass setting state number current w (Ends ending) h =
+    subst (λ (rank : Option ℕ). IfSome rank (Passed setting state.order current.begun)) (sym h) tt
+
+unless_passes : (setting : Setting) (state : State) (number : ℕ) (current : Open) (turn : Turn) (by : Option Label)
+    → PassesTurn setting state number current turn → PassesTurn setting state number current (unless_blocked by turn)
+unless_passes setting state number current turn None h = h
+unless_passes setting state number current turn (Some by) h = tt
+
+-- a chunk less is held
+holds_less : (setting : Setting) (begun : Begun) (visited : ℕ) (cause : Cause) (table pos : ℕ)
+    → holds setting table pos (Some (record { begun = begun; phase = Undoing (suc visited) cause })) ≡ true
+    → holds setting table pos (Some (record { begun = begun; phase = Undoing visited cause })) ≡ true
+holds_less setting begun visited cause table pos h =
+    let parts = and_parts (is_some (item_at begun.own table pos))
+    (is_among (drop (suc visited) (written_chunks setting begun.own)) table (chunk_of setting pos)) h in
+    and_from (is_some (item_at begun.own table pos)) (is_among (drop visited (written_chunks setting begun.own)) table (chunk_of setting pos))
+    parts.0 (fewer_among visited (written_chunks setting begun.own) table (chunk_of setting pos) parts.1)
+
+undo_passes : (setting : Setting) (state : State) (number : ℕ) (begun : Begun) (visited : ℕ) (cause : Cause) → begun.low ≤ begun.prefix
+    → HeldClear setting state.order (record { begun = begun; phase = Undoing visited cause })
+    → HoldsAlone setting state number (Some (record { begun = begun; phase = Undoing visited cause }))
+    → PassesTurn setting state number (record { begun = begun; phase = Undoing visited cause }) (undo_turn setting state number begun visited cause)
+undo_passes setting state number begun visited cause low clear alone = elim (cases_Bool (ltb visited (length (written_chunks setting begun.own)))) [
+  | inl t ↦ rw t (
+    record { low = low; phase = λ table pos h. clear table pos (holds_less setting begun visited cause table pos h) },
+    λ other table pos apart h. alone other table pos apart (holds_less setting begun visited cause table pos h),
+  )
+  | inr f ↦ rw f (unless_passes setting state number (record { begun = begun; phase = Undoing visited cause }) (Ends (ending_of cause))
+      (blocker state number)
+      (subst (λ (rank : Option ℕ). IfSome rank (Passed setting state.order begun)) (sym (undone_is cause)) tt))
+]
+
+stamp_passes : (setting : Setting) (state : State) (number : ℕ) (begun : Begun) (visited : ℕ) → begun.low ≤ begun.prefix
+    → Passed setting state.order begun (length state.order - 1)
+    → HoldsAlone setting state number (Some (record { begun = begun; phase = Stamping visited }))
+    → PassesTurn setting state number (record { begun = begun; phase = Stamping visited }) (stamp_turn setting state begun visited)
+stamp_passes setting state number begun visited low passed alone = elim (cases_Bool (ltb visited (length (written_chunks setting begun.own)))) [
+  | inl t ↦ rw t (record { low = low; phase = passed }, alone)
+  | inr f ↦ rw f passed
+]
+
+-- the turn of an open transaction
+pub phase_passes : (setting : Setting) (state : State) → Fits setting state → Passes setting state → (number : ℕ) (txn : Txn) (begun : Begun)
+    → FitsTables setting begun.own → (phase : Phase) → OpenPasses setting state.order (record { begun = begun; phase = phase })
+    → HoldsAlone setting state number (Some (record { begun = begun; phase = phase }))
+    → PassesTurn setting state number (record { begun = begun; phase = phase }) (phase_turn setting state number txn begun phase)
+phase_passes setting state fits passes number txn begun own (Working visited count) present alone =
+    let works : IsAtWork setting state number begun = record {
+      fits = fits;
+      passes = passes;
+      own = own;
+      low = present.low;
+      may = λ table pos e.
+          let held : holds setting table pos (Some (record { begun = begun; phase = Working visited count })) ≡ true =
+          and_from (is_some (item_at begun.own table pos)) (is_among (written_chunks setting begun.own) table (chunk_of setting pos)) e
+          (own_among setting begun.own table pos own e) in
+          record { clear = present.phase table pos held; alone = λ other apart. alone other table pos apart held };
+    } in
+    writes_pass setting state number (record { begun = begun; phase = Working visited count }) works
+    (working_turn setting state number txn begun visited count (slice_get txn.statements (length begun.replies)))
+    (working_writes setting state number txn begun visited count works (slice_get txn.statements (length begun.replies)))
+phase_passes setting state fits passes number txn begun own (Stamping visited) present alone =
+    stamp_passes setting state number begun visited present.low present.phase alone
+phase_passes setting state fits passes number txn begun own (Undoing visited cause) present alone =
+    undo_passes setting state number begun visited cause present.low present.phase alone

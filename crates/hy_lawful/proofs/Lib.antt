@@ -14,3 +14,6 @@ pub mod Over
 pub mod Endings
 pub mod Followers
 pub mod Laws
+pub mod RunSweeps
+pub mod RunFree
+pub mod RunAnswers

@@ -17,3 +17,6 @@ pub mod Laws
 pub mod RunSweeps
 pub mod RunFree
 pub mod RunAnswers
+pub mod RunVisits
+pub mod RunInserts
+pub mod RunTurns

@@ -20,3 +20,4 @@ pub mod RunAnswers
 pub mod RunVisits
 pub mod RunInserts
 pub mod RunTurns
+pub mod RunStates

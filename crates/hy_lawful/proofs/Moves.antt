@@ -36,7 +36,7 @@ at_other : (state : State) (order : List Entry) (mark : Option ℕ) (number : �
 at_other state order mark number session other apart = get_or-set_other state.sessions number other session fresh apart
 
 -- what holds of the session and of the others holds of each
-sessions_moved : (P : ℕ → Session → Type 0) (state : State) (order : List Entry) (mark : Option ℕ) (number : ℕ) (session : Session)
+pub sessions_moved : (P : ℕ → Session → Type 0) (state : State) (order : List Entry) (mark : Option ℕ) (number : ℕ) (session : Session)
     → number < length state.sessions → P number session → ((other : ℕ) → (other ≡ number → ⊥) → P other (session_at state other))
     → (other : ℕ) → P other (session_at (moved_to state order mark number session) other)
 sessions_moved P state order mark number session there here others other = elim (cases_eq other number) [

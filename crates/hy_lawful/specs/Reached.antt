@@ -51,9 +51,10 @@ abbrev pub AllPassedUnseen : Setting → State → Type 0
 AllPassedUnseen setting state = (number before : ℕ) (finished : Finished) → slice_get (session_at state number).done before ≡ Some finished
     → IfSome (committed_at finished.ending) (PassedUnseen setting state finished.begun)
 
--- these hold of every state that the machine comes to
+-- these hold of every state that the machine comes to; tables without chunks have no positions, yet an INSERT looks
+-- through a first chunk before it is refused, so there is to be one
 abbrev pub ReachedHaveRun : Type 0
-ReachedHaveRun = (setting : Setting) (state : State) → IsReached setting state → AllHaveRun setting state
+ReachedHaveRun = (setting : Setting) (state : State) → 0 < setting.chunks → IsReached setting state → AllHaveRun setting state
 
 abbrev pub ReachedPassUnseen : Type 0
 ReachedPassUnseen = (setting : Setting) (state : State) → IsReached setting state → AllPassedUnseen setting state

@@ -1,5 +1,5 @@
 -- A position that is free for a transaction has nothing: not in the tables of its start, and not among its own writes.
-use Rattle.std.proofs.Common.{◌≡◌, ℕ, zero, suc, ◌+◌, ◌*◌, ◌/◌, ◌<◌, ◌≤◌, List, [], ◌∷◌, ◌++◌, Option, None, Some, Bool, true, false, not, length, map, filter}
+use Rattle.std.proofs.Common.{◌≡◌, ℕ, zero, suc, ◌+◌, ◌*◌, ◌/◌, ◌<◌, ◌≤◌, List, [], ◌∷◌, Option, None, Some, Bool, true, false, not, map, filter}
 use Rattle.std.proofs.Common.{cond, get_or, take, drop, is_some, refl, ap, sym, ◌∙◌, subst, arith, inl, inr}
 use Rattle.std.specs.Prelude.{◌&&◌, ◌||◌, ◌==◌, find}
 use Rattle.std.specs.List.{list_any, range_with_len}
@@ -16,7 +16,7 @@ use Rattle.hy_machine.specs.declared.Entry.{Entry}
 use Rattle.hy_machine.specs.declared.Pair.{Pair}
 use Rattle.hy_machine.specs.declared.Phase.TheVariants.{Working}
 use Rattle.hy_machine.specs.Positions.{item_at}
-use Rattle.hy_machine.specs.Tables.{Cell, Tables, Own, capacity, positions_in, chunk_of, after_entry, history, opening_tables}
+use Rattle.hy_machine.specs.Tables.{Cell, Tables, Own, capacity, chunk_of, after_entry, history, opening_tables}
 use Rattle.hy_machine.specs.Writes.{has_written_in, chunks_in_table, chunks_from, written_chunks, is_among}
 use Rattle.hy_machine.specs.Sessions.{fresh, session_at, snapshot}
 use Rattle.hy_machine.specs.Holding.{holds, is_held, has_pair, is_free}
@@ -209,7 +209,7 @@ free_has_nothing setting state number begun visited count table pos is low p h =
     record {
       tables_none = kept_since (opening_tables setting) state.order begun.low begun.prefix table pos low
           (not_true (list_any (has_pair table pos) (drop begun.low state.order)) (and_right (free && clear) unwritten h))
-          ∙ is_none (item_at (snapshot setting state begun.low) table pos) 
+          ∙ is_none (item_at (snapshot setting state begun.low) table pos)
           (and_right free clear (and_left (free && clear) unwritten h));
       own_none = own_none setting begun.own table pos (item_at begun.own table pos) refl p
           (held_not setting table pos number state.sessions (record { begun = begun; phase = Working visited count }) is

@@ -1,7 +1,7 @@
 -- What a visit of an INSERT makes of what its transaction has run.
-use Rattle.std.proofs.Common.{◌≡◌, ℕ, zero, suc, ◌+◌, ◌-◌, ◌*◌, ◌<◌, ◌≤◌, List, [], ◌∷◌, Option, None, Some, Bool, true, false, length}
-use Rattle.std.proofs.Common.{cond, not, is_some, ltb, refl, ap, sym, ◌∙◌, subst, arith, inl, inr, mul-le-mul_right}
-use Rattle.std.specs.Prelude.{◌&&◌, if◌then◌else◌}
+use Rattle.std.proofs.Common.{◌≡◌, ℕ, suc, ◌+◌, ◌-◌, ◌*◌, ◌<◌, ◌≤◌, List, [], Option, None, Some, Bool, true, false, length}
+use Rattle.std.proofs.Common.{cond, not, is_some, ltb, refl, ap, ◌∙◌, arith, inl, inr, mul-le-mul_right}
+use Rattle.std.specs.Prelude.{◌&&◌}
 use Rattle.std.specs.List.{list_any, range_with_len}
 use Rattle.std.proofs.lemmas.Bool.{cases_Bool, cases_lt, lt-ltb, le-ltb, ltb-true}
 use Rattle.hy_value.specs.declared.Value.{Value}
@@ -25,7 +25,6 @@ use Rattle.hy_machine.specs.Visits.{has_key_in, sees_key, free_position, checks_
 use Rattle.hy_machine.specs.Turns.{check_turn, place_turn, insert_turn}
 use Rattle.hy_replay.specs.Ran.{One, Ran, has_key_at, placed_at}
 use Rattle.hy_lawful.proofs.RunFree.{PassesAt, any_within, any_at, none_at, none_within, found_at, HasNothing, free_has_nothing}
-use Rattle.hy_lawful.proofs.RunAnswers.{AnswersNext}
 use Rattle.hy_lawful.proofs.RunVisits.{HasLooked, IsNext, RunTurn, visits}
 
 -- ---- the key
@@ -131,7 +130,8 @@ place_run setting state statements number begun given visited count table row l 
       here = l.next.here;
       position = there;
       gives = ap (λ (own : Own). placed_at setting tables own table row (logged setting begun table row) (Some pos)) l.looked.own
-          ∙ (ap (λ (b : Bool). cond (not b && not (is_some (item_at begun.own table pos)) && not (is_some (item_at tables table pos))) (Some placed) None) nowhere
+          ∙ (ap (λ (found : Bool). cond (not found && not (is_some (item_at begun.own table pos)) && not (is_some (item_at tables table pos)))
+          (Some placed) None) nowhere
           ∙ (ap (λ (item : Option Cell). cond (not (is_some item) && not (is_some (item_at tables table pos))) (Some placed) None) nothing.own_none
           ∙ ap (λ (cell : Cell). cond (not (is_some cell)) (Some placed) None) nothing.tables_none));
     }

@@ -1,6 +1,6 @@
 -- In each state that the machine comes to the transactions have run: what holds of the opening and stays true along steps.
-use Rattle.std.proofs.Common.{◌≡◌, ℕ, zero, suc, ◌+◌, ◌<◌, ◌≤◌, List, [], ◌∷◌, ◌++◌, Option, None, Some, length, take, refl, ap, sym, ◌∙◌, subst, arith}
-use Rattle.std.proofs.Common.{inl, inr, ◌⊎◌, min}
+use Rattle.std.proofs.Common.{◌≡◌, ℕ, zero, suc, ◌<◌, ◌≤◌, List, [], ◌∷◌, ◌++◌, Option, None, Some, length, take, refl, ap, sym, subst, arith}
+use Rattle.std.proofs.Common.{inl, inr, ◌⊎◌}
 use Rattle.std.proofs.Math.Nat.{min-le_right}
 use Rattle.std.specs.Prelude.{slice_get, IfSome}
 use Rattle.std.specs.Option.{option_map}
@@ -20,13 +20,12 @@ use Rattle.hy_machine.specs.declared.Begun.{Begun}
 use Rattle.hy_machine.specs.declared.Finished.{Finished}
 use Rattle.hy_machine.specs.declared.Entry.{Entry}
 use Rattle.hy_machine.specs.declared.Write.{Write}
-use Rattle.hy_machine.specs.declared.Phase.{Phase}
 use Rattle.hy_machine.specs.declared.Phase.TheVariants.{Working, Stamping}
 use Rattle.hy_machine.specs.declared.Turn.{Turn}
 use Rattle.hy_machine.specs.declared.Turn.TheVariants.{Done, Waits, Begins, Visits, Answers, Enters, Ends}
 use Rattle.hy_machine.specs.Tables.{Tables, history, opening_tables}
 use Rattle.hy_machine.specs.Writes.{blank_own, with_writes}
-use Rattle.hy_machine.specs.Sessions.{fresh, session_at, program_of, txn_at, blocker, least_with, least_prefix, entry_of}
+use Rattle.hy_machine.specs.Sessions.{session_at, txn_at, blocker, least_with, least_prefix, entry_of}
 use Rattle.hy_machine.specs.Outcomes.{statements_in}
 use Rattle.hy_machine.specs.Turns.{unless_blocked, session_turn, phase_turn}
 use Rattle.hy_machine.specs.Steps.{with_session, beginning, after_visit, after_answer, done_with, order_with, after_turn, step_of}
@@ -70,6 +69,10 @@ record SessionRun (setting : Setting) (order : List Entry) (number : ℕ) (sessi
   done : (before : ℕ) (finished : Finished) → slice_get session.done before ≡ Some finished
       → EndedRun setting order (statements_at setting number before) finished
   now : NowRun setting order (statements_at setting number (length session.done)) session.now
+
+-- the statements of a session's transaction that is open or comes next
+abbrev statements_now : Setting → State → ℕ → List Bound
+statements_now setting state number = statements_at setting number (length (session_at state number).done)
 
 abbrev AllRun : Setting → State → Type 0
 AllRun setting state = (number : ℕ) → SessionRun setting state.order number (session_at state number)
@@ -128,10 +131,10 @@ record IsOpen (setting : Setting) (state : State) (number : ℕ) (current : Open
   all : AllRun setting state
   there : number < length state.sessions
   is : (session_at state number).now ≡ Some current
-  run : OpenRun setting state.order (statements_at setting number (length (session_at state number).done)) current
+  run : OpenRun setting state.order (statements_now setting state number) current
 
 goes_on : (setting : Setting) (state : State) (number : ℕ) (new : Open) → AllRun setting state → number < length state.sessions
-    → OpenRun setting state.order (statements_at setting number (length (session_at state number).done)) new
+    → OpenRun setting state.order (statements_now setting state number) new
     → AllRun setting (moved_to state state.order state.mark number (record { done = (session_at state number).done; now = Some new }))
 goes_on setting state number new all there run =
     sessions_moved (SessionRun setting state.order) state state.order state.mark number
@@ -139,12 +142,12 @@ goes_on setting state number new all there run =
 
 answers : (setting : Setting) (state : State) (number : ℕ) (current : Open) (o : IsOpen setting state number current) (writes : List Write) (reply : Reply)
     (took : Option ℕ) (records : List Record)
-    → RunTurn setting (tables_at setting state.order current.begun.prefix) (statements_at setting number (length (session_at state number).done)) current.begun
-    o.run.given (Answers writes reply took records)
-    → OpenRun setting state.order (statements_at setting number (length (session_at state number).done)) (after_answer writes reply took records current)
+    → RunTurn setting (tables_at setting state.order current.begun.prefix) (statements_now setting state number)
+    current.begun o.run.given (Answers writes reply took records)
+    → OpenRun setting state.order (statements_now setting state number) (after_answer writes reply took records current)
 answers setting state number current o writes reply took records h =
     let tables : Tables = tables_at setting state.order current.begun.prefix in
-    let statements : List Bound = statements_at setting number (length (session_at state number).done) in
+    let statements : List Bound = statements_now setting state number in
     let given : Ran = with_answer o.run.given (record { own = with_writes current.begun.own writes; reply = reply; records = records }) in
     record {
       given = given;
@@ -163,15 +166,21 @@ enters setting state number current o same =
     let more : List Entry = entry_of setting state number current.begun ∷ [] in
     let grown : SessionRun setting (state.order ++ more) number (session_at state number) =
     session_grows setting state.order more number (session_at state number) (o.all number) in
-    let stamps : OpenRun setting state.order (statements_at setting number (length (session_at state number).done))
+    let stamps : OpenRun setting state.order (statements_now setting state number)
     (after_visit [] (Stamping 0) current) =
-    record { given = o.run.given; run = written_run setting (tables_at setting state.order current.begun.prefix)
-    (statements_at setting number (length (session_at state number).done)) current.begun [] o.run.given o.run.run; stands = same; low = o.run.low; start = o.run.start } in
+    record {
+      given = o.run.given;
+      run = written_run setting (tables_at setting state.order current.begun.prefix)
+          (statements_now setting state number) current.begun [] o.run.given o.run.run;
+      stands = same;
+      low = o.run.low;
+      start = o.run.start;
+    } in
     sessions_moved (SessionRun setting (state.order ++ more)) state (state.order ++ more) (Some number) number
     (record { done = (session_at state number).done; now = Some (after_visit [] (Stamping 0) current) }) o.there
     (record {
       done = grown.done;
-      now = open_grows setting state.order more (statements_at setting number (length (session_at state number).done)) (after_visit [] (Stamping 0) current)
+      now = open_grows setting state.order more (statements_now setting state number) (after_visit [] (Stamping 0) current)
           stamps;
     })
     (λ other apart. session_grows setting state.order more other (session_at state other) (o.all other))
@@ -209,8 +218,8 @@ ends setting state number current o ending wrote =
 
 -- a turn of an open transaction leaves what has run
 turn_runs : (setting : Setting) (state : State) (number : ℕ) (current : Open) (o : IsOpen setting state number current) (turn : Turn)
-    → RunTurn setting (tables_at setting state.order current.begun.prefix) (statements_at setting number (length (session_at state number).done)) current.begun
-    o.run.given turn
+    → RunTurn setting (tables_at setting state.order current.begun.prefix) (statements_now setting state number)
+    current.begun o.run.given turn
     → AllRun setting (after_turn setting state number turn).0
 turn_runs setting state number current o Done h = o.all
 turn_runs setting state number current o (Waits by) h = o.all
@@ -220,8 +229,14 @@ turn_runs setting state number current o (Visits writes phase) h =
     (with_session state number (record { done = (session_at state number).done; now = option_map (after_visit writes phase) now })))
     (sym o.is)
     (goes_on setting state number (after_visit writes phase current) o.all o.there
-    (record { given = o.run.given; run = written_run setting (tables_at setting state.order current.begun.prefix)
-    (statements_at setting number (length (session_at state number).done)) current.begun writes o.run.given o.run.run; stands = h; low = o.run.low; start = o.run.start }))
+    (record {
+      given = o.run.given;
+      run = written_run setting (tables_at setting state.order current.begun.prefix)
+          (statements_now setting state number) current.begun writes o.run.given o.run.run;
+      stands = h;
+      low = o.run.low;
+      start = o.run.start;
+    }))
 turn_runs setting state number current o (Answers writes reply took records) h =
     subst (λ (now : Option Open). AllRun setting
     (with_session state number (record { done = (session_at state number).done; now = option_map (after_answer writes reply took records) now })))
@@ -250,7 +265,7 @@ least_below least (session ∷ sessions) = omega (arith, least_below (least_with
 begins : (setting : Setting) (state : State) (number : ℕ) → 0 < setting.chunks → AllRun setting state → number < length state.sessions
     → AllRun setting (after_turn setting state number Begins).0
 begins setting state number chunks all there =
-    let statements : List Bound = statements_at setting number (length (session_at state number).done) in
+    let statements : List Bound = statements_now setting state number in
     let tables : Tables = tables_at setting state.order (length state.order) in
     let nothing : Ran = record { own = blank_own setting; replies = []; records = [] } in
     goes_on setting state number (record { begun = beginning setting state; phase = Working 0 0 }) all there
@@ -276,7 +291,7 @@ session_runs : (setting : Setting) (state : State) (number : ℕ) (txn : Txn) �
 session_runs setting state number txn chunks fits all e None is =
     begins_unless setting state number (blocker state number) all (begins setting state number chunks all (is_there setting state number txn fits e))
 session_runs setting state number txn chunks fits all e (Some current) is =
-    let statements : List Bound = statements_at setting number (length (session_at state number).done) in
+    let statements : List Bound = statements_now setting state number in
     let same : statements ≡ txn.statements = ap statements_in e in
     let present : OpenRun setting state.order statements current = subst (NowRun setting state.order statements) is (all number).now in
     turn_runs setting state number current

@@ -1,6 +1,6 @@
 -- What a session's turn makes of what its open transaction has run.
-use Rattle.std.proofs.Common.{◌≡◌, ℕ, suc, ◌<◌, ◌≤◌, List, [], ◌∷◌, Option, None, Some, Bool, true, false, length, map, drop, cond, ltb, refl, ap, inl, inr}
-use Rattle.std.specs.Prelude.{slice_get, IfSome}
+use Rattle.std.proofs.Common.{◌≡◌, ℕ, suc, ◌<◌, ◌≤◌, List, [], Option, None, Some, Bool, true, false, length, map, drop, cond, ltb, refl, ap, inl, inr}
+use Rattle.std.specs.Prelude.{slice_get}
 use Rattle.std.proofs.lemmas.Bool.{cases_Bool}
 use Rattle.hy_stamp.specs.declared.Label.{Label}
 use Rattle.hy_bound.specs.declared.Txn.{Txn}
@@ -26,7 +26,6 @@ use Rattle.hy_machine.specs.Visits.{swept}
 use Rattle.hy_machine.specs.Turns.{rows_seen, statement_turn, ending_of, unless_blocked}
 use Rattle.hy_machine.specs.Turns.{undo_turn, stamp_turn, validated_turn, commit_turn, closing_turn, working_turn, phase_turn}
 use Rattle.hy_replay.specs.Ran.{Ran, one}
-use Rattle.hy_lawful.specs.Outcomes.{committed_at}
 use Rattle.hy_lawful.proofs.RunVisits.{At, Stands, RunTurn, IsNext, read_run, write_run}
 use Rattle.hy_lawful.proofs.RunInserts.{insert_run}
 

@@ -1,17 +1,13 @@
 -- Where an open transaction stands between its answers, and what a visit of a SELECT, a GROUP BY, an UPDATE or a DELETE makes
 -- of it.
-use Rattle.std.proofs.Common.{◌≡◌, ℕ, zero, suc, ◌+◌, ◌-◌, ◌*◌, ◌<◌, ◌≤◌, List, [], ◌∷◌, ◌++◌, Option, None, Some, Result, Ok, Err, Bool, true, false, length}
-use Rattle.std.proofs.Common.{cond, map, take, drop, not, is_some, ltb, refl, ap, sym, ◌∙◌, subst, arith, inl, inr}
-use Rattle.std.specs.Prelude.{slice_get, IfSome, ◌&&◌, find}
-use Rattle.std.specs.List.{AllByRecursion, list_any, range_with_len}
+use Rattle.std.proofs.Common.{◌≡◌, ℕ, suc, ◌+◌, ◌*◌, ◌<◌, List, [], ◌++◌, Option, None, Some, Result, Ok, Err, false, length}
+use Rattle.std.proofs.Common.{ltb, refl, ap, sym, ◌∙◌, subst, arith, inl, inr}
+use Rattle.std.specs.Prelude.{slice_get, IfSome}
+use Rattle.std.specs.List.{range_with_len}
 use Rattle.std.proofs.lemmas.Bool.{cases_Bool, cases_lt, lt-ltb, ltb-true}
 use Rattle.std.proofs.lemmas.List.{length-append}
 use Rattle.hy_value.specs.declared.Value.{Value}
-use Rattle.hy_stamp.specs.declared.Label.{Label}
-use Rattle.hy_bound.specs.declared.Txn.{Txn}
-use Rattle.hy_bound.specs.declared.Record.{Record}
 use Rattle.hy_bound.specs.declared.Reply.{Reply}
-use Rattle.hy_bound.specs.declared.Reply.TheVariants as reply
 use Rattle.hy_bound.specs.declared.Bound.{Bound}
 use Rattle.hy_bound.specs.declared.Bound.TheVariants.{Select, Group, Insert, Update, Delete}
 use Rattle.hy_bound.specs.declared.WriteKind.{WriteKind}
@@ -19,32 +15,25 @@ use Rattle.hy_bound.specs.declared.WriteKind.TheVariants as kind
 use Rattle.hy_bound.specs.Condition.{Condition}
 use Rattle.hy_bound.specs.Records.{shape_of}
 use Rattle.hy_plan.specs.Reads.{records_of}
-use Rattle.hy_meaning.specs.Statement.{answer_of, grouped}
-use Rattle.hy_render.specs.declared.Ending.{Ending}
-use Rattle.hy_render.specs.declared.Ending.TheVariants as ways
 use Rattle.hy_machine.specs.declared.Setting.{Setting}
 use Rattle.hy_machine.specs.declared.State.{State}
 use Rattle.hy_machine.specs.declared.Begun.{Begun}
 use Rattle.hy_machine.specs.declared.Write.{Write}
 use Rattle.hy_machine.specs.declared.Cause.{Cause}
-use Rattle.hy_machine.specs.declared.Cause.TheVariants.{RolledBack, Conflict, Invalid, Range, Full}
 use Rattle.hy_machine.specs.declared.Phase.{Phase}
 use Rattle.hy_machine.specs.declared.Phase.TheVariants.{Working, Stamping, Undoing}
 use Rattle.hy_machine.specs.declared.Turn.{Turn}
 use Rattle.hy_machine.specs.declared.Turn.TheVariants.{Done, Waits, Begins, Visits, Answers, Enters, Ends}
 use Rattle.hy_machine.specs.Positions.{item_at}
 use Rattle.hy_machine.specs.Tables.{Cell, Tables, Own, capacity, positions_in, over}
-use Rattle.hy_machine.specs.Writes.{with_write, with_writes, wrote_nothing, written_chunks}
-use Rattle.hy_machine.specs.Sessions.{session_at, snapshot, view, blocker}
-use Rattle.hy_machine.specs.Holding.{opponent, is_free}
-use Rattle.hy_machine.specs.Validation.{committed_of, first_hit}
-use Rattle.hy_machine.specs.Visits.{has_key_in, verdict, verdict_at, sweep, swept, sees_key, free_position, checks_of}
-use Rattle.hy_machine.specs.Turns.{rows_seen, told_by, read_turn, write_turn, check_turn, place_turn, insert_turn, statement_turn, ending_of, unless_blocked}
-use Rattle.hy_machine.specs.Turns.{undo_turn, stamp_turn, validated_turn, commit_turn, closing_turn, working_turn, phase_turn}
-use Rattle.hy_replay.specs.Ran.{One, Ran, writes_at, changed_by, has_key_at, placed_at, one}
+use Rattle.hy_machine.specs.Writes.{with_writes}
+use Rattle.hy_machine.specs.Sessions.{snapshot}
+use Rattle.hy_machine.specs.Holding.{opponent}
+use Rattle.hy_machine.specs.Visits.{has_key_in, verdict, verdict_at, sweep, swept, checks_of}
+use Rattle.hy_machine.specs.Turns.{told_by, read_turn, write_turn}
+use Rattle.hy_replay.specs.Ran.{Ran, writes_at, changed_by, one}
 use Rattle.hy_lawful.specs.Outcomes.{committed_at}
 use Rattle.hy_lawful.proofs.RunSweeps.{alike_over, writes_apart, writes_joined, range_joined, sweep_joined, sweep_same, sweep_below, verdict_alone}
-use Rattle.hy_lawful.proofs.RunFree.{PassesAt, any_within, any_at, none_at, none_within, found_at, HasNothing, free_has_nothing}
 use Rattle.hy_lawful.proofs.RunAnswers.{AnswersNext}
 
 -- ---- where a transaction stands
@@ -164,11 +153,11 @@ swept_more setting state number begun given visited count kind pred table writes
     ∙ sweep_joined table judge (range_with_len 0 start) (positions_in setting visited) s.writes writes s.swept
     (sweep_same table (verdict_at setting state number begun kind pred table) judge start setting.rows
     (λ pos cell from h.
-      ap (verdict kind pred table pos None)
-      (alike_over tables given.own begun.own table pos
-      (sym (writes_apart given.own s.writes table pos (sweep_below table judge 0 start pos s.writes (omega arith) s.swept))
-      ∙ ap (λ (own : Own). item_at own table pos) s.own))
-      ∙ verdict_alone kind pred table pos (opponent setting state number begun.prefix table pos) (item_at (over tables begun.own) table pos) cell h)
+    ap (verdict kind pred table pos None)
+    (alike_over tables given.own begun.own table pos
+    (sym (writes_apart given.own s.writes table pos (sweep_below table judge 0 start pos s.writes (omega arith) s.swept))
+    ∙ ap (λ (own : Own). item_at own table pos) s.own))
+    ∙ verdict_alone kind pred table pos (opponent setting state number begun.prefix table pos) (item_at (over tables begun.own) table pos) cell h)
     writes e)
 
 pub write_run : (setting : Setting) (state : State) (statements : List Bound) (number : ℕ) (begun : Begun) (given : Ran) (visited count : ℕ) (statement : Bound)

@@ -26,3 +26,10 @@ pub mod PassStates
 pub mod PassMays
 pub mod PassTurns
 pub mod PassSteps
+pub mod RunSweeps
+pub mod RunFree
+pub mod RunAnswers
+pub mod RunVisits
+pub mod RunInserts
+pub mod RunTurns
+pub mod RunStates

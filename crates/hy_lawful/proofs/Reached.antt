@@ -30,13 +30,13 @@ use Rattle.hy_lawful.proofs.Turns.{before_of, FitsTurn, phase_fits}
 
 -- ---- the opening
 
-fresh_at : (setting : Setting) (number : ℕ) → session_at (opening_of setting) number ≡ fresh
+pub fresh_at : (setting : Setting) (number : ℕ) → session_at (opening_of setting) number ≡ fresh
 fresh_at setting number = get_or-map (λ (txns : List Txn). fresh) setting.programs number []
 
 fresh_fits : (setting : Setting) (number : ℕ) → SessionFits setting [] None number fresh
 fresh_fits setting number = record { done = tt; few = omega arith; climbs = tt; top = omega arith; now = tt }
 
-opening_fits : (setting : Setting) → Fits setting (opening_of setting)
+pub opening_fits : (setting : Setting) → Fits setting (opening_of setting)
 opening_fits setting = record {
   count = length-map setting.programs (λ (txns : List Txn). fresh);
   sessions = λ number. subst (SessionFits setting [] None number) (sym (fresh_at setting number)) (fresh_fits setting number);
@@ -192,7 +192,7 @@ by_txn : (setting : Setting) (state : State) (number : ℕ) → Fits setting sta
 by_txn setting state number fits None e = fits
 by_txn setting state number fits (Some txn) e = session_fits setting state number txn fits e (session_at state number).now refl
 
-step_fits : (setting : Setting) (state : State) (number : ℕ) → Fits setting state → Fits setting (step_of setting state number).0
+pub step_fits : (setting : Setting) (state : State) (number : ℕ) → Fits setting state → Fits setting (step_of setting state number).0
 step_fits setting state number fits = by_txn setting state number fits (txn_at setting number (session_at state number)) refl
 
 steps_fit : (setting : Setting) (state : State) (numbers : List ℕ) → Fits setting state → Fits setting (after_steps setting state numbers)

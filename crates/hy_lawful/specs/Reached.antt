@@ -1,12 +1,11 @@
 -- What holds of every state that the machine comes to: what its transactions did is what their statements come to over
 -- the tables of their start, and what was committed since then is unseen by those that stand in the commit order.
-use Rattle.std.specs.Prelude.{◌≡◌, ℕ, suc, ◌<◌, ◌≤◌, List, Option, Some, IfSome, length, take, slice_get}
+use Rattle.std.specs.Prelude.{◌≡◌, ℕ, suc, ◌<◌, ◌≤◌, List, Some, IfSome, length, take, slice_get}
 use Rattle.std.specs.List.{AllByRecursion}
 use Rattle.hy_bound.specs.declared.Bound.{Bound}
 use Rattle.hy_machine.specs.declared.Setting.{Setting}
 use Rattle.hy_machine.specs.declared.State.{State}
 use Rattle.hy_machine.specs.declared.Begun.{Begun}
-use Rattle.hy_machine.specs.declared.Entry.{Entry}
 use Rattle.hy_machine.specs.declared.Finished.{Finished}
 use Rattle.hy_machine.specs.Tables.{over}
 use Rattle.hy_machine.specs.Sessions.{session_at, program_of, snapshot}
@@ -51,9 +50,10 @@ abbrev pub AllPassedUnseen : Setting → State → Type 0
 AllPassedUnseen setting state = (number before : ℕ) (finished : Finished) → slice_get (session_at state number).done before ≡ Some finished
     → IfSome (committed_at finished.ending) (PassedUnseen setting state finished.begun)
 
--- these hold of every state that the machine comes to
+-- these hold of every state that the machine comes to; tables without chunks have no positions, yet an INSERT looks
+-- through a first chunk before it is refused, so there is to be one
 abbrev pub ReachedHaveRun : Type 0
-ReachedHaveRun = (setting : Setting) (state : State) → IsReached setting state → AllHaveRun setting state
+ReachedHaveRun = (setting : Setting) (state : State) → 0 < setting.chunks → IsReached setting state → AllHaveRun setting state
 
 abbrev pub ReachedPassUnseen : Type 0
 ReachedPassUnseen = (setting : Setting) (state : State) → IsReached setting state → AllPassedUnseen setting state

@@ -228,13 +228,13 @@ end_serial laws setting state end = record {
 -- ---- runs
 
 pub serial_runs : RunsAreSteps → RunsEnd → ReachedHaveRun → ReachedPassUnseen → RunsAgain → RunsKeepWidths → RunsAreAlone → SerialRuns
-serial_runs steps ends ran unseen again keeps alone setting schedule script =
+serial_runs steps ends ran unseen again keeps alone setting schedule chunked script =
     let state : State = run_of setting schedule in
     let reached : IsReached setting state = steps setting schedule in
     end_serial (record { again = again; keeps = keeps; alone = alone }) setting state
     (record {
       over = is_over setting state (reached_fits setting state reached) (ends setting schedule);
-      ran = ran setting state reached;
+      ran = ran setting state chunked reached;
       unseen = unseen setting state reached;
       script = script;
     })

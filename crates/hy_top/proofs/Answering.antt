@@ -19,6 +19,7 @@ use Rattle.hy_lawful.specs.Lawful.{Lawful}
 use Rattle.hy_lawful.specs.Serial.{IsSerial}
 use Rattle.hy_lawful.specs.Laws.{SerialRuns}
 use Rattle.hy_words.specs.declared.Command.{Command}
+use Rattle.hy_words.specs.Words.{IsWithin}
 use Rattle.hy_words.specs.declared.Command.TheVariants.{Run, Check, Gen}
 use Rattle.hy_top.specs.Lines.{refusal_line_of}
 use Rattle.hy_top.specs.Program.{bytes_read, bytes_left, options_by, made_by, comes_to}
@@ -78,17 +79,30 @@ pub record Theorem : Type 0 where
   pub lawful : (setting : Setting) (schedule : List Item) → Lawful setting (outcome_of setting (run_of setting schedule))
   pub serial : SerialRuns
 
--- what is read fits
-abbrev pub ReadFits : Type 0
-ReadFits = (bytes : List ℕ) (options : Options) (script : Script) → Reads bytes options (Ok script)
-    → Fits (setting_at script).shapes ((setting_at script).chunks * (setting_at script).rows) (setting_at script).first (setting_at script).programs
+-- what is read fits, and is of tables that have chunks
+pub record FitsAsRead (script : Script) : Type 0 where
+  pub fits : Fits (setting_at script).shapes ((setting_at script).chunks * (setting_at script).rows) (setting_at script).first (setting_at script).programs
+  pub chunked : 0 < (setting_at script).chunks
 
-pub read_fits : ((bytes : List ℕ) (options : Options) (script : Script) → Reads bytes options (Ok script)
+abbrev pub ReadFits : Command → List ℕ → Type 0
+ReadFits command bytes = (script : Script) → Spells command bytes script → FitsAsRead script
+
+some_chunks : (command : Command) → IsWithin command → 0 < (options_by command).chunks
+some_chunks (Run prune chunks rows) within = within.0
+some_chunks (Check chunks rows) within = within.0
+some_chunks (Gen seed sessions txns) within = omega arith
+
+pub read_fits : (command : Command) (bytes : List ℕ) → IsWithin command
+    → ((bytes : List ℕ) (options : Options) (script : Script) → Reads bytes options (Ok script)
     → Fits (catalog_shapes script.catalog) (options.chunks * options.rows) script.rows (map (λ session. session.txns) script.sessions))
-    → ((bytes : List ℕ) (options : Options) (script : Script) → Reads bytes options (Ok script) → script.options ≡ options) → ReadFits
-read_fits fits same bytes options script s =
-    subst (λ (o : Options). Fits (catalog_shapes script.catalog) (o.chunks * o.rows) script.rows (map (λ session. session.txns) script.sessions))
-    (sym (same bytes options script s)) (fits bytes options script s)
+    → ((bytes : List ℕ) (options : Options) (script : Script) → Reads bytes options (Ok script) → script.options ≡ options) → ReadFits command bytes
+read_fits command bytes within fits same script s =
+    let is : options_by command ≡ script.options = sym (same bytes (options_by command) script s) in
+    record {
+      fits = subst (λ (o : Options). Fits (catalog_shapes script.catalog) (o.chunks * o.rows) script.rows (map (λ session. session.txns) script.sessions))
+          is (fits bytes (options_by command) script s);
+      chunked = subst (λ (o : Options). 0 < o.chunks) is (some_chunks command within);
+    }
 
 -- nothing was done for want of memory
 gave_up : (command : Command) (bytes : List ℕ) (script : Script) (status : ℕ) (given : Option Outcome) (before after : Option (List ℕ)) → Once → Spells command bytes script → status ≡ 5 → IsNone given → Answers command bytes status given before after
@@ -106,7 +120,7 @@ not_two : (status : ℕ) → (status ≡ 0) ⊎ (status ≡ 4) → status ≡ 2 
 not_two status ends two = ⊎_elim (λ e. let never : ⊥ = omega arith in never) (λ e. let never : ⊥ = omega arith in never) ends
 
 -- what a command did that runs its script is an answer
-ran_answers : (command : Command) (bytes : List ℕ) (script : Script) (status : ℕ) (given : Option Outcome) (before after : Option (List ℕ)) → Once → Theorem → ReadFits → IsRun command
+ran_answers : (command : Command) (bytes : List ℕ) (script : Script) (status : ℕ) (given : Option Outcome) (before after : Option (List ℕ)) → Once → Theorem → ReadFits command bytes → IsRun command
     → Spells command bytes script → given ≡ Some (comes_to script) → (status ≡ 0) ⊎ (status ≡ 4) → Does command script status given before after → Answers command bytes status given before after
 ran_answers command bytes script status given before after once law fit run s is ends did =
     let only : (other : Script) → Spells command bytes other → script ≡ other = λ other t. same_script script other (once bytes (options_by command) (Ok script) (Ok other) s t) in
@@ -118,7 +132,7 @@ ran_answers command bytes script status given before after once law fit run s is
           (given_outcome (Lawful (setting_at script)) given (comes_to script) is (law.lawful (setting_at script) script.schedule));
       serial = λ other t. subst (λ (x : Script). IfSome given (IsSerial (setting_at x))) (only other t)
           (given_outcome (IsSerial (setting_at script)) given (comes_to script) is
-          (law.serial (setting_at script) script.schedule (fit bytes (options_by command) script s)));
+          (law.serial (setting_at script) script.schedule (fit script s).chunked (fit script s).fits));
       outcome_there = λ h. (run, (script, s), ends);
     }
 
@@ -138,7 +152,7 @@ checked_answers chunks rows bytes script status given before after once s done =
     }
 
 -- what was done with a script is an answer to the bytes that spell it
-pub done_answers : (command : Command) (bytes : List ℕ) (script : Script) (status : ℕ) (given : Option Outcome) (before after : Option (List ℕ)) → Once → Theorem → ReadFits → Spells command bytes script
+pub done_answers : (command : Command) (bytes : List ℕ) (script : Script) (status : ℕ) (given : Option Outcome) (before after : Option (List ℕ)) → Once → Theorem → ReadFits command bytes → Spells command bytes script
     → ((status ≡ 5) × IsNone given) ⊎ Does command script status given before after → Answers command bytes status given before after
 done_answers command bytes script status given before after once law fit s (inl none) = gave_up command bytes script status given before after once s none.0 none.1
 done_answers (Run prune chunks rows) bytes script status given before after once law fit s (inr ran) =

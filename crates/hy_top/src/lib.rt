@@ -8,7 +8,7 @@ ghost use Rattle.hy_outside.specs.Telling.{GivesAtMost};
 ghost use Rattle.hy_render.specs.Report.{text};
 ghost use Rattle.hy_render.specs.Summary.{summary_of};
 ghost use Rattle.hy_words.specs.declared.Command.{Command};
-ghost use Rattle.hy_words.specs.Words.{command_of};
+ghost use Rattle.hy_words.specs.Words.{IsWithin, command_of};
 ghost use Rattle.hy_gen.specs.Made.{made};
 ghost use Rattle.hy_top.specs.Lines.{usage_line, refusal_line_of, checked_line};
 ghost use Rattle.hy_top.specs.Program.{bytes_read, bytes_left, options_by, made_by, names_at, comes_to};
@@ -64,7 +64,8 @@ pub fn run<R: Source, W: Sink>(
     ensures given { GivesAtMost (R.rest source.old) (R.rest source.new) (MOST_BYTES + 1) }
 
     // Where these bytes are refused the refusal line is written. Where they spell a script it is run, and the
-    // text of its outcome is written, which is the machine's run of that script, and lawful; or it is checked.
+    // text of its outcome is written: that is what the machine's run of the script comes to, it is lawful, and it is
+    // serializable in the order that it prints; or the script is checked.
     ensures answers { IfSome (command_of (map string_bytes words.now)) (λ command. IsNone (made_by command) → IfSome (R.rest source.old) (λ all.
         (result.status ≡ 3) ⊎ Answers command (bytes_read all) result.status result.outcome (W.written sink.old) (W.written sink.new))) }
 
@@ -143,6 +144,7 @@ fn run_command<R: Source, W: Sink>(
     source: &mut R,
     sink: &mut W,
 ) -> Report
+    requires { IsWithin command }
     ensures bytes { IfSome (R.rest source.old) (λ all.
         (result.status ≡ 3) ⊎ (result.status ≡ 5) ⊎ (R.rest source.new ≡ Some (bytes_left all))) }
     ensures given { GivesAtMost (R.rest source.old) (R.rest source.new) (MOST_BYTES + 1) }
@@ -218,6 +220,7 @@ fn options_of(command: Command) -> Options
 
 /// Does what a command asks for with the script that the bytes spell.
 fn answer<W: Sink>(alloc: Global, command: Command, bytes: &[u8], sink: &mut W) -> Report
+    requires { IsWithin command }
     ensures answers { Answers command bytes.now result.status result.outcome (W.written sink.old) (W.written sink.new) }
     ensures write_fault { result.status ≡ 4 → Rose (W.faults sink.old) (W.faults sink.new) }
     ensures sink_steady { result.status ≢ 4 → W.faults sink.new ≡ W.faults sink.old }

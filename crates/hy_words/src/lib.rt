@@ -149,12 +149,7 @@ fn number(given: &ArgMatches<'_>, name: &str) -> Option<u32>
 
 /// The number that the matches have for an option, where it lies within bounds. The option's parser lets no other
 /// pass; that it is asked here again is what the contract knows it by.
-fn number_between(
-    given: &ArgMatches<'_>,
-    name: &str,
-    least: u32,
-    most: u32,
-) -> Option<u32>
+fn number_between(given: &ArgMatches<'_>, name: &str, least: u32, most: u32) -> Option<u32>
     ensures number { result ≡ number_within least most name.now (rows_of (found_of given.now)) }
     ensures within { IfSome result (λ number. (least ≤ number) × (number ≤ most)) }
 {

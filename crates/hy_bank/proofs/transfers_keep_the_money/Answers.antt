@@ -1,0 +1,4 @@
+use Rattle.hy_bank.proofs.transfers_keep_the_money.Goals as goal
+
+pub returns : goal.returns
+returns c = ?

@@ -50,9 +50,9 @@ own_keys : HaveOwnKeys 0 (map first_row (range_with_len 1 64))
 own_keys = record {
   known = All-map (λ row. column_of row 0 ≢ values.Null) first_row (range_with_len 1 64) (λ k d below h. absurd cc);
   differ = λ i j d before below.
-    let many : length (map first_row (range_with_len 1 64)) ≡ 64 = length-map-range_with_len first_row 1 64 in
-    let last : j < 64 = omega (arith, many) in
-    λ same. ids_differ (1 + i) (1 + j) (omega arith) (sym (ap id_of (first_ids i d (omega arith))) ∙ same ∙ ap id_of (first_ids j d last));
+      let many : length (map first_row (range_with_len 1 64)) ≡ 64 = length-map-range_with_len first_row 1 64 in
+      let last : j < 64 = omega (arith, many) in
+      λ same. ids_differ (1 + i) (1 + j) (omega arith) (sym (ap id_of (first_ids i d (omega arith))) ∙ same ∙ ap id_of (first_ids j d last));
 }
 
 rows_fit : FitsRows (4 * 16) bank_shape first_rows
@@ -94,13 +94,16 @@ abbrev sets_to : Expression → List Assign
 sets_to value = record { column = 1; value = value } ∷ []
 
 update_fits : (value : Expression) (account : ℕ) → LieWithin 2 (set_columns (sets_to value)) → FitsStatement bank_shapes (update_balance value account)
-update_fits value account reads = (omega arith, record {
-  set = All-from_recursion (λ column. column < 2) (1 ∷ []) (omega arith, tt);
-  once = one_alone (λ (one other : Assign). one.column ≢ other.column) (record { column = 1; value = value });
-  spares_key = All-from_recursion (λ (assign : Assign). bank_shape.key ≢ Some assign.column) (sets_to value) ((λ h. absurd cc), tt);
-  values = reads;
-  filter = All-from_recursion (λ column. column < 2) (0 ∷ []) (omega arith, tt);
-})
+update_fits value account reads = (
+  omega arith,
+  record {
+    set = All-from_recursion (λ column. column < 2) (1 ∷ []) (omega arith, tt);
+    once = one_alone (λ (one other : Assign). one.column ≢ other.column) (record { column = 1; value = value });
+    spares_key = All-from_recursion (λ (assign : Assign). bank_shape.key ≢ Some assign.column) (sets_to value) ((λ h. absurd cc), tt);
+    values = reads;
+    filter = All-from_recursion (λ column. column < 2) (0 ∷ []) (omega arith, tt);
+  },
+)
 
 balance_read : LieWithin 2 (1 ∷ [])
 balance_read = All-from_recursion (λ column. column < 2) (1 ∷ []) (omega arith, tt)
@@ -117,10 +120,13 @@ audit_fits = record {
 transfer_fits : (parts : Transfer) → FitsTxn bank_shapes (transfer parts)
 transfer_fits parts = record {
   few = omega arith;
-  fit = All-from_recursion (FitsStatement bank_shapes) (transfer parts).statements
-      (balance_fits parts.source,
-      (update_fits (Sub (Column 1) (Literal (int parts.amount))) parts.source balance_read,
-      (update_fits (Add (Column 1) (Literal (int parts.amount))) parts.target balance_read, tt)));
+  fit = All-from_recursion (FitsStatement bank_shapes) (transfer parts).statements (
+    balance_fits parts.source,
+    (
+      update_fits (Sub (Column 1) (Literal (int parts.amount))) parts.source balance_read,
+      (update_fits (Add (Column 1) (Literal (int parts.amount))) parts.target balance_read, tt),
+    ),
+  );
   stand = All-from_recursion (MayStand false) (transfer parts).statements (tt, (refl, (refl, tt)));
 }
 

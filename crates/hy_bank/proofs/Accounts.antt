@@ -54,8 +54,9 @@ sum_permutes = one_for_bags (sum_of 1) (λ row xs ys e. ap (λ (s : ℤ). added_
 pub money_sorted : (total : ℤ) (rows : Table) → HaveMoney total rows → HaveMoney total (sorted rows)
 money_sorted total rows h =
     let permuted : IsPermutation rows (sorted rows) = sorted_permutes rows in
+    let each = All-from_recursion HasBalance rows h.balanced in
     record {
-      balanced = recursion_from_All HasBalance (sorted rows) (All-permutation HasBalance rows (sorted rows) permuted (All-from_recursion HasBalance rows h.balanced));
+      balanced = recursion_from_All HasBalance (sorted rows) (All-permutation HasBalance rows (sorted rows) permuted each);
       once = λ account is. sum_by-IsPermutation (λ row. cond (is_of account row) 1 0) rows (sorted rows) permuted ∙ h.once account is;
       sum = sym (sum_permutes rows (sorted rows) permuted) ∙ h.sum;
     }

@@ -36,4 +36,5 @@ total_told shapes total db h =
 
 pub audits_tell : (seed sessions txns : ℕ) → AuditsAgree (made seed sessions txns)
 audits_tell seed sessions txns orders runs =
-    total_told (catalog_shapes (made seed sessions txns).catalog) (pos all_money) (left_by (made seed sessions txns) orders) (left_with seed sessions txns orders runs)
+    total_told (catalog_shapes (made seed sessions txns).catalog) (pos all_money) (left_by (made seed sessions txns) orders)
+    (left_with seed sessions txns orders runs)

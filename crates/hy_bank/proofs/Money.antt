@@ -98,7 +98,8 @@ pub left_with : (seed sessions txns : ℕ) (orders : List (List Bound)) → RunI
     → HoldsMoney (pos all_money) (left_by (made seed sessions txns) orders)
 unfolding made
 left_with seed sessions txns orders runs =
-    kept_in_turn (catalog_shapes (made seed sessions txns).catalog) (pos all_money) orders runs.of_bank (database_of (first_rows ∷ [])) runs.none_stops begins_with
+    kept_in_turn (catalog_shapes (made seed sessions txns).catalog) (pos all_money) orders runs.of_bank
+    (database_of (first_rows ∷ [])) runs.none_stops begins_with
 
 balances_of : (total : ℤ) (db : Database) → HoldsMoney total db → balances db ≡ total
 balances_of total db h =

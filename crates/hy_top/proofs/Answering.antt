@@ -24,6 +24,7 @@ use Rattle.hy_words.specs.declared.Command.TheVariants.{Run, Check, Gen}
 use Rattle.hy_top.specs.Lines.{refusal_line_of}
 use Rattle.hy_top.specs.Program.{bytes_read, bytes_left, options_by, made_by, comes_to}
 use Rattle.hy_gen.specs.Made.{made}
+use Rattle.hy_bank.specs.Fitting.{MadeFits}
 use Rattle.hy_top.specs.Settings.{setting_at}
 use Rattle.hy_top.specs.Reports.{IsRefused, Spells, IsRun, Writes, Answers, Runs, Checks, Summarizes, Does, Makes}
 use Rattle.hy_limits.specs.declared.TheConstants.{MOST_BYTES}
@@ -197,16 +198,32 @@ answers_cut command status given old new (Some all) after once h w nothing =
     inr (refused_answers command (bytes_read all) too_long_refusal status given old new once (cut_is_refused command all h.0) w nothing)
 
 -- a made script was not run, for want of memory
-no_memory_made : (seed sessions txns : ℕ) (script : Script) (status : ℕ) (given : Option Outcome) (before after : Option (List ℕ)) → status ≡ 5 → IsNone given
-    → Makes (Gen seed sessions txns) script status given before after
-no_memory_made seed sessions txns script status given before after five nothing = record { does = inl five; lawful = no_outcome (Lawful (setting_at script)) given nothing }
+no_memory_made : (command : Command) (script : Script) (status : ℕ) (given : Option Outcome) (before after : Option (List ℕ)) → status ≡ 5 → IsNone given
+    → Makes command script status given before after
+no_memory_made command script status given before after five nothing =
+    record { does = inl five; lawful = no_outcome (Lawful (setting_at script)) given nothing; serial = no_outcome (IsSerial (setting_at script)) given nothing }
+
+-- what is made fits, and is of tables that have chunks
+pub made_fits : (seed sessions txns : ℕ) → MadeFits seed sessions txns → FitsAsRead (made seed sessions txns)
+unfolding made
+made_fits seed sessions txns fits = record { fits = fits; chunked = omega arith }
+
+summarized_makes : (seed sessions txns : ℕ) (script : Script) (status : ℕ) (given : Option Outcome) (before after : Option (List ℕ)) → Theorem → FitsAsRead script
+    → Summarizes script status given before after → Makes (Gen seed sessions txns) script status given before after
+summarized_makes seed sessions txns script status given before after law fit ran =
+    record {
+      does = inr ran;
+      lawful = given_outcome (Lawful (setting_at script)) given (comes_to script) ran.outcome_is (law.lawful (setting_at script) script.schedule);
+      serial = given_outcome (IsSerial (setting_at script)) given (comes_to script) ran.outcome_is (law.serial (setting_at script) script.schedule fit.chunked fit.fits);
+    }
 
 -- what was done with a made script
-pub made_answers : (seed sessions txns : ℕ) (script : Script) (status : ℕ) (given : Option Outcome) (before after : Option (List ℕ)) → Theorem → script ≡ made seed sessions txns
-    → ((status ≡ 5) × IsNone given) ⊎ Summarizes script status given before after → Makes (Gen seed sessions txns) (made seed sessions txns) status given before after
-made_answers seed sessions txns script status given before after law is done =
-    subst (λ (x : Script). Makes (Gen seed sessions txns) x status given before after) is (⊎_elim (λ p. no_memory_made seed sessions txns script status given before after p.0 p.1)
-    (λ ran. record { does = inr ran; lawful = given_outcome (Lawful (setting_at script)) given (comes_to script) ran.outcome_is (law.lawful (setting_at script) script.schedule) }) done)
+pub made_answers : (seed sessions txns : ℕ) (script : Script) (status : ℕ) (given : Option Outcome) (before after : Option (List ℕ)) → Theorem → FitsAsRead (made seed sessions txns)
+    → script ≡ made seed sessions txns → ((status ≡ 5) × IsNone given) ⊎ Summarizes script status given before after
+    → Makes (Gen seed sessions txns) (made seed sessions txns) status given before after
+made_answers seed sessions txns script status given before after law fit is done =
+    ⊎_elim (λ p. no_memory_made (Gen seed sessions txns) (made seed sessions txns) status given before after p.0 p.1)
+    (λ ran. summarized_makes seed sessions txns (made seed sessions txns) status given before after law fit (subst (λ (x : Script). Summarizes x status given before after) is ran)) done
 
 -- memory ran out before anything was done
 pub nothing_read : (asked : Option Command) (before after : Option (List ℕ))
@@ -235,7 +252,7 @@ nothing_answered (Some command) (Some all) held = λ none. inr (nothing_answers 
 
 nothing_made_by : {S : Type 0} (command : Command) (made : Option Script) (held : Option (List ℕ)) (old : S) → IfSome made (λ script. (old ≡ old) × Makes command script 5 None held held)
 nothing_made_by command None held old = tt
-nothing_made_by command (Some script) held old = (refl, record { does = inl refl; lawful = tt })
+nothing_made_by command (Some script) held old = (refl, record { does = inl refl; lawful = tt; serial = tt })
 
 pub nothing_made : {S : Type 0} (asked : Option Command) (held : Option (List ℕ)) (old : S)
     → IfSome asked (λ command. IfSome (made_by command) (λ script. (old ≡ old) × Makes command script 5 None held held))

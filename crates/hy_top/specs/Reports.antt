@@ -54,10 +54,12 @@ Does (Run prune chunks rows) script status outcome before after = Runs script st
 Does (Check chunks rows) script status outcome before after = Checks script status outcome before after
 Does (Gen seed sessions txns) script status outcome before after = Summarizes script status outcome before after
 
--- what a command did with a script that it made: what it asks for, unless memory ran out, and a lawful outcome
+-- what a command did with a script that it made: what it asks for, unless memory ran out; the outcome is lawful, and
+-- serializable in its order
 pub record Makes (command : Command) (script : Script) (status : ℕ) (outcome : Option Outcome) (before after : Option (List ℕ)) : Type 0 where
   pub does : (status ≡ 5) ⊎ Does command script status outcome before after
   pub lawful : IfSome outcome (Lawful (setting_at script))
+  pub serial : IfSome outcome (IsSerial (setting_at script))
 
 -- the answer to bytes that a command read: a status, an outcome or none, and what the sink holds before and after
 pub record Answers (command : Command) (bytes : List ℕ) (status : ℕ) (outcome : Option Outcome) (before after : Option (List ℕ)) : Type 0 where

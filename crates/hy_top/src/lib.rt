@@ -17,6 +17,7 @@ ghost use Rattle.hy_top.specs.Reports.{Writes, Answers, Runs, Checks, Summarizes
 mod lines;
 mod settings;
 
+use hy_bank::made_scripts_fit;
 use hy_gen::make;
 use hy_lawful::runs_are_lawful;
 use hy_limits::MOST_BYTES;
@@ -69,7 +70,8 @@ pub fn run<R: Source, W: Sink>(
     ensures answers { IfSome (command_of (map string_bytes words.now)) (λ command. IsNone (made_by command) → IfSome (R.rest source.old) (λ all.
         (result.status ≡ 3) ⊎ Answers command (bytes_read all) result.status result.outcome (W.written sink.old) (W.written sink.new))) }
 
-    // A command that makes its script runs that, and writes the summary of its outcome; the source is as it was.
+    // A command that makes its script runs that, and writes the summary of its outcome, which is lawful and
+    // serializable; the source is as it was.
     ensures made { IfSome (command_of (map string_bytes words.now)) (λ command. IfSome (made_by command) (λ script.
         (source.new ≡ source.old) × Makes command script result.status result.outcome (W.written sink.old) (W.written sink.new))) }
 
@@ -109,12 +111,14 @@ pub fn run<R: Source, W: Sink>(
 
 /// Makes a script, runs it, and writes the summary of its outcome.
 fn run_made<W: Sink>(alloc: Global, seed: u32, sessions: u32, txns: u32, sink: &mut W) -> Report
+    requires { (sessions ≤ 64) × (txns ≤ 1000) }
     ensures makes { Makes (Command.Gen seed sessions txns) (made seed sessions txns) result.status result.outcome (W.written sink.old) (W.written sink.new) }
     ensures write_fault { result.status ≡ 4 → Rose (W.faults sink.old) (W.faults sink.new) }
     ensures sink_steady { result.status ≢ 4 → W.faults sink.new ≡ W.faults sink.old }
     ensures no_memory { result.status ≡ 5 → (sink.new ≡ sink.old) × IsNone result.outcome }
     ensures statuses { (result.status ≢ 1) × (result.status ≢ 2) × (result.status ≢ 3) × (result.status ≤ 5) }
 {
+    made_scripts_fit();
     runs_are_lawful();
     match make(alloc, seed, sessions, txns) {
         Ok(script) => summarize_script(alloc, script, sink),

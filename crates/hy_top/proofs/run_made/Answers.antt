@@ -1,9 +1,10 @@
 use Rattle.std.proofs.Common.{inl, inr}
 use Rattle.std.proofs.Math.Logic.{⊎_elim}
-use Rattle.hy_top.proofs.Answering.{made_answers}
+use Rattle.hy_top.proofs.Answering.{made_answers, made_fits}
 use Rattle.hy_top.proofs.run_made.Goals as goal
 
 pub returns-in-Ok-clause-makes : goal.returns-in-Ok-clause-makes
 returns-in-Ok-clause-makes g c =
-    made_answers c.args.seed c.args.sessions c.args.txns c.in-Ok.script _ _ _ _ (record { lawful = c.runs_are_lawful.ensures.lawful; serial = c.runs_are_lawful.ensures.serial }) c.in-Ok.ensures
+    made_answers c.args.seed c.args.sessions c.args.txns c.in-Ok.script _ _ _ _ (record { lawful = c.runs_are_lawful.ensures.lawful; serial = c.runs_are_lawful.ensures.serial })
+    (made_fits c.args.seed c.args.sessions c.args.txns (c.made_scripts_fit.ensures c.args.seed c.args.sessions c.args.txns c.requires.0 c.requires.1)) c.in-Ok.ensures
     (⊎_elim (λ p. inl (p.0, p.2)) (λ r. inr r) c.summarize_script.ensures.run)

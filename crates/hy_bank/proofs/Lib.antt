@@ -6,3 +6,4 @@ pub mod Money
 pub mod Audits
 pub mod Turns
 pub mod Outcomes
+pub mod OutcomeAudits

@@ -134,9 +134,9 @@ order_goes_on setting outcome h lawful is_serial =
     each_so 0 (λ (rank : ℕ) (entry : Entry). ending_in (outcome_at outcome entry.label) ≡ Some (Committed rank))
     (λ (rank : ℕ) (entry : Entry). GoesOn setting.shapes (database_at setting outcome.order) rank (statements_of setting.programs entry.label)) outcome.order
     (λ rank entry e. committed_goes_on setting outcome h rank entry.label
-        (ended_in (EndsAndReplays setting outcome) entry.label (Committed rank) outcome.txns
-        (all_both (λ (txn : TxnOutcome). MayEnd setting.programs outcome txn txn.ending)
-        (λ (txn : TxnOutcome). IfSome (committed_at txn.ending) (ReplaysAt setting outcome.order txn)) outcome.txns lawful.endings is_serial.replays) e))
+    (ended_in (EndsAndReplays setting outcome) entry.label (Committed rank) outcome.txns
+    (all_both (λ (txn : TxnOutcome). MayEnd setting.programs outcome txn txn.ending)
+    (λ (txn : TxnOutcome). IfSome (committed_at txn.ending) (ReplaysAt setting outcome.order txn)) outcome.txns lawful.endings is_serial.replays) e))
     lawful.order
 
 -- ---- a script that is made
@@ -146,7 +146,7 @@ made_programs seed sessions txns =
     all_mapped AllOfBank (λ (session : NamedTxns). session.txns) (made seed sessions txns).sessions (made_of_bank seed sessions txns)
 
 -- the whole commit order
-order_in_turn : (seed sessions txns : ℕ) (outcome : Outcome) → Lawful (made_setting seed sessions txns) outcome
+pub order_in_turn : (seed sessions txns : ℕ) (outcome : Outcome) → Lawful (made_setting seed sessions txns) outcome
     → IsSerial (made_setting seed sessions txns) outcome → RunInTurn (made seed sessions txns) (in_order (made_setting seed sessions txns) outcome.order)
 order_in_turn seed sessions txns outcome lawful is_serial =
     let setting : Setting = made_setting seed sessions txns in

@@ -1,5 +1,5 @@
 -- Transactions of a commit order, each with its rank: when they have run in turn.
-use Rattle.std.proofs.Common.{◌≡◌, ℕ, suc, ◌+◌, List, [], ◌∷◌, None, subst, ap, ◌∙◌, map, arith}
+use Rattle.std.proofs.Common.{◌≡◌, ℕ, zero, suc, ◌+◌, List, [], ◌∷◌, None, subst, ap, ◌∙◌, map, arith}
 use Rattle.std.specs.Prelude.{take}
 use Rattle.std.specs.List.{AllByRecursion}
 use Rattle.hy_bound.specs.declared.Bound.{Bound}
@@ -23,6 +23,15 @@ pub all_both : {X : Type 0} (P Q : X → Type 0) (xs : List X) → AllByRecursio
 all_both P Q [] h k = tt
 all_both P Q (x ∷ xs) h k = ((h.0, k.0), all_both P Q xs h.1 k.1)
 
+pub all_so : {X : Type 0} (P Q : X → Type 0) (xs : List X) → ((x : X) → P x → Q x) → AllByRecursion P xs → AllByRecursion Q xs
+all_so P Q [] f h = tt
+all_so P Q (x ∷ xs) f h = (f x h.0, all_so P Q xs f h.1)
+
+pub all_in_front : {X : Type 0} (P : X → Type 0) (n : ℕ) (xs : List X) → AllByRecursion P xs → AllByRecursion P (take n xs)
+all_in_front P zero xs h = tt
+all_in_front P (suc n) [] h = tt
+all_in_front P (suc n) (x ∷ xs) h = (h.0, all_in_front P n xs h.1)
+
 -- ---- transactions in turn
 
 -- a transaction of the bank that runs from the database at its rank on, and does not stop
@@ -41,9 +50,16 @@ pub none_stop : {X : Type 0} (shapes : List Shape) (at : ℕ → Database) (stat
     → EachFrom first (λ (rank : ℕ) (x : X). GoesOn shapes at rank (statements_of x)) xs → NoneStops shapes (map statements_of xs) db
 none_stop shapes at statements_of first [] db same h = tt
 none_stop shapes at statements_of first (x ∷ xs) db same h =
-    let here : at first ≡ db = ap at (let e : first ≡ first + 0 = omega arith in e) ∙ same 0 in
-    (
+    let here : at first ≡ db = ap at (let e : first ≡ first + 0 = omega arith in e) ∙ same 0 in (
       subst (λ (d : Database). (alone_of shapes (statements_of x) d).stop ≡ None) here h.0.runs_on,
       none_stop shapes at statements_of (suc first) xs (alone_of shapes (statements_of x) db).database
           (λ n. ap at (let e : suc first + n ≡ first + suc n = omega arith in e) ∙ same (suc n)) h.1,
     )
+
+-- of the first transactions none stops either
+pub none_stop_in_front : (shapes : List Shape) (n : ℕ) (orders : List (List Bound)) (db : Database) → NoneStops shapes orders db
+    → NoneStops shapes (take n orders) db
+none_stop_in_front shapes zero orders db h = tt
+none_stop_in_front shapes (suc n) [] db h = tt
+none_stop_in_front shapes (suc n) (statements ∷ orders) db h =
+    (h.0, none_stop_in_front shapes n orders (alone_of shapes statements db).database h.1)

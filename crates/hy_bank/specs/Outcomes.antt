@@ -1,11 +1,16 @@
 -- What the outcomes of a script that is made keep.
-use Rattle.std.specs.Prelude.{◌≡◌, ℕ, pos, map}
+use Rattle.std.specs.Prelude.{◌≡◌, ℕ, pos, [], ◌∷◌, map}
+use Rattle.std.specs.List.{AllByRecursion}
+use Rattle.hy_bound.specs.declared.Reply.TheVariants as reply
 use Rattle.hy_bind.specs.Shapes.{catalog_shapes}
+use Rattle.hy_render.specs.declared.TxnOutcome.{TxnOutcome}
 use Rattle.hy_render.specs.declared.Outcome.{Outcome}
 use Rattle.hy_render.specs.Summary.{balances}
 use Rattle.hy_script.specs.declared.NamedTxns.{NamedTxns}
+use Rattle.hy_gen.specs.Transactions.{audit}
 use Rattle.hy_gen.specs.Made.{made}
 use Rattle.hy_machine.specs.declared.Setting.{Setting}
+use Rattle.hy_lawful.specs.Scripts.{Programs, statements_of}
 use Rattle.hy_lawful.specs.Lawful.{Lawful}
 use Rattle.hy_lawful.specs.Serial.{IsSerial}
 use Rattle.hy_bank.specs.Bank.{all_money}
@@ -24,3 +29,13 @@ made_setting seed sessions txns = record {
 abbrev pub MadeOutcomesKeepTheMoney : Type 0
 MadeOutcomesKeepTheMoney = (seed sessions txns : ℕ) (outcome : Outcome) → Lawful (made_setting seed sessions txns) outcome
     → IsSerial (made_setting seed sessions txns) outcome → balances outcome.tables ≡ pos all_money
+
+-- a transaction is told what the bank has, if it is an audit
+abbrev pub IsToldTheMoney : Programs → TxnOutcome → Type 0
+IsToldTheMoney programs txn = statements_of programs txn.label ≡ audit.statements → txn.replies ≡ reply.Value (pos all_money) ∷ []
+
+-- and every audit is told this, however it is interleaved with the transfers, and whatever ends it
+abbrev pub MadeAuditsTellTheMoney : Type 0
+MadeAuditsTellTheMoney = (seed sessions txns : ℕ) (outcome : Outcome) → Lawful (made_setting seed sessions txns) outcome
+    → IsSerial (made_setting seed sessions txns) outcome
+    → AllByRecursion (IsToldTheMoney (made_setting seed sessions txns).programs) outcome.txns

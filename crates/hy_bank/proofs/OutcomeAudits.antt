@@ -24,7 +24,7 @@ use Rattle.hy_bank.proofs.Audits.{audits_tell}
 use Rattle.hy_bank.proofs.Turns.{all_so, all_both, all_in_front, none_stop_in_front}
 use Rattle.hy_bank.proofs.Outcomes.{in_order, order_in_turn}
 
--- ---- an audit is answered, whatever ends it
+-- ---- an audit is answered, whatever ends it: only statements that write are refused, and it has none
 
 never_changes : (table at : ℕ) → IsTrue (changes_rows table (slice_get audit.statements at)) → ⊥
 never_changes table zero h = absurd cc

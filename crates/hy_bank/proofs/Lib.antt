@@ -4,3 +4,6 @@ pub mod Accounts
 pub mod Updates
 pub mod Money
 pub mod Audits
+pub mod Turns
+pub mod Outcomes
+pub mod OutcomeAudits

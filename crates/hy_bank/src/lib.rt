@@ -5,6 +5,7 @@ ghost use Rattle.std.specs.Prelude.{ℕ, ◌≤◌};
 ghost use Rattle.hy_gen.specs.Made.{made};
 ghost use Rattle.hy_bank.specs.Bank.{AreOfBank, KeepsMoney, AuditsAgree};
 ghost use Rattle.hy_bank.specs.Fitting.{MadeFits};
+ghost use Rattle.hy_bank.specs.Outcomes.{MadeOutcomesKeepTheMoney, MadeAuditsTellTheMoney};
 
 /// A script that is made, of at most 64 sessions of at most 1000 transactions each, can be run: its statements
 /// name tables and columns that are there and set no key, no two of its first rows have the same key, and 4
@@ -29,4 +30,11 @@ pub fn transfers_keep_the_money()
 /// and none of them stopped, an audit that runs alone then has one reply, the sum 64000.
 pub fn audits_agree()
     ensures { (seed sessions txns : ℕ) → AuditsAgree (made seed sessions txns) }
+{}
+
+/// Every outcome keeps the money: where an outcome of a script that is made is lawful and serializable, the
+/// balances of its final tables come to 64000, and each of its audits has one reply, this sum.
+pub fn made_outcomes_keep_the_money()
+    ensures money { MadeOutcomesKeepTheMoney }
+    ensures audits { MadeAuditsTellTheMoney }
 {}

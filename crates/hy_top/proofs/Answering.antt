@@ -25,6 +25,11 @@ use Rattle.hy_top.specs.Lines.{refusal_line_of}
 use Rattle.hy_top.specs.Program.{bytes_read, bytes_left, options_by, made_by, comes_to}
 use Rattle.hy_gen.specs.Made.{made}
 use Rattle.hy_bank.specs.Fitting.{MadeFits}
+use Rattle.hy_bank.specs.Bank.{all_money}
+use Rattle.hy_bank.specs.Outcomes.{IsToldTheMoney, MadeOutcomesKeepTheMoney, MadeAuditsTellTheMoney}
+use Rattle.hy_render.specs.Summary.{balances}
+use Rattle.std.specs.List.{AllByRecursion}
+use Rattle.std.specs.Prelude.{pos}
 use Rattle.hy_top.specs.Settings.{setting_at}
 use Rattle.hy_top.specs.Reports.{IsRefused, Spells, IsRun, Writes, Answers, Runs, Checks, Summarizes, Does, Makes}
 use Rattle.hy_limits.specs.declared.TheConstants.{MOST_BYTES}
@@ -197,33 +202,57 @@ answers_cut command status given old new None after once h w nothing = tt
 answers_cut command status given old new (Some all) after once h w nothing =
     inr (refused_answers command (bytes_read all) too_long_refusal status given old new once (cut_is_refused command all h.0) w nothing)
 
+-- an outcome of made accounts has the money that they had; its audits were told it
+abbrev HasTheMoney : Outcome → Type 0
+HasTheMoney given = balances given.tables ≡ pos all_money
+
+abbrev AuditsAreTold : Script → Outcome → Type 0
+AuditsAreTold script given = AllByRecursion (IsToldTheMoney (setting_at script).programs) given.txns
+
+-- the bank's laws
+pub record BankLaws : Type 0 where
+  pub money : MadeOutcomesKeepTheMoney
+  pub audits : MadeAuditsTellTheMoney
+
 -- a made script was not run, for want of memory
 no_memory_made : (command : Command) (script : Script) (status : ℕ) (given : Option Outcome) (before after : Option (List ℕ)) → status ≡ 5 → IsNone given
     → Makes command script status given before after
 no_memory_made command script status given before after five nothing =
-    record { does = inl five; lawful = no_outcome (Lawful (setting_at script)) given nothing; serial = no_outcome (IsSerial (setting_at script)) given nothing }
+    record {
+      does = inl five;
+      lawful = no_outcome (Lawful (setting_at script)) given nothing;
+      serial = no_outcome (IsSerial (setting_at script)) given nothing;
+      money = no_outcome HasTheMoney given nothing;
+      audits = no_outcome (AuditsAreTold script) given nothing;
+    }
 
 -- what is made fits, and is of tables that have chunks
 pub made_fits : (seed sessions txns : ℕ) → MadeFits seed sessions txns → FitsAsRead (made seed sessions txns)
 unfolding made
 made_fits seed sessions txns fits = record { fits = fits; chunked = omega arith }
 
-summarized_makes : (seed sessions txns : ℕ) (script : Script) (status : ℕ) (given : Option Outcome) (before after : Option (List ℕ)) → Theorem → FitsAsRead script
-    → Summarizes script status given before after → Makes (Gen seed sessions txns) script status given before after
-summarized_makes seed sessions txns script status given before after law fit ran =
+summarized_makes : (seed sessions txns : ℕ) (status : ℕ) (given : Option Outcome) (before after : Option (List ℕ)) → Theorem → BankLaws → FitsAsRead (made seed sessions txns)
+    → Summarizes (made seed sessions txns) status given before after → Makes (Gen seed sessions txns) (made seed sessions txns) status given before after
+summarized_makes seed sessions txns status given before after law bank fit ran =
+    let script : Script = made seed sessions txns in
+    let o : Outcome = comes_to script in
+    let lawful : Lawful (setting_at script) o = law.lawful (setting_at script) script.schedule in
+    let serial : IsSerial (setting_at script) o = law.serial (setting_at script) script.schedule fit.chunked fit.fits in
     record {
       does = inr ran;
-      lawful = given_outcome (Lawful (setting_at script)) given (comes_to script) ran.outcome_is (law.lawful (setting_at script) script.schedule);
-      serial = given_outcome (IsSerial (setting_at script)) given (comes_to script) ran.outcome_is (law.serial (setting_at script) script.schedule fit.chunked fit.fits);
+      lawful = given_outcome (Lawful (setting_at script)) given o ran.outcome_is lawful;
+      serial = given_outcome (IsSerial (setting_at script)) given o ran.outcome_is serial;
+      money = given_outcome HasTheMoney given o ran.outcome_is (bank.money seed sessions txns o lawful serial);
+      audits = given_outcome (AuditsAreTold script) given o ran.outcome_is (bank.audits seed sessions txns o lawful serial);
     }
 
 -- what was done with a made script
-pub made_answers : (seed sessions txns : ℕ) (script : Script) (status : ℕ) (given : Option Outcome) (before after : Option (List ℕ)) → Theorem → FitsAsRead (made seed sessions txns)
+pub made_answers : (seed sessions txns : ℕ) (script : Script) (status : ℕ) (given : Option Outcome) (before after : Option (List ℕ)) → Theorem → BankLaws → FitsAsRead (made seed sessions txns)
     → script ≡ made seed sessions txns → ((status ≡ 5) × IsNone given) ⊎ Summarizes script status given before after
     → Makes (Gen seed sessions txns) (made seed sessions txns) status given before after
-made_answers seed sessions txns script status given before after law fit is done =
+made_answers seed sessions txns script status given before after law bank fit is done =
     ⊎_elim (λ p. no_memory_made (Gen seed sessions txns) (made seed sessions txns) status given before after p.0 p.1)
-    (λ ran. summarized_makes seed sessions txns (made seed sessions txns) status given before after law fit (subst (λ (x : Script). Summarizes x status given before after) is ran)) done
+    (λ ran. summarized_makes seed sessions txns status given before after law bank fit (subst (λ (x : Script). Summarizes x status given before after) is ran)) done
 
 -- memory ran out before anything was done
 pub nothing_read : (asked : Option Command) (before after : Option (List ℕ))
@@ -252,7 +281,7 @@ nothing_answered (Some command) (Some all) held = λ none. inr (nothing_answers 
 
 nothing_made_by : {S : Type 0} (command : Command) (made : Option Script) (held : Option (List ℕ)) (old : S) → IfSome made (λ script. (old ≡ old) × Makes command script 5 None held held)
 nothing_made_by command None held old = tt
-nothing_made_by command (Some script) held old = (refl, record { does = inl refl; lawful = tt; serial = tt })
+nothing_made_by command (Some script) held old = (refl, record { does = inl refl; lawful = tt; serial = tt; money = tt; audits = tt })
 
 pub nothing_made : {S : Type 0} (asked : Option Command) (held : Option (List ℕ)) (old : S)
     → IfSome asked (λ command. IfSome (made_by command) (λ script. (old ≡ old) × Makes command script 5 None held held))

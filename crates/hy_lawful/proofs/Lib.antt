@@ -16,9 +16,11 @@ pub mod Followers
 pub mod Laws
 pub mod PassTables
 pub mod SerialTables
+pub mod MoreChanges
 pub mod SerialAlone
 pub mod SerialHistory
 pub mod SerialScripts
+pub mod MoreTables
 pub mod SerialRuns
 pub mod PassHits
 pub mod PassHolds

@@ -1,6 +1,6 @@
 -- What is kept along steps for those that committed to be passed unseen: no entry from the start of an open transaction on
 -- does anything at the positions that it holds, no other holds these, and what was passed unseen stays so.
-use Rattle.std.proofs.Common.{◌≡◌, ℕ, suc, ◌+◌, ◌-◌, ◌<◌, ◌≤◌, List, [], ◌∷◌, ◌++◌, Option, None, Some, true, is_some, length, map, drop, refl, ap, sym}
+use Rattle.std.proofs.Common.{◌≡◌, ℕ, zero, suc, ◌+◌, ◌-◌, ◌<◌, ◌≤◌, List, [], ◌∷◌, ◌++◌, Option, None, Some, true, is_some, length, map, drop, refl, ap, sym}
 use Rattle.std.proofs.Common.{◌∙◌, subst, arith, inl, inr, ◌⊎◌}
 use Rattle.std.specs.Prelude.{IfSome}
 use Rattle.std.specs.List.{AllByRecursion}
@@ -31,12 +31,20 @@ use Rattle.hy_lawful.proofs.PassHits.{from_dropped, pair_missed}
 
 -- ---- the invariant
 
+-- what an entry does at a position is not at one of a transaction's own, and hits none of its records
+pub record PassesAt (begun : Begun) (table pos : ℕ) (pair : Pair) : Type 0 where
+  pub apart : item_at begun.own table pos ≡ None
+  pub missed : record_hit begun.records table pair.before pair.after ≡ None
+
 -- what stands before the place of a transaction in an order, from its start on, is unseen by it; its entry lays what it wrote
 pub record Passed (setting : Setting) (order : List Entry) (begun : Begun) (rank : ℕ) : Type 0 where
   pub within : suc rank ≤ length order
   pub unseen : (at : ℕ) → begun.prefix ≤ at → at < rank
       → DifferUnseen (tables_at setting order at) (tables_at setting order (suc at)) begun.own begun.records
   pub lays : tables_at setting order (suc rank) ≡ over (tables_at setting order rank) begun.own
+  pub passes : (at : ℕ) → begun.prefix ≤ at → at < rank → (table pos : ℕ) (pair : Pair) → pair_at order at table pos ≡ Some pair
+      → PassesAt begun table pos pair
+  pub wrote : (table pos : ℕ) (pair : Pair) → pair_at order rank table pos ≡ Some pair → is_some (item_at begun.own table pos) ≡ true
 
 abbrev pub EndPasses : Setting → List Entry → Finished → Type 0
 EndPasses setting order finished = IfSome (committed_at finished.ending) (Passed setting order finished.begun)
@@ -99,6 +107,11 @@ passes_moved setting state order mark number session there befores here others a
 
 -- ---- an entry more
 
+pair_stays : (order more : List Entry) (rank table pos : ℕ) → rank < length order → pair_at (order ++ more) rank table pos ≡ pair_at order rank table pos
+pair_stays [] more rank table pos below = absurd (omega (arith, below))
+pair_stays (entry ∷ order) more zero table pos below = refl
+pair_stays (entry ∷ order) more (suc rank) table pos below = pair_stays order more rank table pos (omega (arith, below))
+
 pub passed_grows : (setting : Setting) (order more : List Entry) (begun : Begun) (rank : ℕ) → Passed setting order begun rank
     → Passed setting (order ++ more) begun rank
 passed_grows setting order more begun rank p = record {
@@ -109,6 +122,9 @@ passed_grows setting order more begun rank p = record {
       (sym (tables_grow setting order more (suc at) (omega (arith, to, p.within)))) (p.unseen at from to));
   lays = tables_grow setting order more (suc rank) p.within
       ∙ (p.lays ∙ ap (λ (tables : Tables). over tables begun.own) (sym (tables_grow setting order more rank (omega (arith, p.within)))));
+  passes = λ at from to table pos pair e. p.passes at from to table pos pair
+      (sym (pair_stays order more at table pos (omega (arith, to, p.within))) ∙ e);
+  wrote = λ table pos pair e. p.wrote table pos pair (sym (pair_stays order more rank table pos p.within) ∙ e);
 }
 
 pub ends_grow : (setting : Setting) (order more : List Entry) (finished : Finished) → EndPasses setting order finished
@@ -232,6 +248,21 @@ unseen_at setting order begun entry is hit at from table pos = by_item (pair_at 
           (missed_from begun.records begun.prefix order hit at from table pos pair e));
     })
 
+passes_at : (setting : Setting) (order : List Entry) (begun : Begun) (entry : Entry) → IsEntry setting order begun entry
+    → first_hit begun.records (map committed_of (drop begun.prefix order)) ≡ None → (at : ℕ) → begun.prefix ≤ at → (table pos : ℕ) (pair : Pair)
+    → pair_at order at table pos ≡ Some pair → PassesAt begun table pos pair
+passes_at setting order begun entry is hit at from table pos pair e = record {
+  apart = not_own order begun is.clear at table pos from pair e (item_at begun.own table pos) refl;
+  missed = missed_from begun.records begun.prefix order hit at from table pos pair e;
+}
+
+wrote_at : (setting : Setting) (order : List Entry) (begun : Begun) (entry : Entry) → IsEntry setting order begun entry → (table pos : ℕ) (pair : Pair)
+    → pair_at (order ++ entry ∷ []) (length order) table pos ≡ Some pair → is_some (item_at begun.own table pos) ≡ true
+wrote_at setting order begun entry is table pos pair e = elim (more_pairs order entry (length order) table pos pair e) [
+  | inl old ↦ absurd (omega (arith, old.0))
+  | inr new ↦ (entry_pair setting order begun entry is table pos pair new.1).0
+]
+
 pub entered_passed : (setting : Setting) (order : List Entry) (begun : Begun) (entry : Entry) → IsEntry setting order begun entry
     → first_hit begun.records (map committed_of (drop begun.prefix order)) ≡ None → Passed setting (order ++ entry ∷ []) begun (length order)
 entered_passed setting order begun entry is hit = record {
@@ -241,4 +272,7 @@ entered_passed setting order begun entry is hit = record {
       (subst (λ (tables : Tables). DifferUnseen (tables_at setting order at) tables begun.own begun.records)
       (sym (tables_grow setting order (entry ∷ []) (suc at) (omega (arith, to)))) (unseen_at setting order begun entry is hit at from));
   lays = entry_lays setting order entry (tables_at setting order begun.prefix) begun.own is.cells;
+  passes = λ at from to table pos pair e. passes_at setting order begun entry is hit at from table pos pair
+      (sym (pair_stays order (entry ∷ []) at table pos to) ∙ e);
+  wrote = wrote_at setting order begun entry is;
 }

@@ -270,7 +270,7 @@ opening_passes setting = record {
       ap (λ (session : Session). holds setting table pos session.now) (sym (fresh_at setting number)) ∙ h in cc);
 }
 
-reached_passes : (setting : Setting) (state : State) → IsReached setting state → Passes setting state
+pub reached_passes : (setting : Setting) (state : State) → IsReached setting state → Passes setting state
 reached_passes setting state r =
     subst (Passes setting) (sym r.1) (steps_pass setting (opening_of setting) r.0 ([], refl) (opening_passes setting))
 

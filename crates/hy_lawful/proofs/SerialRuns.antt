@@ -37,7 +37,10 @@ use Rattle.hy_lawful.proofs.Reached.{reached_fits}
 use Rattle.hy_lawful.proofs.SerialAlone.{first_replies}
 use Rattle.hy_lawful.proofs.SerialHistory.{RanAt, History, alone_at_rank, serial_to}
 use Rattle.hy_lawful.proofs.SerialScripts.{statements_behind, transactions_of, transaction_at, has_label, label_within, statements_stand}
+use Rattle.hy_lawful.proofs.MoreTables.{IsOrder, changes_at, bags_are}
 use Rattle.hy_lawful.proofs.PassTables.{tables_are}
+use Rattle.hy_lawful.proofs.PassStates.{Passes}
+use Rattle.hy_lawful.proofs.PassSteps.{reached_passes}
 use Rattle.hy_lawful.proofs.SerialTables.{opening_bags, opening_widths}
 
 -- what is known of a state at its end
@@ -45,6 +48,7 @@ record AtEnd (setting : Setting) (state : State) : Type 0 where
   over : IsOver setting state
   ran : AllHaveRun setting state
   unseen : AllPassedUnseen setting state
+  passes : Passes setting state
   script : FitsScript setting.shapes (setting.chunks * setting.rows) setting.first setting.programs
 
 -- the laws of transactions over positions
@@ -151,6 +155,10 @@ bags_at laws setting state end rank below =
     ∙ ap (λ (some : List (List Bound)). serial setting.shapes some (database_of setting.first))
     (take-map (λ (entry : Committing). statements_of setting.programs entry.label) rank (map committed_of state.order)))
 
+-- what is known of the order of the entries
+order_of : (setting : Setting) (state : State) → AtEnd setting state → IsOrder setting state.order
+order_of setting state end = record { rows = end.script.first_rows; fit = end.over.fits.cells; befores = end.passes.befores }
+
 -- ---- the clauses
 
 -- what a transaction gives alone, by its statements over the tables of a prefix
@@ -223,6 +231,9 @@ end_serial laws setting state end = record {
   replays = each_outcome setting (λ (txn : TxnOutcome). IfSome (committed_at txn.ending) (ReplaysAt setting (map committed_of state.order) txn)) state
       (λ number before finished at. replays laws setting state end number before finished at (committed_at finished.ending) refl);
   tables = all_tables laws setting state end;
+  changes = changes_at setting state.order (order_of setting state end);
+  history = λ rank below. bags_are setting state.order (order_of setting state end) rank
+      ∙ bags_at laws setting state end rank (omega (arith, below, length-map state.order committed_of));
 }
 
 -- ---- runs
@@ -236,5 +247,6 @@ serial_runs steps ends ran unseen again keeps alone setting schedule chunked scr
       over = is_over setting state (reached_fits setting state reached) (ends setting schedule);
       ran = ran setting state chunked reached;
       unseen = unseen setting state reached;
+      passes = reached_passes setting state reached;
       script = script;
     })

@@ -3,6 +3,7 @@ pub mod Outcomes
 pub mod Positions
 pub mod Endings
 pub mod Lawful
+pub mod Cells
 pub mod Serial
 pub mod Reached
 pub mod Laws

@@ -1,5 +1,5 @@
 -- Serializability: what every transaction was told is what it is told alone.
-use Rattle.std.specs.Prelude.{◌≡◌, ℕ, List, ◌++◌, IfSome, None, Option, length, take, map}
+use Rattle.std.specs.Prelude.{◌≡◌, ℕ, ◌≤◌, List, IfSome, None, length, take, map}
 use Rattle.std.specs.List.{AllByRecursion}
 use Rattle.hy_bound.specs.declared.Reply.{Reply}
 use Rattle.hy_meaning.specs.Statement.{Database}
@@ -10,7 +10,8 @@ use Rattle.hy_render.specs.declared.Outcome.{Outcome}
 use Rattle.hy_stamp.specs.declared.Label.{Label}
 use Rattle.hy_machine.specs.declared.Setting.{Setting}
 use Rattle.hy_lawful.specs.Scripts.{statements_of}
-use Rattle.hy_lawful.specs.Outcomes.{committed_at}
+use Rattle.hy_lawful.specs.Outcomes.{EachFrom, committed_at}
+use Rattle.hy_lawful.specs.Cells.{bags_at, IsChangeAt}
 
 -- the serial databases: the one after the first transactions of the commit order ran alone, one after another, from the
 -- first rows on
@@ -43,3 +44,7 @@ pub record IsSerial (setting : Setting) (outcome : Outcome) : Type 0 where
   pub replays : AllByRecursion (λ (txn : TxnOutcome). IfSome (committed_at txn.ending) (ReplaysAt setting outcome.order txn)) outcome.txns
   -- the final tables are those of the serial run of the whole order
   pub tables : outcome.tables ≡ database_at setting outcome.order (length outcome.order)
+  -- every change starts from what stands at its position
+  pub changes : EachFrom 0 (λ (rank : ℕ) (entry : Entry). AllByRecursion (IsChangeAt setting outcome.order rank) entry.changes) outcome.order
+  -- before and after every entry the rows that stand in the tables are those of the serial run
+  pub history : (rank : ℕ) → rank ≤ length outcome.order → bags_at setting outcome.order rank ≡ database_at setting outcome.order rank

@@ -136,3 +136,17 @@ pair_missed records (entry ∷ entries) zero table pos pair e p =
 pair_missed records (entry ∷ entries) (suc i) table pos pair e p =
     pair_missed records entries i table pos pair
     (or_none (hit_among records entry.label (committed_of entry).changes) (first_hit records (map committed_of entries)) e).1 p
+
+or_more : {X : Type 0} (a b longer : Option X) (x : X) → (b ≡ Some x → longer ≡ Some x) → option_or a b ≡ Some x → option_or a longer ≡ Some x
+or_more None b longer x f e = f e
+or_more (Some a) b longer x f e = e
+
+-- the first hit of entries is that of more entries behind them
+pub hit_stays : (records : List Record) (from : ℕ) (order more : List Entry) (cause : Cause)
+    → first_hit records (map committed_of (drop from order)) ≡ Some cause → first_hit records (map committed_of (drop from (order ++ more))) ≡ Some cause
+hit_stays records zero [] more cause e = absurd cc
+hit_stays records (suc from) [] more cause e = absurd cc
+hit_stays records zero (entry ∷ order) more cause e =
+    or_more (hit_among records entry.label (committed_of entry).changes) (first_hit records (map committed_of order))
+    (first_hit records (map committed_of (order ++ more))) cause (hit_stays records zero order more cause) e
+hit_stays records (suc from) (entry ∷ order) more cause e = hit_stays records from order more cause e

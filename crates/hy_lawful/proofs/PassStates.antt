@@ -7,6 +7,8 @@ use Rattle.std.specs.List.{AllByRecursion}
 use Rattle.std.proofs.lemmas.List.{length-append}
 use Rattle.std.proofs.lemmas.Option.{same_Some, IfSome_then}
 use Rattle.hy_bound.specs.declared.Record.{Record}
+use Rattle.hy_render.specs.declared.Ending.{Ending}
+use Rattle.hy_render.specs.declared.Ending.TheVariants.{Committed, Read, RolledBack, Conflict, Invalid, Range, Full}
 use Rattle.hy_machine.specs.declared.Setting.{Setting}
 use Rattle.hy_machine.specs.declared.State.{State}
 use Rattle.hy_machine.specs.declared.Session.{Session}
@@ -15,19 +17,21 @@ use Rattle.hy_machine.specs.declared.Begun.{Begun}
 use Rattle.hy_machine.specs.declared.Finished.{Finished}
 use Rattle.hy_machine.specs.declared.Entry.{Entry}
 use Rattle.hy_machine.specs.declared.Pair.{Pair}
+use Rattle.hy_machine.specs.declared.Cause.TheVariants as cause
 use Rattle.hy_machine.specs.declared.Phase.{Phase}
 use Rattle.hy_machine.specs.declared.Phase.TheVariants.{Working, Stamping, Undoing}
 use Rattle.hy_machine.specs.Positions.{item_at}
 use Rattle.hy_machine.specs.Tables.{Cell, Tables, over}
 use Rattle.hy_machine.specs.Sessions.{session_at, pair_of, entry_cells}
 use Rattle.hy_machine.specs.Holding.{holds}
+use Rattle.hy_machine.specs.Turns.{ending_of}
 use Rattle.hy_machine.specs.Validation.{committed_of, record_hit, first_hit}
 use Rattle.hy_replay.specs.Laws.{IsUnseenAt, DifferUnseen}
 use Rattle.hy_lawful.specs.Outcomes.{committed_at}
 use Rattle.hy_lawful.proofs.Lists.{all_so}
 use Rattle.hy_lawful.proofs.Moves.{moved_to, sessions_moved}
 use Rattle.hy_lawful.proofs.PassTables.{tables_at, cell_at, pair_at, AllFit, cell_next, cell_stays, tables_grow, more_pairs, entry_item, entry_lays}
-use Rattle.hy_lawful.proofs.PassHits.{from_dropped, pair_missed}
+use Rattle.hy_lawful.proofs.PassHits.{from_dropped, pair_missed, hit_stays}
 
 -- ---- the invariant
 
@@ -46,8 +50,20 @@ pub record Passed (setting : Setting) (order : List Entry) (begun : Begun) (rank
       → PassesAt begun table pos pair
   pub wrote : (table pos : ℕ) (pair : Pair) → pair_at order rank table pos ≡ Some pair → is_some (item_at begun.own table pos) ≡ true
 
+-- one that is invalid names the first hit of its records by the entries from its start on
+abbrev pub NamesFirstHit : List Entry → Begun → Ending → Type 0
+NamesFirstHit order begun (Committed rank) = Unit {0}
+NamesFirstHit order begun Read = Unit {0}
+NamesFirstHit order begun RolledBack = Unit {0}
+NamesFirstHit order begun (Conflict table pos other) = Unit {0}
+NamesFirstHit order begun (Invalid table pos other statement) =
+    first_hit begun.records (map committed_of (drop begun.prefix order)) ≡ Some (cause.Invalid table pos other statement)
+NamesFirstHit order begun (Range table pos) = Unit {0}
+NamesFirstHit order begun (Full table) = Unit {0}
+
 abbrev pub EndPasses : Setting → List Entry → Finished → Type 0
-EndPasses setting order finished = IfSome (committed_at finished.ending) (Passed setting order finished.begun)
+EndPasses setting order finished =
+    IfSome (committed_at finished.ending) (Passed setting order finished.begun) × NamesFirstHit order finished.begun finished.ending
 
 -- no entry from the start of a transaction on does anything at a position
 abbrev pub Clear : List Entry → Begun → ℕ → ℕ → Type 0
@@ -59,7 +75,8 @@ HeldClear setting order current = (table pos : ℕ) → holds setting table pos 
 abbrev pub PhasePasses : Setting → List Entry → Begun → Phase → Type 0
 PhasePasses setting order begun (Working visited count) = HeldClear setting order (record { begun = begun; phase = Working visited count })
 PhasePasses setting order begun (Stamping visited) = Passed setting order begun (length order - 1)
-PhasePasses setting order begun (Undoing visited cause) = HeldClear setting order (record { begun = begun; phase = Undoing visited cause })
+PhasePasses setting order begun (Undoing visited cause) =
+    HeldClear setting order (record { begun = begun; phase = Undoing visited cause }) × NamesFirstHit order begun (ending_of cause)
 
 pub record OpenPasses (setting : Setting) (order : List Entry) (current : Open) : Type 0 where
   pub low : current.begun.low ≤ current.begun.prefix
@@ -127,10 +144,23 @@ passed_grows setting order more begun rank p = record {
   wrote = λ table pos pair e. p.wrote table pos pair (sym (pair_stays order more rank table pos p.within) ∙ e);
 }
 
+first_hit_grows : (order more : List Entry) (begun : Begun) (ending : Ending) → NamesFirstHit order begun ending → NamesFirstHit (order ++ more) begun ending
+first_hit_grows order more begun (Committed rank) h = tt
+first_hit_grows order more begun Read h = tt
+first_hit_grows order more begun RolledBack h = tt
+first_hit_grows order more begun (Conflict table pos other) h = tt
+first_hit_grows order more begun (Invalid table pos other statement) h =
+    hit_stays begun.records begun.prefix order more (cause.Invalid table pos other statement) h
+first_hit_grows order more begun (Range table pos) h = tt
+first_hit_grows order more begun (Full table) h = tt
+
 pub ends_grow : (setting : Setting) (order more : List Entry) (finished : Finished) → EndPasses setting order finished
     → EndPasses setting (order ++ more) finished
 ends_grow setting order more finished h =
-    IfSome_then (committed_at finished.ending) h (λ rank p. passed_grows setting order more finished.begun rank p)
+    (
+      IfSome_then (committed_at finished.ending) h.0 (λ rank p. passed_grows setting order more finished.begun rank p),
+      first_hit_grows order more finished.begun finished.ending h.1,
+    )
 
 -- an entry does nothing at the positions that an open transaction holds
 abbrev pub Spares : Setting → Entry → Open → Type 0
@@ -153,8 +183,10 @@ phase_grows : (setting : Setting) (order : List Entry) (entry : Entry) (begun : 
 phase_grows setting order entry begun (Working visited count) h spares n =
     held_grows setting order entry (record { begun = begun; phase = Working visited count }) h spares
 phase_grows setting order entry begun (Stamping visited) h spares n = absurd (n visited refl)
-phase_grows setting order entry begun (Undoing visited cause) h spares n =
-    held_grows setting order entry (record { begun = begun; phase = Undoing visited cause }) h spares
+phase_grows setting order entry begun (Undoing visited cause) h spares n = (
+  held_grows setting order entry (record { begun = begun; phase = Undoing visited cause }) h.0 spares,
+  first_hit_grows order (entry ∷ []) begun (ending_of cause) h.1,
+)
 
 abbrev pub NowSpared : Setting → Entry → Option Open → Type 0
 NowSpared setting entry None = Unit {0}

@@ -274,7 +274,7 @@ pub reached_passes : (setting : Setting) (state : State) → IsReached setting s
 reached_passes setting state r =
     subst (Passes setting) (sym r.1) (steps_pass setting (opening_of setting) r.0 ([], refl) (opening_passes setting))
 
-one_of : {X : Type 0} (P : X → Type 0) (xs : List X) → AllByRecursion P xs → (i : ℕ) (x : X) → slice_get xs i ≡ Some x → P x
+pub one_of : {X : Type 0} (P : X → Type 0) (xs : List X) → AllByRecursion P xs → (i : ℕ) (x : X) → slice_get xs i ≡ Some x → P x
 one_of P [] h i x e = absurd cc
 one_of P (y ∷ xs) h zero x e = subst P (same_Some y x e) h.0
 one_of P (y ∷ xs) h (suc i) x e = one_of P xs h.1 i x e
@@ -282,5 +282,5 @@ one_of P (y ∷ xs) h (suc i) x e = one_of P xs h.1 i x e
 pub reached_pass : ReachedPassUnseen
 reached_pass setting state r number before finished e =
     IfSome_then (committed_at finished.ending)
-    (one_of (EndPasses setting state.order) (session_at state number).done ((reached_passes setting state r).sessions number).done before finished e)
+    (one_of (EndPasses setting state.order) (session_at state number).done ((reached_passes setting state r).sessions number).done before finished e).0
     (λ rank p. record { unseen = p.unseen; lays = p.lays })

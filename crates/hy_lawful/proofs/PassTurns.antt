@@ -31,16 +31,17 @@ use Rattle.hy_machine.specs.Positions.{item_at}
 use Rattle.hy_machine.specs.Tables.{Own, positions_in, chunk_of}
 use Rattle.hy_machine.specs.Writes.{with_writes, wrote_nothing, written_chunks, is_among}
 use Rattle.hy_machine.specs.Sessions.{blocker, view}
-use Rattle.hy_machine.specs.Holding.{undone, holds, is_free}
+use Rattle.hy_machine.specs.Holding.{undone, holds, is_free, opponent}
 use Rattle.hy_machine.specs.Validation.{committed_of, first_hit}
-use Rattle.hy_machine.specs.Visits.{swept, sees_key, free_position, checks_of}
+use Rattle.hy_machine.specs.Visits.{verdict_at, swept, sees_key, free_position, checks_of}
 use Rattle.hy_machine.specs.Turns.{rows_seen, read_turn, write_turn, check_turn, place_turn, insert_turn, statement_turn, ending_of, unless_blocked}
 use Rattle.hy_machine.specs.Turns.{undo_turn, stamp_turn, validated_turn, commit_turn, closing_turn, working_turn, phase_turn}
 use Rattle.hy_machine.specs.Steps.{after_visit, after_answer}
 use Rattle.hy_lawful.specs.Outcomes.{committed_at}
 use Rattle.hy_lawful.proofs.Fits.{FitsTables, Fits}
+use Rattle.hy_lawful.proofs.Refusals.{Refuses, verdict_refuses, sweep_refuses}
 use Rattle.hy_lawful.proofs.PassHolds.{own_among, fewer_among, written_is}
-use Rattle.hy_lawful.proofs.PassStates.{Passed, EndPasses, PhasePasses, HeldClear, OpenPasses, HoldsAlone, Passes}
+use Rattle.hy_lawful.proofs.PassStates.{Passed, NamesFirstHit, EndPasses, PhasePasses, HeldClear, OpenPasses, HoldsAlone, Passes}
 use Rattle.hy_lawful.proofs.PassMays.{OwnMay, AllMay, MayWrite, IsAtWork, swept_may, found_is, free_may}
 
 -- an open transaction goes on as this one
@@ -60,20 +61,21 @@ PassesTurn setting state number current Enters =
     × (first_hit current.begun.records (map committed_of (drop current.begun.prefix state.order)) ≡ None)
 PassesTurn setting state number current (Ends ending) = EndPasses setting state.order (record { begun = current.begun; ending = ending })
 
-abbrev NotStamping : Phase → Type 0
-NotStamping (Working visited count) = Unit {0}
-NotStamping (Stamping visited) = ⊥
-NotStamping (Undoing visited cause) = Unit {0}
+-- a phase that a transaction at work comes to
+abbrev NextPhase : List Entry → Begun → Phase → Type 0
+NextPhase order begun (Working visited count) = Unit {0}
+NextPhase order begun (Stamping visited) = ⊥
+NextPhase order begun (Undoing visited cause) = NamesFirstHit order begun (ending_of cause)
 
 -- a turn of a transaction at work
 abbrev WorkTurn : Setting → State → ℕ → Begun → Turn → Type 0
 WorkTurn setting state number begun Done = Unit {0}
 WorkTurn setting state number begun (Waits by) = Unit {0}
 WorkTurn setting state number begun Begins = ⊥
-WorkTurn setting state number begun (Visits writes phase) = AllMay setting state number begun writes × NotStamping phase
+WorkTurn setting state number begun (Visits writes phase) = AllMay setting state number begun writes × NextPhase state.order begun phase
 WorkTurn setting state number begun (Answers writes reply took records) = AllMay setting state number begun writes
 WorkTurn setting state number begun Enters = first_hit begun.records (map committed_of (drop begun.prefix state.order)) ≡ None
-WorkTurn setting state number begun (Ends ending) = committed_at ending ≡ None
+WorkTurn setting state number begun (Ends ending) = (committed_at ending ≡ None) × NamesFirstHit state.order begun ending
 
 -- ---- statements
 
@@ -85,11 +87,27 @@ read_writes setting state number begun visited tables statement gathered reply =
   | inr f ↦ rw f tt
 ]
 
+-- what refuses a statement is no hit
+refusal_names : (order : List Entry) (begun : Begun) (kind : WriteKind) (table pos : ℕ) (opponent : Option Label) (cause : Cause)
+    → Refuses kind table pos opponent cause → NamesFirstHit order begun (ending_of cause)
+refusal_names order begun kind table pos opponent RolledBack r = tt
+refusal_names order begun kind table pos opponent (Conflict of at other) r = tt
+refusal_names order begun kind table pos opponent (Invalid of at other statement) r = absurd r
+refusal_names order begun kind table pos opponent (Range of at) r = tt
+refusal_names order begun kind table pos opponent (Full of) r = tt
+
 write_writes : (setting : Setting) (state : State) (number : ℕ) (begun : Begun) (visited count : ℕ) (statement : Bound) (kind : WriteKind) (pred : Condition)
     (table : ℕ) → IsAtWork setting state number begun
     → (result : Result (List Write) Cause) → swept setting state number begun kind pred table visited ≡ result
     → WorkTurn setting state number begun (write_turn setting begun visited count statement kind result)
-write_writes setting state number begun visited count statement kind pred table w (Err cause) e = (tt, tt)
+write_writes setting state number begun visited count statement kind pred table w (Err cause) e = (
+  tt,
+  sweep_refuses (λ (one : Cause). NamesFirstHit state.order begun (ending_of one)) table (verdict_at setting state number begun kind pred table)
+      (positions_in setting visited) cause
+      (λ pos one v. refusal_names state.order begun kind table pos (opponent setting state number begun.prefix table pos) one
+      (verdict_refuses kind pred table pos (opponent setting state number begun.prefix table pos) (item_at (view setting state begun) table pos) one v))
+      e,
+)
 write_writes setting state number begun visited count statement kind pred table w (Ok writes) e =
     elim (cases_Bool (ltb (suc visited) setting.chunks)) [
       | inl t ↦ rw t (swept_may setting state number begun kind pred table visited writes w e, tt)
@@ -152,17 +170,25 @@ unless_writes setting state number begun turn None h = h
 unless_writes setting state number begun turn (Some by) h = tt
 
 undo_writes : (setting : Setting) (state : State) (number : ℕ) (begun : Begun) (visited : ℕ) (cause : Cause)
-    → WorkTurn setting state number begun (undo_turn setting state number begun visited cause)
-undo_writes setting state number begun visited cause = elim (cases_Bool (ltb visited (length (written_chunks setting begun.own)))) [
-  | inl t ↦ rw t (tt, tt)
-  | inr f ↦ rw f (unless_writes setting state number begun (Ends (ending_of cause)) (blocker state number) (undone_is cause))
+    → NamesFirstHit state.order begun (ending_of cause) → WorkTurn setting state number begun (undo_turn setting state number begun visited cause)
+undo_writes setting state number begun visited cause h = elim (cases_Bool (ltb visited (length (written_chunks setting begun.own)))) [
+  | inl t ↦ rw t (tt, h)
+  | inr f ↦ rw f (unless_writes setting state number begun (Ends (ending_of cause)) (blocker state number) (undone_is cause, h))
 ]
+
+hit_names : (order : List Entry) (begun : Begun) (cause : Cause) → first_hit begun.records (map committed_of (drop begun.prefix order)) ≡ Some cause
+    → NamesFirstHit order begun (ending_of cause)
+hit_names order begun RolledBack e = tt
+hit_names order begun (Conflict table pos other) e = tt
+hit_names order begun (Invalid table pos other statement) e = e
+hit_names order begun (Range table pos) e = tt
+hit_names order begun (Full table) e = tt
 
 validated_writes : (setting : Setting) (state : State) (number : ℕ) (begun : Begun) (hit : Option Cause)
     → first_hit begun.records (map committed_of (drop begun.prefix state.order)) ≡ hit
     → WorkTurn setting state number begun (validated_turn hit)
 validated_writes setting state number begun None e = e
-validated_writes setting state number begun (Some cause) e = (tt, tt)
+validated_writes setting state number begun (Some cause) e = (tt, hit_names state.order begun cause e)
 
 commit_writes : (setting : Setting) (state : State) (number : ℕ) (begun : Begun)
     → WorkTurn setting state number begun (commit_turn setting state number begun)
@@ -170,14 +196,14 @@ commit_writes setting state number begun = unless_writes setting state number be
     (cond (wrote_nothing begun.own) (Ends ways.Read) (validated_turn (first_hit begun.records (map committed_of (drop begun.prefix state.order)))))
     (blocker state number)
     (elim (cases_Bool (wrote_nothing begun.own)) [
-      | inl t ↦ rw t refl
+      | inl t ↦ rw t (refl, tt)
       | inr f ↦ rw f (validated_writes setting state number begun (first_hit begun.records (map committed_of (drop begun.prefix state.order))) refl)
     ])
 
 closing_writes : (setting : Setting) (state : State) (number : ℕ) (begun : Begun) (commits : Bool)
     → WorkTurn setting state number begun (closing_turn setting state number begun commits)
 closing_writes setting state number begun true = commit_writes setting state number begun
-closing_writes setting state number begun false = undo_writes setting state number begun 0 RolledBack
+closing_writes setting state number begun false = undo_writes setting state number begun 0 RolledBack tt
 
 working_writes : (setting : Setting) (state : State) (number : ℕ) (txn : Txn) (begun : Begun) (visited count : ℕ) → IsAtWork setting state number begun
     → (statement : Option Bound) → WorkTurn setting state number begun (working_turn setting state number txn begun visited count statement)
@@ -186,15 +212,15 @@ working_writes setting state number txn begun visited count w (Some statement) =
 
 -- ---- what the open transaction is then
 
-phase_clear : (setting : Setting) (order : List Entry) (begun : Begun) (phase : Phase) → NotStamping phase
+phase_clear : (setting : Setting) (order : List Entry) (begun : Begun) (phase : Phase) → NextPhase order begun phase
     → HeldClear setting order (record { begun = begun; phase = phase }) → PhasePasses setting order begun phase
 phase_clear setting order begun (Working visited count) n h = h
 phase_clear setting order begun (Stamping visited) n h = absurd n
-phase_clear setting order begun (Undoing visited cause) n h = h
+phase_clear setting order begun (Undoing visited cause) n h = (h, n)
 
 goes_on : (setting : Setting) (state : State) (number : ℕ) (begun : Begun) (writes : List Write) (new : Open) → IsAtWork setting state number begun
     → AllMay setting state number begun writes → new.begun.own ≡ with_writes begun.own writes → new.begun.prefix ≡ begun.prefix
-    → new.begun.low ≡ begun.low → NotStamping new.phase → GoesOn setting state number new
+    → new.begun.low ≡ begun.low → NextPhase state.order new.begun new.phase → GoesOn setting state number new
 goes_on setting state number begun writes new w all own prefix low n = (
   record {
     low = omega (arith, w.low, prefix, low);
@@ -220,7 +246,7 @@ writes_pass setting state number current w (Answers writes reply took records) h
     goes_on setting state number current.begun writes (after_answer writes reply took records current) w h refl refl refl tt
 writes_pass setting state number current w Enters h = (w.may, h)
 writes_pass setting state number current w (Ends ending) h =
-    subst (λ (rank : Option ℕ). IfSome rank (Passed setting state.order current.begun)) (sym h) tt
+    (subst (λ (rank : Option ℕ). IfSome rank (Passed setting state.order current.begun)) (sym h.0) tt, h.1)
 
 unless_passes : (setting : Setting) (state : State) (number : ℕ) (current : Open) (turn : Turn) (by : Option Label)
     → PassesTurn setting state number current turn → PassesTurn setting state number current (unless_blocked by turn)
@@ -238,17 +264,17 @@ holds_less setting begun visited cause table pos h =
     parts.0 (fewer_among visited (written_chunks setting begun.own) table (chunk_of setting pos) parts.1)
 
 undo_passes : (setting : Setting) (state : State) (number : ℕ) (begun : Begun) (visited : ℕ) (cause : Cause) → begun.low ≤ begun.prefix
-    → HeldClear setting state.order (record { begun = begun; phase = Undoing visited cause })
+    → PhasePasses setting state.order begun (Undoing visited cause)
     → HoldsAlone setting state number (Some (record { begun = begun; phase = Undoing visited cause }))
     → PassesTurn setting state number (record { begun = begun; phase = Undoing visited cause }) (undo_turn setting state number begun visited cause)
-undo_passes setting state number begun visited cause low clear alone = elim (cases_Bool (ltb visited (length (written_chunks setting begun.own)))) [
+undo_passes setting state number begun visited cause low h alone = elim (cases_Bool (ltb visited (length (written_chunks setting begun.own)))) [
   | inl t ↦ rw t (
-    record { low = low; phase = λ table pos h. clear table pos (holds_less setting begun visited cause table pos h) },
-    λ other table pos apart h. alone other table pos apart (holds_less setting begun visited cause table pos h),
+    record { low = low; phase = (λ table pos held. h.0 table pos (holds_less setting begun visited cause table pos held), h.1) },
+    λ other table pos apart held. alone other table pos apart (holds_less setting begun visited cause table pos held),
   )
   | inr f ↦ rw f (unless_passes setting state number (record { begun = begun; phase = Undoing visited cause }) (Ends (ending_of cause))
       (blocker state number)
-      (subst (λ (rank : Option ℕ). IfSome rank (Passed setting state.order begun)) (sym (undone_is cause)) tt))
+      (subst (λ (rank : Option ℕ). IfSome rank (Passed setting state.order begun)) (sym (undone_is cause)) tt, h.1))
 ]
 
 stamp_passes : (setting : Setting) (state : State) (number : ℕ) (begun : Begun) (visited : ℕ) → begun.low ≤ begun.prefix
@@ -257,7 +283,7 @@ stamp_passes : (setting : Setting) (state : State) (number : ℕ) (begun : Begun
     → PassesTurn setting state number (record { begun = begun; phase = Stamping visited }) (stamp_turn setting state begun visited)
 stamp_passes setting state number begun visited low passed alone = elim (cases_Bool (ltb visited (length (written_chunks setting begun.own)))) [
   | inl t ↦ rw t (record { low = low; phase = passed }, alone)
-  | inr f ↦ rw f passed
+  | inr f ↦ rw f (passed, tt)
 ]
 
 -- the turn of an open transaction

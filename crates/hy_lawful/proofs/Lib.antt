@@ -21,6 +21,7 @@ pub mod SerialAlone
 pub mod SerialHistory
 pub mod SerialScripts
 pub mod MoreTables
+pub mod MorePlaces
 pub mod SerialRuns
 pub mod PassHits
 pub mod PassHolds

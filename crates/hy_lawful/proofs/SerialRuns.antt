@@ -1,13 +1,16 @@
 -- What the machine comes to is serializable, in the order of its commits.
-use Rattle.std.proofs.Common.{◌≡◌, ℕ, suc, ◌*◌, ◌<◌, ◌≤◌, List, [], Option, None, Some, length, map, get_or, take, refl, ap, sym, ◌∙◌, subst, arith}
+use Rattle.std.proofs.Common.{◌≡◌, ℕ, suc, ◌*◌, ◌<◌, ◌≤◌, List, [], Option, None, Some, length, map, get_or, take, drop, refl, ap, sym, ◌∙◌, subst, arith}
 use Rattle.std.specs.Prelude.{IfSome, slice_get}
-use Rattle.std.proofs.lemmas.List.{length-map, take_all, take-map}
-use Rattle.std.proofs.lemmas.Option.{same_Some}
+use Rattle.std.specs.Option.{IsSomeAnd}
+use Rattle.std.proofs.lemmas.List.{length-map, take_all, take-map, drop-map}
+use Rattle.std.proofs.lemmas.Option.{same_Some, IfSome_then}
 use Rattle.hy_bound.specs.declared.Bound.{Bound}
+use Rattle.hy_bound.specs.declared.Record.{Record}
 use Rattle.hy_bound.specs.declared.Reply.{Reply}
 use Rattle.hy_bound.specs.Fits.{Fits as FitsScript}
 use Rattle.hy_meaning.specs.Statement.{Database}
 use Rattle.hy_meaning.specs.Serial.{Alone, alone_of, serial, database_of}
+use Rattle.hy_stamp.specs.declared.Label.{Label}
 use Rattle.hy_render.specs.declared.Ending.{Ending}
 use Rattle.hy_render.specs.declared.Ending.TheVariants.{Committed, Read, RolledBack, Conflict, Invalid, Range, Full}
 use Rattle.hy_render.specs.declared.TxnOutcome.{TxnOutcome}
@@ -18,18 +21,22 @@ use Rattle.hy_machine.specs.declared.Finished.{Finished}
 use Rattle.hy_machine.specs.declared.Entry.{Entry}
 use Rattle.hy_machine.specs.Tables.{Tables, history, opening_tables, over}
 use Rattle.hy_machine.specs.Sessions.{session_at, snapshot}
-use Rattle.hy_machine.specs.Validation.{committed_of}
+use Rattle.hy_machine.specs.declared.Cause.TheVariants as cause
+use Rattle.hy_machine.specs.Writes.{written}
+use Rattle.hy_machine.specs.Validation.{committed_of, first_hit}
 use Rattle.hy_machine.specs.Outcomes.{txn_outcome_of, outcome_of}
 use Rattle.hy_machine.specs.Runs.{IsReached, RunsAreSteps, RunsEnd, run_of}
 use Rattle.hy_replay.specs.Ran.{Ran, ran}
 use Rattle.hy_replay.specs.Laws.{RunsAgain, RunsKeepWidths, bags_of}
-use Rattle.hy_replay.specs.BagLaws.{RunsAreAlone, alone_as}
+use Rattle.hy_replay.specs.BagLaws.{RunsAreAlone, RunsLogAlone, alone_as, logged_from}
 use Rattle.hy_lawful.specs.Scripts.{statements_of}
 use Rattle.hy_lawful.specs.Outcomes.{committed_at}
 use Rattle.hy_lawful.specs.Reached.{AllHaveRun, AllPassedUnseen, EndedHasRun, PassedUnseen, ReachedHaveRun, ReachedPassUnseen, statements_at}
-use Rattle.hy_lawful.specs.Serial.{AreFirstOf, IsSerial, RepliesAreOfStart, ReplaysAt, alone_at, database_at}
+use Rattle.hy_lawful.specs.Serial.{AreFirstOf, IsSerial, NamesFirstHit, RepliesAreOfStart, ReplaysAt, alone_at, database_at, logged_by}
+use Rattle.hy_lawful.specs.Endings.{AnswersAll}
+use Rattle.hy_lawful.specs.Passing.{PassesBy, ChangesLieIn}
 use Rattle.hy_lawful.specs.Laws.{SerialRuns}
-use Rattle.hy_lawful.proofs.Fits.{Ends, IsCommitted}
+use Rattle.hy_lawful.proofs.Fits.{Ends, IsCommitted, IsInvalid}
 use Rattle.hy_lawful.proofs.Laws.{done_fits}
 use Rattle.hy_lawful.proofs.Outcomes.{each_outcome}
 use Rattle.hy_lawful.proofs.Over.{IsOver, HasCommitted, is_over, entry_committed}
@@ -39,8 +46,9 @@ use Rattle.hy_lawful.proofs.SerialHistory.{RanAt, History, alone_at_rank, serial
 use Rattle.hy_lawful.proofs.SerialScripts.{statements_behind, transactions_of, transaction_at, has_label, label_within, statements_stand}
 use Rattle.hy_lawful.proofs.MoreTables.{IsOrder, changes_at, bags_are}
 use Rattle.hy_lawful.proofs.PassTables.{tables_are}
-use Rattle.hy_lawful.proofs.PassStates.{Passes}
-use Rattle.hy_lawful.proofs.PassSteps.{reached_passes}
+use Rattle.hy_lawful.proofs.PassStates.{Passed, EndPasses, NamesFirstHit as HasFirstHit, Passes}
+use Rattle.hy_lawful.proofs.PassSteps.{one_of, reached_passes}
+use Rattle.hy_lawful.proofs.MorePlaces.{pass_by, lies_in}
 use Rattle.hy_lawful.proofs.SerialTables.{opening_bags, opening_widths}
 
 -- what is known of a state at its end
@@ -56,6 +64,7 @@ record Laws : Type 0 where
   again : RunsAgain
   keeps : RunsKeepWidths
   alone : RunsAreAlone
+  logs : RunsLogAlone
 
 -- an ended transaction that has committed
 record Commits (setting : Setting) (state : State) (number before : ℕ) (finished : Finished) (rank : ℕ) : Type 0 where
@@ -86,15 +95,19 @@ stands_committed setting state end number before finished rank c =
     (done_fits setting state end.over.fits number before finished c.at).ends
 
 -- it has answered all its statements
+answered_all : (setting : Setting) (number before : ℕ) (finished : Finished)
+    → AnswersAll setting.programs (txn_outcome_of setting number before finished)
+    → take (length finished.begun.replies) (statements_at setting number before) ≡ statements_at setting number before
+answered_all setting number before finished answers =
+    let same : statements_of setting.programs (record { session = number; txn = suc before }) ≡ statements_at setting number before =
+    statements_behind setting (record { session = number; txn = suc before }) before refl in
+    take_all (length finished.begun.replies) (statements_at setting number before) (omega (arith, answers, ap length same))
+
 all_answered : (setting : Setting) (state : State) → AtEnd setting state → (number before : ℕ) (finished : Finished) (rank : ℕ)
     → Commits setting state number before finished rank
     → take (length finished.begun.replies) (statements_at setting number before) ≡ statements_at setting number before
 all_answered setting state end number before finished rank c =
-    let answers : length finished.begun.replies ≡ length (statements_of setting.programs (record { session = number; txn = suc before })) =
-    (stands_committed setting state end number before finished rank c).ends.answers in
-    let same : statements_of setting.programs (record { session = number; txn = suc before }) ≡ statements_at setting number before =
-    statements_behind setting (record { session = number; txn = suc before }) before refl in
-    take_all (length finished.begun.replies) (statements_at setting number before) (omega (arith, answers, ap length same))
+    answered_all setting number before finished (stands_committed setting state end number before finished rank c).ends.answers
 
 ran_at : (setting : Setting) (state : State) (end : AtEnd setting state) → (number before : ℕ) (finished : Finished) (rank : ℕ)
     → (c : Commits setting state number before finished rank)
@@ -190,6 +203,37 @@ replies_of_start laws setting state end number before finished at =
     subst (λ (one : Alone). AreFirstOf finished.begun.replies one.replies)
     (alone_there laws setting state end number before start (done_fits setting state end.over.fits number before finished at).start) begins
 
+-- what stands of an ended transaction that passes
+end_passes : (setting : Setting) (state : State) → AtEnd setting state → (number before : ℕ) (finished : Finished)
+    → slice_get (session_at state number).done before ≡ Some finished → EndPasses setting state.order finished
+end_passes setting state end number before finished at =
+    one_of (EndPasses setting state.order) (session_at state number).done (end.passes.sessions number).done before finished at
+
+passed_at : (setting : Setting) (state : State) → AtEnd setting state → (number before : ℕ) (finished : Finished) (rank : ℕ)
+    → Commits setting state number before finished rank → Passed setting state.order finished.begun rank
+passed_at setting state end number before finished rank c =
+    subst (λ (ending : Ending). IfSome (committed_at ending) (Passed setting state.order finished.begun)) c.ending
+    (end_passes setting state end number before finished c.at).0
+
+-- one that has answered all its statements has the records that it logs alone
+logs_alone : Laws → (setting : Setting) (state : State) → AtEnd setting state → (number before : ℕ) (finished : Finished)
+    → slice_get (session_at state number).done before ≡ Some finished
+    → take (length finished.begun.replies) (statements_at setting number before) ≡ statements_at setting number before
+    → finished.begun.records ≡ logged_by setting (map committed_of state.order) (txn_outcome_of setting number before finished)
+logs_alone laws setting state end number before finished at answered =
+    let has : EndedHasRun setting state number before finished = end.ran number before finished at in
+    let start : ℕ = finished.begun.prefix in
+    let statements : List Bound = statements_at setting number before in
+    let label : Label = record { session = number; txn = suc before } in
+    sym has.has_run.records
+    ∙ (laws.logs setting (snapshot setting state start) (take (length finished.begun.replies) statements) finished.begun.took has.given
+    (tables_are setting state.order start) has.has_run.positions has.has_run.came_to
+    ∙ (ap (λ (some : List Bound). logged_from setting.shapes 1 some (bags_of (snapshot setting state start))) answered
+    ∙ (ap (logged_from setting.shapes 1 statements)
+    (bags_at laws setting state end start (done_fits setting state end.over.fits number before finished at).start)
+    ∙ ap (λ (some : List Bound). logged_from setting.shapes 1 some (database_at setting (map committed_of state.order) start))
+    (sym (statements_behind setting label before refl)))))
+
 replays_at : Laws → (setting : Setting) (state : State) → AtEnd setting state → (number before : ℕ) (finished : Finished) (rank : ℕ)
     → Commits setting state number before finished rank
     → ReplaysAt setting (map committed_of state.order) (txn_outcome_of setting number before finished) rank
@@ -207,6 +251,10 @@ replays_at laws setting state end number before finished rank c =
     record {
       gives = ap (λ (one : Alone). one.replies) is ∙ has.has_run.replies;
       runs_on = ap (λ (one : Alone). one.stop) is;
+      passed = subst (λ (records : List Record). (at : ℕ) → finished.begun.prefix ≤ at → at < rank
+          → IfSome (slice_get (map committed_of state.order) at) (PassesBy (written finished.begun.own) records))
+          (logs_alone laws setting state end number before finished c.at (all_answered setting state end number before finished rank c))
+          (pass_by setting state.order finished.begun rank (passed_at setting state end number before finished rank c));
     }
 
 -- where it has committed
@@ -216,6 +264,35 @@ replays : Laws → (setting : Setting) (state : State) → AtEnd setting state �
 replays laws setting state end number before finished at None e = tt
 replays laws setting state end number before finished at (Some rank) e =
     replays_at laws setting state end number before finished rank (record { at = at; ending = ending_at finished.ending rank e })
+
+-- its entry changes what it wrote
+entry_there : (setting : Setting) (state : State) → AtEnd setting state → (number before : ℕ) (finished : Finished)
+    → slice_get (session_at state number).done before ≡ Some finished
+    → IfSome (committed_at finished.ending)
+    (λ (rank : ℕ). IsSomeAnd (slice_get (map committed_of state.order) rank) (ChangesLieIn (written finished.begun.own)))
+entry_there setting state end number before finished at =
+    IfSome_then (committed_at finished.ending) (end_passes setting state end number before finished at).0
+    (λ rank p. lies_in setting state.order finished.begun rank p)
+
+-- the first hit of what it logs is the one that it names
+names_hit : Laws → (setting : Setting) (state : State) → AtEnd setting state → (number before : ℕ) (finished : Finished)
+    → slice_get (session_at state number).done before ≡ Some finished → (ending : Ending) → finished.ending ≡ ending
+    → NamesFirstHit setting (map committed_of state.order) (txn_outcome_of setting number before finished) ending
+names_hit laws setting state end number before finished at (Committed rank) e = tt
+names_hit laws setting state end number before finished at Read e = tt
+names_hit laws setting state end number before finished at RolledBack e = tt
+names_hit laws setting state end number before finished at (Conflict table pos other) e = tt
+names_hit laws setting state end number before finished at (Invalid table pos other statement) e =
+    let invalid : IsInvalid setting state.order (txn_outcome_of setting number before finished) other statement =
+    subst (Ends setting state.order (txn_outcome_of setting number before finished)) e
+    (done_fits setting state end.over.fits number before finished at).ends in
+    let hit : first_hit finished.begun.records (map committed_of (drop finished.begun.prefix state.order)) ≡ Some (cause.Invalid table pos other statement) =
+    subst (HasFirstHit state.order finished.begun) e (end_passes setting state end number before finished at).1 in
+    ap (λ (records : List Record). first_hit records (drop finished.begun.prefix (map committed_of state.order)))
+    (sym (logs_alone laws setting state end number before finished at (answered_all setting number before finished invalid.answers)))
+    ∙ (ap (first_hit finished.begun.records) (drop-map committed_of finished.begun.prefix state.order) ∙ hit)
+names_hit laws setting state end number before finished at (Range table pos) e = tt
+names_hit laws setting state end number before finished at (Full table) e = tt
 
 all_tables : Laws → (setting : Setting) (state : State) → AtEnd setting state
     → (outcome_of setting state).tables ≡ database_at setting (map committed_of state.order) (length (map committed_of state.order))
@@ -231,6 +308,12 @@ end_serial laws setting state end = record {
   replays = each_outcome setting (λ (txn : TxnOutcome). IfSome (committed_at txn.ending) (ReplaysAt setting (map committed_of state.order) txn)) state
       (λ number before finished at. replays laws setting state end number before finished at (committed_at finished.ending) refl);
   tables = all_tables laws setting state end;
+  entries = each_outcome setting
+      (λ (txn : TxnOutcome). IfSome (committed_at txn.ending)
+      (λ (rank : ℕ). IsSomeAnd (slice_get (map committed_of state.order) rank) (ChangesLieIn txn.wrote)))
+      state (entry_there setting state end);
+  refusals = each_outcome setting (λ (txn : TxnOutcome). NamesFirstHit setting (map committed_of state.order) txn txn.ending) state
+      (λ number before finished at. names_hit laws setting state end number before finished at finished.ending refl);
   changes = changes_at setting state.order (order_of setting state end);
   history = λ rank below. bags_are setting state.order (order_of setting state end) rank
       ∙ bags_at laws setting state end rank (omega (arith, below, length-map state.order committed_of));
@@ -238,11 +321,12 @@ end_serial laws setting state end = record {
 
 -- ---- runs
 
-pub serial_runs : RunsAreSteps → RunsEnd → ReachedHaveRun → ReachedPassUnseen → RunsAgain → RunsKeepWidths → RunsAreAlone → SerialRuns
-serial_runs steps ends ran unseen again keeps alone setting schedule chunked script =
+pub serial_runs : RunsAreSteps → RunsEnd → ReachedHaveRun → ReachedPassUnseen → RunsAgain → RunsKeepWidths → RunsAreAlone → RunsLogAlone
+    → SerialRuns
+serial_runs steps ends ran unseen again keeps alone logs setting schedule chunked script =
     let state : State = run_of setting schedule in
     let reached : IsReached setting state = steps setting schedule in
-    end_serial (record { again = again; keeps = keeps; alone = alone }) setting state
+    end_serial (record { again = again; keeps = keeps; alone = alone; logs = logs }) setting state
     (record {
       over = is_over setting state (reached_fits setting state reached) (ends setting schedule);
       ran = ran setting state chunked reached;

@@ -4,6 +4,7 @@ pub mod Positions
 pub mod Endings
 pub mod Lawful
 pub mod Cells
+pub mod Passing
 pub mod Serial
 pub mod Reached
 pub mod Laws

@@ -50,20 +50,21 @@ pub record Passed (setting : Setting) (order : List Entry) (begun : Begun) (rank
       → PassesAt begun table pos pair
   pub wrote : (table pos : ℕ) (pair : Pair) → pair_at order rank table pos ≡ Some pair → is_some (item_at begun.own table pos) ≡ true
 
--- one that is invalid names the first hit of its records by the entries from its start on
-abbrev pub NamesFirstHit : List Entry → Begun → Ending → Type 0
-NamesFirstHit order begun (Committed rank) = Unit {0}
-NamesFirstHit order begun Read = Unit {0}
-NamesFirstHit order begun RolledBack = Unit {0}
-NamesFirstHit order begun (Conflict table pos other) = Unit {0}
-NamesFirstHit order begun (Invalid table pos other statement) =
+-- one that is in conflict has not written that position; one that is invalid names the first hit of its records by the
+-- entries from its start on
+abbrev pub IsRefusal : List Entry → Begun → Ending → Type 0
+IsRefusal order begun (Committed rank) = Unit {0}
+IsRefusal order begun Read = Unit {0}
+IsRefusal order begun RolledBack = Unit {0}
+IsRefusal order begun (Conflict table pos other) = item_at begun.own table pos ≡ None
+IsRefusal order begun (Invalid table pos other statement) =
     first_hit begun.records (map committed_of (drop begun.prefix order)) ≡ Some (cause.Invalid table pos other statement)
-NamesFirstHit order begun (Range table pos) = Unit {0}
-NamesFirstHit order begun (Full table) = Unit {0}
+IsRefusal order begun (Range table pos) = Unit {0}
+IsRefusal order begun (Full table) = Unit {0}
 
 abbrev pub EndPasses : Setting → List Entry → Finished → Type 0
 EndPasses setting order finished =
-    IfSome (committed_at finished.ending) (Passed setting order finished.begun) × NamesFirstHit order finished.begun finished.ending
+    IfSome (committed_at finished.ending) (Passed setting order finished.begun) × IsRefusal order finished.begun finished.ending
 
 -- no entry from the start of a transaction on does anything at a position
 abbrev pub Clear : List Entry → Begun → ℕ → ℕ → Type 0
@@ -76,7 +77,7 @@ abbrev pub PhasePasses : Setting → List Entry → Begun → Phase → Type 0
 PhasePasses setting order begun (Working visited count) = HeldClear setting order (record { begun = begun; phase = Working visited count })
 PhasePasses setting order begun (Stamping visited) = Passed setting order begun (length order - 1)
 PhasePasses setting order begun (Undoing visited cause) =
-    HeldClear setting order (record { begun = begun; phase = Undoing visited cause }) × NamesFirstHit order begun (ending_of cause)
+    HeldClear setting order (record { begun = begun; phase = Undoing visited cause }) × IsRefusal order begun (ending_of cause)
 
 pub record OpenPasses (setting : Setting) (order : List Entry) (current : Open) : Type 0 where
   pub low : current.begun.low ≤ current.begun.prefix
@@ -144,22 +145,22 @@ passed_grows setting order more begun rank p = record {
   wrote = λ table pos pair e. p.wrote table pos pair (sym (pair_stays order more rank table pos p.within) ∙ e);
 }
 
-first_hit_grows : (order more : List Entry) (begun : Begun) (ending : Ending) → NamesFirstHit order begun ending → NamesFirstHit (order ++ more) begun ending
-first_hit_grows order more begun (Committed rank) h = tt
-first_hit_grows order more begun Read h = tt
-first_hit_grows order more begun RolledBack h = tt
-first_hit_grows order more begun (Conflict table pos other) h = tt
-first_hit_grows order more begun (Invalid table pos other statement) h =
+refusal_grows : (order more : List Entry) (begun : Begun) (ending : Ending) → IsRefusal order begun ending → IsRefusal (order ++ more) begun ending
+refusal_grows order more begun (Committed rank) h = tt
+refusal_grows order more begun Read h = tt
+refusal_grows order more begun RolledBack h = tt
+refusal_grows order more begun (Conflict table pos other) h = h
+refusal_grows order more begun (Invalid table pos other statement) h =
     hit_stays begun.records begun.prefix order more (cause.Invalid table pos other statement) h
-first_hit_grows order more begun (Range table pos) h = tt
-first_hit_grows order more begun (Full table) h = tt
+refusal_grows order more begun (Range table pos) h = tt
+refusal_grows order more begun (Full table) h = tt
 
 pub ends_grow : (setting : Setting) (order more : List Entry) (finished : Finished) → EndPasses setting order finished
     → EndPasses setting (order ++ more) finished
 ends_grow setting order more finished h =
     (
       IfSome_then (committed_at finished.ending) h.0 (λ rank p. passed_grows setting order more finished.begun rank p),
-      first_hit_grows order more finished.begun finished.ending h.1,
+      refusal_grows order more finished.begun finished.ending h.1,
     )
 
 -- an entry does nothing at the positions that an open transaction holds
@@ -185,7 +186,7 @@ phase_grows setting order entry begun (Working visited count) h spares n =
 phase_grows setting order entry begun (Stamping visited) h spares n = absurd (n visited refl)
 phase_grows setting order entry begun (Undoing visited cause) h spares n = (
   held_grows setting order entry (record { begun = begun; phase = Undoing visited cause }) h.0 spares,
-  first_hit_grows order (entry ∷ []) begun (ending_of cause) h.1,
+  refusal_grows order (entry ∷ []) begun (ending_of cause) h.1,
 )
 
 abbrev pub NowSpared : Setting → Entry → Option Open → Type 0

@@ -1,12 +1,14 @@
 -- What a session's turn makes of its open transaction passes.
-use Rattle.std.proofs.Common.{◌≡◌, ℕ, suc, ◌-◌, ◌*◌, ◌≤◌, List, [], Option, None, Some, Bool, true, false, is_some, Result, Ok, Err, length}
+use Rattle.std.proofs.Common.{◌≡◌, ℕ, suc, ◌-◌, ◌*◌, ◌≤◌, List, [], ◌∷◌, Option, None, Some, Bool, true, false, is_some, Result, Ok, Err, length}
 use Rattle.std.proofs.Common.{map, drop, cond, ltb, refl, ap, sym, ◌∙◌, subst, arith, inl, inr}
 use Rattle.std.specs.Prelude.{IfSome, slice_get}
+use Rattle.std.specs.List.{AllByRecursion}
 use Rattle.std.proofs.lemmas.Bool.{cases_Bool, and_parts, and_from}
 use Rattle.hy_value.specs.declared.Value.{Value}
 use Rattle.hy_bound.specs.declared.Txn.{Txn}
 use Rattle.hy_bound.specs.declared.Bound.{Bound}
 use Rattle.hy_bound.specs.declared.Bound.TheVariants.{Select, Group, Insert, Update, Delete}
+use Rattle.hy_bound.specs.declared.Record.{Record}
 use Rattle.hy_bound.specs.declared.Reply.{Reply}
 use Rattle.hy_bound.specs.declared.WriteKind.{WriteKind}
 use Rattle.hy_bound.specs.declared.WriteKind.TheVariants as kind
@@ -28,7 +30,7 @@ use Rattle.hy_machine.specs.declared.Phase.TheVariants.{Working, Stamping, Undoi
 use Rattle.hy_machine.specs.declared.Turn.{Turn}
 use Rattle.hy_machine.specs.declared.Turn.TheVariants.{Done, Waits, Begins, Visits, Answers, Enters, Ends}
 use Rattle.hy_machine.specs.Positions.{item_at}
-use Rattle.hy_machine.specs.Tables.{Own, positions_in, chunk_of}
+use Rattle.hy_machine.specs.Tables.{Cell, Own, positions_in, chunk_of}
 use Rattle.hy_machine.specs.Writes.{with_writes, wrote_nothing, written_chunks, is_among}
 use Rattle.hy_machine.specs.Sessions.{blocker, view}
 use Rattle.hy_machine.specs.Holding.{undone, holds, is_free, opponent}
@@ -39,10 +41,10 @@ use Rattle.hy_machine.specs.Turns.{undo_turn, stamp_turn, validated_turn, commit
 use Rattle.hy_machine.specs.Steps.{after_visit, after_answer}
 use Rattle.hy_lawful.specs.Outcomes.{committed_at}
 use Rattle.hy_lawful.proofs.Fits.{FitsTables, Fits}
-use Rattle.hy_lawful.proofs.Refusals.{Refuses, verdict_refuses, sweep_refuses}
+use Rattle.hy_lawful.proofs.Refusals.{sweep_refuses, verdict_fails, first_hit_is}
 use Rattle.hy_lawful.proofs.PassHolds.{own_among, fewer_among, written_is}
-use Rattle.hy_lawful.proofs.PassStates.{Passed, NamesFirstHit, EndPasses, PhasePasses, HeldClear, OpenPasses, HoldsAlone, Passes}
-use Rattle.hy_lawful.proofs.PassMays.{OwnMay, AllMay, MayWrite, IsAtWork, swept_may, found_is, free_may}
+use Rattle.hy_lawful.proofs.PassStates.{Passed, IsRefusal, EndPasses, PhasePasses, HeldClear, OpenPasses, HoldsAlone, Passes}
+use Rattle.hy_lawful.proofs.PassMays.{OwnMay, AllMay, MayWrite, IsAtWork, no_opponent, swept_may, found_is, free_may}
 
 -- an open transaction goes on as this one
 abbrev pub GoesOn : Setting → State → ℕ → Open → Type 0
@@ -65,17 +67,18 @@ PassesTurn setting state number current (Ends ending) = EndPasses setting state.
 abbrev NextPhase : List Entry → Begun → Phase → Type 0
 NextPhase order begun (Working visited count) = Unit {0}
 NextPhase order begun (Stamping visited) = ⊥
-NextPhase order begun (Undoing visited cause) = NamesFirstHit order begun (ending_of cause)
+NextPhase order begun (Undoing visited cause) = IsRefusal order begun (ending_of cause)
 
 -- a turn of a transaction at work
 abbrev WorkTurn : Setting → State → ℕ → Begun → Turn → Type 0
 WorkTurn setting state number begun Done = Unit {0}
 WorkTurn setting state number begun (Waits by) = Unit {0}
 WorkTurn setting state number begun Begins = ⊥
-WorkTurn setting state number begun (Visits writes phase) = AllMay setting state number begun writes × NextPhase state.order begun phase
+WorkTurn setting state number begun (Visits writes phase) =
+    AllMay setting state number begun writes × NextPhase state.order (record begun { own = with_writes begun.own writes }) phase
 WorkTurn setting state number begun (Answers writes reply took records) = AllMay setting state number begun writes
 WorkTurn setting state number begun Enters = first_hit begun.records (map committed_of (drop begun.prefix state.order)) ≡ None
-WorkTurn setting state number begun (Ends ending) = (committed_at ending ≡ None) × NamesFirstHit state.order begun ending
+WorkTurn setting state number begun (Ends ending) = (committed_at ending ≡ None) × IsRefusal state.order begun ending
 
 -- ---- statements
 
@@ -87,14 +90,12 @@ read_writes setting state number begun visited tables statement gathered reply =
   | inr f ↦ rw f tt
 ]
 
--- what refuses a statement is no hit
-refusal_names : (order : List Entry) (begun : Begun) (kind : WriteKind) (table pos : ℕ) (opponent : Option Label) (cause : Cause)
-    → Refuses kind table pos opponent cause → NamesFirstHit order begun (ending_of cause)
-refusal_names order begun kind table pos opponent RolledBack r = tt
-refusal_names order begun kind table pos opponent (Conflict of at other) r = tt
-refusal_names order begun kind table pos opponent (Invalid of at other statement) r = absurd r
-refusal_names order begun kind table pos opponent (Range of at) r = tt
-refusal_names order begun kind table pos opponent (Full of) r = tt
+-- where somebody is in the way nothing is written
+not_own : (setting : Setting) (state : State) (number : ℕ) (begun : Begun) (table pos : ℕ) (other : Label) → IsAtWork setting state number begun
+    → opponent setting state number begun.prefix table pos ≡ Some other → (own : Option Cell) → item_at begun.own table pos ≡ own → own ≡ None
+not_own setting state number begun table pos other w o None e = refl
+not_own setting state number begun table pos other w o (Some cell) e =
+    absurd (let never : None ≡ Some other = sym (no_opponent setting state number begun table pos (w.may table pos (ap is_some e))) ∙ o in cc)
 
 write_writes : (setting : Setting) (state : State) (number : ℕ) (begun : Begun) (visited count : ℕ) (statement : Bound) (kind : WriteKind) (pred : Condition)
     (table : ℕ) → IsAtWork setting state number begun
@@ -102,10 +103,12 @@ write_writes : (setting : Setting) (state : State) (number : ℕ) (begun : Begun
     → WorkTurn setting state number begun (write_turn setting begun visited count statement kind result)
 write_writes setting state number begun visited count statement kind pred table w (Err cause) e = (
   tt,
-  sweep_refuses (λ (one : Cause). NamesFirstHit state.order begun (ending_of one)) table (verdict_at setting state number begun kind pred table)
+  sweep_refuses (λ (one : Cause). IsRefusal state.order begun (ending_of one)) table (verdict_at setting state number begun kind pred table)
       (positions_in setting visited) cause
-      (λ pos one v. refusal_names state.order begun kind table pos (opponent setting state number begun.prefix table pos) one
-      (verdict_refuses kind pred table pos (opponent setting state number begun.prefix table pos) (item_at (view setting state begun) table pos) one v))
+      (λ pos one v. verdict_fails (λ (one : Cause). IsRefusal state.order begun (ending_of one)) kind pred table pos
+      (opponent setting state number begun.prefix table pos) (item_at (view setting state begun) table pos) one
+      (λ row other here t o. not_own setting state number begun table pos other w o (item_at begun.own table pos) refl)
+      (λ row here t n. tt) v)
       e,
 )
 write_writes setting state number begun visited count statement kind pred table w (Ok writes) e =
@@ -170,16 +173,34 @@ unless_writes setting state number begun turn None h = h
 unless_writes setting state number begun turn (Some by) h = tt
 
 undo_writes : (setting : Setting) (state : State) (number : ℕ) (begun : Begun) (visited : ℕ) (cause : Cause)
-    → NamesFirstHit state.order begun (ending_of cause) → WorkTurn setting state number begun (undo_turn setting state number begun visited cause)
+    → IsRefusal state.order begun (ending_of cause) → WorkTurn setting state number begun (undo_turn setting state number begun visited cause)
 undo_writes setting state number begun visited cause h = elim (cases_Bool (ltb visited (length (written_chunks setting begun.own)))) [
   | inl t ↦ rw t (tt, h)
   | inr f ↦ rw f (unless_writes setting state number begun (Ends (ending_of cause)) (blocker state number) (undone_is cause, h))
 ]
 
+any_record : (records : List Record) → AllByRecursion (λ (of : Record). Unit {0}) records
+any_record [] = tt
+any_record (of ∷ records) = (tt, any_record records)
+
+abbrev NoConflict : Cause → Type 0
+NoConflict RolledBack = Unit {0}
+NoConflict (Conflict table pos other) = ⊥
+NoConflict (Invalid table pos other statement) = Unit {0}
+NoConflict (Range table pos) = Unit {0}
+NoConflict (Full table) = Unit {0}
+
+no_conflict : (records : List Record) (entries : List Entry) (table pos : ℕ) (other : Label)
+    → first_hit records (map committed_of entries) ≡ Some (Conflict table pos other) → ⊥
+no_conflict records entries table pos other e =
+    first_hit_is NoConflict (λ (number : ℕ). Unit {0}) records entries (Conflict table pos other) (any_record records)
+    (λ i label at of place statement q. tt) e
+
+-- what validation refuses names its hit
 hit_names : (order : List Entry) (begun : Begun) (cause : Cause) → first_hit begun.records (map committed_of (drop begun.prefix order)) ≡ Some cause
-    → NamesFirstHit order begun (ending_of cause)
+    → IsRefusal order begun (ending_of cause)
 hit_names order begun RolledBack e = tt
-hit_names order begun (Conflict table pos other) e = tt
+hit_names order begun (Conflict table pos other) e = absurd (no_conflict begun.records (drop begun.prefix order) table pos other e)
 hit_names order begun (Invalid table pos other statement) e = e
 hit_names order begun (Range table pos) e = tt
 hit_names order begun (Full table) e = tt

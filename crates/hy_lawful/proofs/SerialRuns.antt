@@ -46,7 +46,7 @@ use Rattle.hy_lawful.proofs.SerialHistory.{RanAt, History, alone_at_rank, serial
 use Rattle.hy_lawful.proofs.SerialScripts.{statements_behind, transactions_of, transaction_at, has_label, label_within, statements_stand}
 use Rattle.hy_lawful.proofs.MoreTables.{IsOrder, changes_at, bags_are}
 use Rattle.hy_lawful.proofs.PassTables.{tables_are}
-use Rattle.hy_lawful.proofs.PassStates.{Passed, EndPasses, NamesFirstHit as HasFirstHit, Passes}
+use Rattle.hy_lawful.proofs.PassStates.{Passed, EndPasses, IsRefusal, Passes}
 use Rattle.hy_lawful.proofs.PassSteps.{one_of, reached_passes}
 use Rattle.hy_lawful.proofs.MorePlaces.{pass_by, lies_in}
 use Rattle.hy_lawful.proofs.SerialTables.{opening_bags, opening_widths}
@@ -287,7 +287,7 @@ names_hit laws setting state end number before finished at (Invalid table pos ot
     subst (Ends setting state.order (txn_outcome_of setting number before finished)) e
     (done_fits setting state end.over.fits number before finished at).ends in
     let hit : first_hit finished.begun.records (map committed_of (drop finished.begun.prefix state.order)) ≡ Some (cause.Invalid table pos other statement) =
-    subst (HasFirstHit state.order finished.begun) e (end_passes setting state end number before finished at).1 in
+    subst (IsRefusal state.order finished.begun) e (end_passes setting state end number before finished at).1 in
     ap (λ (records : List Record). first_hit records (drop finished.begun.prefix (map committed_of state.order)))
     (sym (logs_alone laws setting state end number before finished at (answered_all setting number before finished invalid.answers)))
     ∙ (ap (first_hit finished.begun.records) (drop-map committed_of finished.begun.prefix state.order) ∙ hit)

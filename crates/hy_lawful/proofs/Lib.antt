@@ -22,6 +22,7 @@ pub mod SerialHistory
 pub mod SerialScripts
 pub mod MoreTables
 pub mod MorePlaces
+pub mod MoreRefusals
 pub mod SerialRuns
 pub mod PassHits
 pub mod PassHolds

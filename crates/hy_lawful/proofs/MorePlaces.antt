@@ -27,7 +27,7 @@ none_any p [] h = refl
 none_any p (x ∷ xs) h = or_from (p x) (list_any p xs) h.0 (none_any p xs h.1)
 
 -- where nothing was written there is no place
-place_missing : (own : Own) (table pos : ℕ) → item_at own table pos ≡ None → has_place (written own) table pos ≡ false
+pub place_missing : (own : Own) (table pos : ℕ) → item_at own table pos ≡ None → has_place (written own) table pos ≡ false
 place_missing own table pos none = none_any (λ (place : Place). place.table == table && place.pos == pos) (written own)
     (all_by_place (λ (place : Place). (place.table == table && place.pos == pos) ≡ false) place_at own (λ at other cell e. (elsewhere at other cell e, tt)))
   where

@@ -1,6 +1,7 @@
 -- What the machine comes to is serializable, in the order of its commits.
 use Rattle.std.proofs.Common.{◌≡◌, ℕ, suc, ◌*◌, ◌<◌, ◌≤◌, List, [], Option, None, Some, length, map, get_or, take, drop, refl, ap, sym, ◌∙◌, subst, arith}
 use Rattle.std.specs.Prelude.{IfSome, slice_get}
+use Rattle.std.specs.List.{list_any}
 use Rattle.std.specs.Option.{IsSomeAnd}
 use Rattle.std.proofs.lemmas.List.{length-map, take_all, take-map, drop-map}
 use Rattle.std.proofs.lemmas.Option.{same_Some, IfSome_then}
@@ -8,7 +9,7 @@ use Rattle.hy_bound.specs.declared.Bound.{Bound}
 use Rattle.hy_bound.specs.declared.Record.{Record}
 use Rattle.hy_bound.specs.declared.Reply.{Reply}
 use Rattle.hy_bound.specs.Fits.{Fits as FitsScript}
-use Rattle.hy_meaning.specs.Statement.{Database}
+use Rattle.hy_meaning.specs.Statement.{Database, rows_in}
 use Rattle.hy_meaning.specs.Serial.{Alone, alone_of, serial, database_of}
 use Rattle.hy_stamp.specs.declared.Label.{Label}
 use Rattle.hy_render.specs.declared.Ending.{Ending}
@@ -19,7 +20,8 @@ use Rattle.hy_machine.specs.declared.Setting.{Setting}
 use Rattle.hy_machine.specs.declared.State.{State}
 use Rattle.hy_machine.specs.declared.Finished.{Finished}
 use Rattle.hy_machine.specs.declared.Entry.{Entry}
-use Rattle.hy_machine.specs.Tables.{Tables, history, opening_tables, over}
+use Rattle.hy_machine.specs.Positions.{item_at}
+use Rattle.hy_machine.specs.Tables.{Cell, Tables, history, opening_tables, over}
 use Rattle.hy_machine.specs.Sessions.{session_at, snapshot}
 use Rattle.hy_machine.specs.declared.Cause.TheVariants as cause
 use Rattle.hy_machine.specs.Writes.{written}
@@ -30,9 +32,11 @@ use Rattle.hy_replay.specs.Ran.{Ran, ran}
 use Rattle.hy_replay.specs.Laws.{RunsAgain, RunsKeepWidths, bags_of}
 use Rattle.hy_replay.specs.BagLaws.{RunsAreAlone, RunsLogAlone, alone_as, logged_from}
 use Rattle.hy_lawful.specs.Scripts.{statements_of}
-use Rattle.hy_lawful.specs.Outcomes.{committed_at}
+use Rattle.hy_lawful.specs.Outcomes.{committed_at, refused_statement}
 use Rattle.hy_lawful.specs.Reached.{AllHaveRun, AllPassedUnseen, EndedHasRun, PassedUnseen, ReachedHaveRun, ReachedPassUnseen, statements_at}
-use Rattle.hy_lawful.specs.Serial.{AreFirstOf, IsSerial, NamesFirstHit, RepliesAreOfStart, ReplaysAt, alone_at, database_at, logged_by}
+use Rattle.hy_lawful.specs.Databases.{alone_at, database_at, logged_by}
+use Rattle.hy_lawful.specs.Refusing.{IsRefusedBy, WasRefused, selects, goes_out}
+use Rattle.hy_lawful.specs.Serial.{AreFirstOf, IsSerial, RepliesAreOfStart, ReplaysAt}
 use Rattle.hy_lawful.specs.Endings.{AnswersAll}
 use Rattle.hy_lawful.specs.Passing.{PassesBy, ChangesLieIn}
 use Rattle.hy_lawful.specs.Laws.{SerialRuns}
@@ -44,11 +48,13 @@ use Rattle.hy_lawful.proofs.Reached.{reached_fits}
 use Rattle.hy_lawful.proofs.SerialAlone.{first_replies}
 use Rattle.hy_lawful.proofs.SerialHistory.{RanAt, History, alone_at_rank, serial_to}
 use Rattle.hy_lawful.proofs.SerialScripts.{statements_behind, transactions_of, transaction_at, has_label, label_within, statements_stand}
-use Rattle.hy_lawful.proofs.MoreTables.{IsOrder, changes_at, bags_are}
+use Rattle.hy_lawful.proofs.MoreTables.{IsOrder, printed_is, changes_at, bags_are}
 use Rattle.hy_lawful.proofs.PassTables.{tables_are}
 use Rattle.hy_lawful.proofs.PassStates.{Passed, EndPasses, IsRefusal, Passes}
 use Rattle.hy_lawful.proofs.PassSteps.{one_of, reached_passes}
-use Rattle.hy_lawful.proofs.MorePlaces.{pass_by, lies_in}
+use Rattle.hy_lawful.proofs.MorePlaces.{place_missing, pass_by, lies_in}
+use Rattle.hy_lawful.proofs.MoreRefusals.{out_in_bags}
+use Rattle.hy_lawful.proofs.RunSweeps.{kept_item}
 use Rattle.hy_lawful.proofs.SerialTables.{opening_bags, opening_widths}
 
 -- what is known of a state at its end
@@ -274,15 +280,58 @@ entry_there setting state end number before finished at =
     IfSome_then (committed_at finished.ending) (end_passes setting state end number before finished at).0
     (λ rank p. lies_in setting state.order finished.begun rank p)
 
--- the first hit of what it logs is the one that it names
-names_hit : Laws → (setting : Setting) (state : State) → AtEnd setting state → (number before : ℕ) (finished : Finished)
+-- the refused statement, by its label
+refused_over : (setting : Setting) (state : State) (end : AtEnd setting state) → (number before : ℕ) (finished : Finished)
+    → (at : slice_get (session_at state number).done before ≡ Some finished)
+    → WasRefused (over (snapshot setting state finished.begun.prefix) finished.begun.own)
+    (over (snapshot setting state finished.begun.prefix) (end.ran number before finished at).given.own)
+    (refused_statement setting.programs (txn_outcome_of setting number before finished)) finished.ending
+refused_over setting state end number before finished at =
+    let has : EndedHasRun setting state number before finished = end.ran number before finished at in
+    subst (λ (statements : List Bound). WasRefused (over (snapshot setting state finished.begun.prefix) finished.begun.own)
+    (over (snapshot setting state finished.begun.prefix) has.given.own) (slice_get statements (length finished.begun.replies)) finished.ending)
+    (sym (statements_behind setting (record { session = number; txn = suc before }) before refl)) has.refused
+
+-- the answered statements give alone what they came to
+answered_alone : Laws → (setting : Setting) (state : State) → (end : AtEnd setting state) → (number before : ℕ) (finished : Finished)
+    → (at : slice_get (session_at state number).done before ≡ Some finished)
+    → alone_of setting.shapes
+    (take (length finished.begun.replies) (statements_of setting.programs (record { session = number; txn = suc before })))
+    (database_at setting (map committed_of state.order) finished.begun.prefix)
+    ≡ alone_as (snapshot setting state finished.begun.prefix) (end.ran number before finished at).given
+answered_alone laws setting state end number before finished at =
+    let has : EndedHasRun setting state number before finished = end.ran number before finished at in
+    let start : ℕ = finished.begun.prefix in
+    let many : ℕ = length finished.begun.replies in
+    ap (λ (db : Database). alone_of setting.shapes (take many (statements_of setting.programs (record { session = number; txn = suc before }))) db)
+    (sym (bags_at laws setting state end start (done_fits setting state end.over.fits number before finished at).start))
+    ∙ (ap (λ (statements : List Bound). alone_of setting.shapes (take many statements) (bags_of (snapshot setting state start)))
+    (statements_behind setting (record { session = number; txn = suc before }) before refl)
+    ∙ laws.alone setting (snapshot setting state start) (take many (statements_at setting number before)) finished.begun.took has.given
+    (tables_are setting state.order start) has.has_run.positions has.has_run.came_to)
+
+-- one that was refused was so for a cause
+refused_by : Laws → (setting : Setting) (state : State) → AtEnd setting state → (number before : ℕ) (finished : Finished)
     → slice_get (session_at state number).done before ≡ Some finished → (ending : Ending) → finished.ending ≡ ending
-    → NamesFirstHit setting (map committed_of state.order) (txn_outcome_of setting number before finished) ending
-names_hit laws setting state end number before finished at (Committed rank) e = tt
-names_hit laws setting state end number before finished at Read e = tt
-names_hit laws setting state end number before finished at RolledBack e = tt
-names_hit laws setting state end number before finished at (Conflict table pos other) e = tt
-names_hit laws setting state end number before finished at (Invalid table pos other statement) e =
+    → IsRefusedBy setting (map committed_of state.order) (txn_outcome_of setting number before finished) ending
+refused_by laws setting state end number before finished at (Committed rank) e = tt
+refused_by laws setting state end number before finished at Read e = tt
+refused_by laws setting state end number before finished at RolledBack e = tt
+refused_by laws setting state end number before finished at (Conflict table pos other) e =
+    let has : EndedHasRun setting state number before finished = end.ran number before finished at in
+    let free : item_at finished.begun.own table pos ≡ None =
+    subst (IsRefusal state.order finished.begun) e (end_passes setting state end number before finished at).1 in
+    record {
+      selects = ap (selects table (refused_statement setting.programs (txn_outcome_of setting number before finished)))
+          (printed_is setting state.order (order_of setting state end) finished.begun.prefix table pos
+          ∙ sym (kept_item (λ (own : Cell). own) (snapshot setting state finished.begun.prefix) finished.begun.own table pos free))
+          ∙ subst (WasRefused (over (snapshot setting state finished.begun.prefix) finished.begun.own)
+          (over (snapshot setting state finished.begun.prefix) has.given.own)
+          (refused_statement setting.programs (txn_outcome_of setting number before finished))) e
+          (refused_over setting state end number before finished at);
+      not_own = place_missing finished.begun.own table pos free;
+    }
+refused_by laws setting state end number before finished at (Invalid table pos other statement) e =
     let invalid : IsInvalid setting state.order (txn_outcome_of setting number before finished) other statement =
     subst (Ends setting state.order (txn_outcome_of setting number before finished)) e
     (done_fits setting state end.over.fits number before finished at).ends in
@@ -291,8 +340,15 @@ names_hit laws setting state end number before finished at (Invalid table pos ot
     ap (λ (records : List Record). first_hit records (drop finished.begun.prefix (map committed_of state.order)))
     (sym (logs_alone laws setting state end number before finished at (answered_all setting number before finished invalid.answers)))
     ∙ (ap (first_hit finished.begun.records) (drop-map committed_of finished.begun.prefix state.order) ∙ hit)
-names_hit laws setting state end number before finished at (Range table pos) e = tt
-names_hit laws setting state end number before finished at (Full table) e = tt
+refused_by laws setting state end number before finished at (Range table pos) e =
+    let has : EndedHasRun setting state number before finished = end.ran number before finished at in
+    let tables : Tables = snapshot setting state finished.begun.prefix in
+    let statement : Option Bound = refused_statement setting.programs (txn_outcome_of setting number before finished) in
+    ap (λ (one : Alone). list_any (goes_out table statement) (rows_in one.database table))
+    (answered_alone laws setting state end number before finished at)
+    ∙ out_in_bags table statement (over tables has.given.own) pos
+    (subst (WasRefused (over tables finished.begun.own) (over tables has.given.own) statement) e (refused_over setting state end number before finished at))
+refused_by laws setting state end number before finished at (Full table) e = tt
 
 all_tables : Laws → (setting : Setting) (state : State) → AtEnd setting state
     → (outcome_of setting state).tables ≡ database_at setting (map committed_of state.order) (length (map committed_of state.order))
@@ -312,8 +368,8 @@ end_serial laws setting state end = record {
       (λ (txn : TxnOutcome). IfSome (committed_at txn.ending)
       (λ (rank : ℕ). IsSomeAnd (slice_get (map committed_of state.order) rank) (ChangesLieIn txn.wrote)))
       state (entry_there setting state end);
-  refusals = each_outcome setting (λ (txn : TxnOutcome). NamesFirstHit setting (map committed_of state.order) txn txn.ending) state
-      (λ number before finished at. names_hit laws setting state end number before finished at finished.ending refl);
+  refusals = each_outcome setting (λ (txn : TxnOutcome). IsRefusedBy setting (map committed_of state.order) txn txn.ending) state
+      (λ number before finished at. refused_by laws setting state end number before finished at finished.ending refl);
   changes = changes_at setting state.order (order_of setting state end);
   history = λ rank below. bags_are setting state.order (order_of setting state end) rank
       ∙ bags_at laws setting state end rank (omega (arith, below, length-map state.order committed_of));

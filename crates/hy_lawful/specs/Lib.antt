@@ -4,6 +4,7 @@ pub mod Positions
 pub mod Endings
 pub mod Lawful
 pub mod Cells
+pub mod Databases
 pub mod Passing
 pub mod Refusing
 pub mod Serial

@@ -1,35 +1,17 @@
 -- Serializability: what every transaction was told is what it is told alone.
-use Rattle.std.specs.Prelude.{◌≡◌, ℕ, ◌<◌, ◌≤◌, List, IfSome, None, Some, length, take, drop, map, slice_get}
+use Rattle.std.specs.Prelude.{◌≡◌, ℕ, ◌<◌, ◌≤◌, List, IfSome, None, length, take, slice_get}
 use Rattle.std.specs.List.{AllByRecursion}
 use Rattle.std.specs.Option.{IsSomeAnd}
-use Rattle.hy_bound.specs.declared.Record.{Record}
 use Rattle.hy_bound.specs.declared.Reply.{Reply}
-use Rattle.hy_meaning.specs.Statement.{Database}
-use Rattle.hy_meaning.specs.Serial.{Alone, alone_of, serial, database_of}
-use Rattle.hy_render.specs.declared.Ending.{Ending}
-use Rattle.hy_render.specs.declared.Ending.TheVariants.{Committed, Read, RolledBack, Conflict, Invalid, Range, Full}
 use Rattle.hy_render.specs.declared.TxnOutcome.{TxnOutcome}
 use Rattle.hy_render.specs.declared.Committed.{Committed as Entry}
 use Rattle.hy_render.specs.declared.Outcome.{Outcome}
-use Rattle.hy_stamp.specs.declared.Label.{Label}
 use Rattle.hy_machine.specs.declared.Setting.{Setting}
-use Rattle.hy_machine.specs.declared.Cause.TheVariants as cause
-use Rattle.hy_machine.specs.Validation.{first_hit}
-use Rattle.hy_replay.specs.BagLaws.{logged_from}
-use Rattle.hy_lawful.specs.Scripts.{statements_of}
 use Rattle.hy_lawful.specs.Outcomes.{EachFrom, committed_at}
 use Rattle.hy_lawful.specs.Cells.{bags_at, IsChangeAt}
+use Rattle.hy_lawful.specs.Databases.{database_at, alone_at, logged_by}
 use Rattle.hy_lawful.specs.Passing.{PassesBy, ChangesLieIn}
-
--- the serial databases: the one after the first transactions of the commit order ran alone, one after another, from the
--- first rows on
-abbrev pub database_at : Setting → List Entry → ℕ → Database
-database_at setting order rank =
-    serial setting.shapes (map (λ (entry : Entry). statements_of setting.programs entry.label) (take rank order)) (database_of setting.first)
-
--- what the transaction of a label gives when it runs alone from the database at a rank on
-abbrev pub alone_at : Setting → List Entry → Label → ℕ → Alone
-alone_at setting order label rank = alone_of setting.shapes (statements_of setting.programs label) (database_at setting order rank)
+use Rattle.hy_lawful.specs.Refusing.{IsRefusedBy}
 
 -- some replies are the first of others
 abbrev pub AreFirstOf : List Reply → List Reply → Type 0
@@ -39,27 +21,12 @@ AreFirstOf replies others = take (length replies) others ≡ replies
 abbrev pub RepliesAreOfStart : Setting → List Entry → TxnOutcome → Type 0
 RepliesAreOfStart setting order txn = AreFirstOf txn.replies (alone_at setting order txn.label txn.start).replies
 
--- what a transaction logs when it runs alone from the database of its start on
-abbrev pub logged_by : Setting → List Entry → TxnOutcome → List Record
-logged_by setting order txn = logged_from setting.shapes 1 (statements_of setting.programs txn.label) (database_at setting order txn.start)
-
 -- alone at its rank of the commit order a transaction gives its replies and does not stop, and the entries from its start
 -- on before its rank pass by what it wrote and logged
 pub record ReplaysAt (setting : Setting) (order : List Entry) (txn : TxnOutcome) (rank : ℕ) : Type 0 where
   pub gives : (alone_at setting order txn.label rank).replies ≡ txn.replies
   pub runs_on : (alone_at setting order txn.label rank).stop ≡ None
   pub passed : (at : ℕ) → txn.start ≤ at → at < rank → IfSome (slice_get order at) (PassesBy txn.wrote (logged_by setting order txn))
-
--- where an ending names a hit, it is the first hit of what the transaction logs alone by the entries from its start on
-abbrev pub NamesFirstHit : Setting → List Entry → TxnOutcome → Ending → Type 0
-NamesFirstHit setting order txn (Committed rank) = Unit {0}
-NamesFirstHit setting order txn Read = Unit {0}
-NamesFirstHit setting order txn RolledBack = Unit {0}
-NamesFirstHit setting order txn (Conflict table pos other) = Unit {0}
-NamesFirstHit setting order txn (Invalid table pos other statement) =
-    first_hit (logged_by setting order txn) (drop txn.start order) ≡ Some (cause.Invalid table pos other statement)
-NamesFirstHit setting order txn (Range table pos) = Unit {0}
-NamesFirstHit setting order txn (Full table) = Unit {0}
 
 -- an outcome is serializable, in the order that it prints
 pub record IsSerial (setting : Setting) (outcome : Outcome) : Type 0 where
@@ -72,8 +39,8 @@ pub record IsSerial (setting : Setting) (outcome : Outcome) : Type 0 where
   -- at the rank of a committed transaction stands its entry: what this changes the transaction wrote
   pub entries : AllByRecursion
       (λ (txn : TxnOutcome). IfSome (committed_at txn.ending) (λ (rank : ℕ). IsSomeAnd (slice_get outcome.order rank) (ChangesLieIn txn.wrote))) outcome.txns
-  -- a transaction that validation refused names the first hit
-  pub refusals : AllByRecursion (λ (txn : TxnOutcome). NamesFirstHit setting outcome.order txn txn.ending) outcome.txns
+  -- a transaction that was refused was so for a cause
+  pub refusals : AllByRecursion (λ (txn : TxnOutcome). IsRefusedBy setting outcome.order txn txn.ending) outcome.txns
   -- every change starts from what stands at its position
   pub changes : EachFrom 0 (λ (rank : ℕ) (entry : Entry). AllByRecursion (IsChangeAt setting outcome.order rank) entry.changes) outcome.order
   -- before and after every entry the rows that stand in the tables are those of the serial run

@@ -157,11 +157,10 @@ refusal_grows order more begun (Full table) h = tt
 
 pub ends_grow : (setting : Setting) (order more : List Entry) (finished : Finished) → EndPasses setting order finished
     → EndPasses setting (order ++ more) finished
-ends_grow setting order more finished h =
-    (
-      IfSome_then (committed_at finished.ending) h.0 (λ rank p. passed_grows setting order more finished.begun rank p),
-      refusal_grows order more finished.begun finished.ending h.1,
-    )
+ends_grow setting order more finished h = (
+  IfSome_then (committed_at finished.ending) h.0 (λ rank p. passed_grows setting order more finished.begun rank p),
+  refusal_grows order more finished.begun finished.ending h.1,
+)
 
 -- an entry does nothing at the positions that an open transaction holds
 abbrev pub Spares : Setting → Entry → Open → Type 0

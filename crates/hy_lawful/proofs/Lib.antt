@@ -33,6 +33,7 @@ pub mod PassSteps
 pub mod RunSweeps
 pub mod RunFree
 pub mod RunAnswers
+pub mod MorePlacing
 pub mod RunVisits
 pub mod RunInserts
 pub mod RunTurns

@@ -151,5 +151,6 @@ bags_are setting order is rank =
     ∙ listed (λ (cells : List Cell). sorted (present cells)) rows [] 0 tables (λ i below.
     ap rows (zero-add i)
     ∙ ap (λ (cells : List Cell). sorted (present cells))
-    (cells_listed (printed_at setting (map committed_of order) rank i) (capacity setting) (get_or tables i []) (long_at (capacity setting) tables are.long i below)
+    (cells_listed (printed_at setting (map committed_of order) rank i) (capacity setting) (get_or tables i [])
+    (long_at (capacity setting) tables are.long i below)
     (printed_is setting order is rank i)))

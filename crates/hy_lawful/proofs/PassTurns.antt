@@ -1,8 +1,7 @@
 -- What a session's turn makes of its open transaction passes.
-use Rattle.std.proofs.Common.{◌≡◌, ℕ, suc, ◌-◌, ◌*◌, ◌≤◌, List, [], ◌∷◌, Option, None, Some, Bool, true, false, is_some, Result, Ok, Err, length}
+use Rattle.std.proofs.Common.{◌≡◌, ℕ, suc, ◌-◌, ◌*◌, ◌≤◌, List, [], Option, None, Some, Bool, true, false, is_some, Result, Ok, Err, length}
 use Rattle.std.proofs.Common.{map, drop, cond, ltb, refl, ap, sym, ◌∙◌, subst, arith, inl, inr}
 use Rattle.std.specs.Prelude.{IfSome, slice_get}
-use Rattle.std.specs.List.{AllByRecursion}
 use Rattle.std.proofs.lemmas.Bool.{cases_Bool, and_parts, and_from}
 use Rattle.hy_value.specs.declared.Value.{Value}
 use Rattle.hy_bound.specs.declared.Txn.{Txn}
@@ -41,7 +40,7 @@ use Rattle.hy_machine.specs.Turns.{undo_turn, stamp_turn, validated_turn, commit
 use Rattle.hy_machine.specs.Steps.{after_visit, after_answer}
 use Rattle.hy_lawful.specs.Outcomes.{committed_at}
 use Rattle.hy_lawful.proofs.Fits.{FitsTables, Fits}
-use Rattle.hy_lawful.proofs.Refusals.{sweep_refuses, verdict_fails, first_hit_is}
+use Rattle.hy_lawful.proofs.Refusals.{sweep_refuses, verdict_fails, is_invalid}
 use Rattle.hy_lawful.proofs.PassHolds.{own_among, fewer_among, written_is}
 use Rattle.hy_lawful.proofs.PassStates.{Passed, IsRefusal, EndPasses, PhasePasses, HeldClear, OpenPasses, HoldsAlone, Passes}
 use Rattle.hy_lawful.proofs.PassMays.{OwnMay, AllMay, MayWrite, IsAtWork, no_opponent, swept_may, found_is, free_may}
@@ -179,10 +178,6 @@ undo_writes setting state number begun visited cause h = elim (cases_Bool (ltb v
   | inr f ↦ rw f (unless_writes setting state number begun (Ends (ending_of cause)) (blocker state number) (undone_is cause, h))
 ]
 
-any_record : (records : List Record) → AllByRecursion (λ (of : Record). Unit {0}) records
-any_record [] = tt
-any_record (of ∷ records) = (tt, any_record records)
-
 abbrev NoConflict : Cause → Type 0
 NoConflict RolledBack = Unit {0}
 NoConflict (Conflict table pos other) = ⊥
@@ -193,8 +188,7 @@ NoConflict (Full table) = Unit {0}
 no_conflict : (records : List Record) (entries : List Entry) (table pos : ℕ) (other : Label)
     → first_hit records (map committed_of entries) ≡ Some (Conflict table pos other) → ⊥
 no_conflict records entries table pos other e =
-    first_hit_is NoConflict (λ (number : ℕ). Unit {0}) records entries (Conflict table pos other) (any_record records)
-    (λ i label at of place statement q. tt) e
+    is_invalid NoConflict records entries (Conflict table pos other) (λ of at label statement. tt) e
 
 -- what validation refuses names its hit
 hit_names : (order : List Entry) (begun : Begun) (cause : Cause) → first_hit begun.records (map committed_of (drop begun.prefix order)) ≡ Some cause

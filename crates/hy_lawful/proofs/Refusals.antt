@@ -1,5 +1,6 @@
 -- Why a statement is refused, and why validation refuses a transaction.
-use Rattle.std.proofs.Common.{◌≡◌, ℕ, zero, suc, ◌+◌, ◌≤◌, List, [], ◌∷◌, Option, None, Some, Bool, true, false, Result, Ok, Err, map, cond, refl, subst, arith, inl, inr}
+use Rattle.std.proofs.Common.{◌≡◌, ℕ, zero, suc, ◌+◌, ◌≤◌, List, [], ◌∷◌, Option, None, Some, Bool, true, false, Result}
+use Rattle.std.proofs.Common.{Ok, Err, map, cond, refl, subst, arith, inl, inr}
 use Rattle.std.specs.Option.{option_map}
 use Rattle.std.specs.Prelude.{◌&&◌, ◌==◌}
 use Rattle.std.specs.List.{AllByRecursion, range_with_len}
@@ -139,3 +140,14 @@ first_hit_is P Q records (entry ∷ entries) cause q f e =
       | inl h ↦ hits_are P Q records entry.label (committed_of entry).changes cause q (f 0 entry.label refl) h
       | inr h ↦ first_hit_is P Q records entries cause q (λ i label. f (suc i) label) h
     ]
+
+any_record : (records : List Record) → AllByRecursion (λ (of : Record). Unit {0}) records
+any_record [] = tt
+any_record (of ∷ records) = (tt, any_record records)
+
+-- what validation refuses is invalid
+pub is_invalid : (P : Cause → Type 0) (records : List Record) (entries : List Entry) (cause : Cause)
+    → ((table pos : ℕ) (label : Label) (statement : ℕ) → P (Invalid table pos label statement)) → first_hit records (map committed_of entries) ≡ Some cause
+    → P cause
+is_invalid P records entries cause f e =
+    first_hit_is P (λ (number : ℕ). Unit {0}) records entries cause (any_record records) (λ i label at table pos statement q. f table pos label statement) e

@@ -337,7 +337,13 @@ reached_have_run setting state chunks r number before finished e =
     (reached_run setting state chunks r number).done before finished e in
     record {
       given = ended.given;
-      has_run = record { came_to = ended.run.came_to; replies = ended.run.replies; records = ended.run.records; positions = ended.run.positions };
+      has_run = record {
+        came_to = ended.run.came_to;
+        replies = ended.run.replies;
+        records = ended.run.records;
+        positions = ended.run.positions;
+        took = ended.run.took;
+      };
       wrote = ended.wrote;
       refused = ended.refused;
     }

@@ -1,12 +1,10 @@
 -- What a session's turn makes of what its open transaction has run.
-use Rattle.std.proofs.Common.{◌≡◌, ℕ, suc, ◌<◌, ◌≤◌, List, [], ◌∷◌, Option, None, Some, Bool, true, false, length, map, drop, cond, ltb, refl, ap, inl, inr}
+use Rattle.std.proofs.Common.{◌≡◌, ℕ, suc, ◌<◌, ◌≤◌, List, [], Option, None, Some, Bool, true, false, length, map, drop, cond, ltb, refl, ap, inl, inr}
 use Rattle.std.specs.Prelude.{slice_get, ◌&&◌, ◌==◌, is_none}
-use Rattle.std.specs.List.{AllByRecursion}
 use Rattle.std.specs.Option.{option_map}
 use Rattle.std.proofs.lemmas.Bool.{cases_Bool, and_from, eq-eqb}
 use Rattle.hy_value.specs.declared.Value.{Value}
 use Rattle.hy_bound.specs.declared.Assign.{Assign}
-use Rattle.hy_bound.specs.declared.Record.{Record}
 use Rattle.hy_bound.specs.Condition.{Condition}
 use Rattle.hy_bound.specs.Predicate.{truth_of}
 use Rattle.hy_bound.specs.Assignment.{assigned}
@@ -36,7 +34,7 @@ use Rattle.hy_machine.specs.Turns.{rows_seen, statement_turn, ending_of, unless_
 use Rattle.hy_machine.specs.Turns.{undo_turn, stamp_turn, validated_turn, commit_turn, closing_turn, working_turn, phase_turn}
 use Rattle.hy_replay.specs.Ran.{Ran, one}
 use Rattle.hy_lawful.specs.Refusing.{WasRefused}
-use Rattle.hy_lawful.proofs.Refusals.{first_hit_is}
+use Rattle.hy_lawful.proofs.Refusals.{is_invalid}
 use Rattle.hy_lawful.proofs.RunVisits.{At, Stands, RunTurn, IsNext, Writes, read_run, write_run}
 use Rattle.hy_lawful.proofs.RunInserts.{insert_run}
 
@@ -124,16 +122,13 @@ stamp_run setting state statements begun given visited same = elim (cases_Bool (
   | inr f ↦ rw f (same, tt)
 ]
 
-any_record : (records : List Record) → AllByRecursion (λ (of : Record). Unit {0}) records
-any_record [] = tt
-any_record (of ∷ records) = (tt, any_record records)
-
 validated_run : (setting : Setting) (tables : Tables) (statements : List Bound) (begun : Begun) (given : Ran) → given.own ≡ begun.own
-    → (entries : List Entry) (hit : Option Cause) → first_hit begun.records (map committed_of entries) ≡ hit → RunTurn setting tables statements begun given (validated_turn hit)
+    → (entries : List Entry) (hit : Option Cause) → first_hit begun.records (map committed_of entries) ≡ hit
+    → RunTurn setting tables statements begun given (validated_turn hit)
 validated_run setting tables statements begun given same entries None e = same
 validated_run setting tables statements begun given same entries (Some cause) e =
-    first_hit_is (λ (one : Cause). WasRefused (over tables begun.own) (over tables given.own) (slice_get statements (length begun.replies)) (ending_of one))
-    (λ (number : ℕ). Unit {0}) begun.records entries cause (any_record begun.records) (λ i label at table pos statement q. tt) e
+    is_invalid (λ (one : Cause). WasRefused (over tables begun.own) (over tables given.own) (slice_get statements (length begun.replies)) (ending_of one))
+    begun.records entries cause (λ table pos label statement. tt) e
 
 commit_run : (setting : Setting) (state : State) (statements : List Bound) (number : ℕ) (begun : Begun) (given : Ran) → given.own ≡ begun.own
     → RunTurn setting (snapshot setting state begun.prefix) statements begun given (commit_turn setting state number begun)

@@ -185,7 +185,8 @@ refused_run : (setting : Setting) (state : State) (number : ℕ) (begun : Begun)
     (kind : WriteKind) (pred : Condition) (table : ℕ) → Writes statement kind pred table
     → HasSwept setting (snapshot setting state begun.prefix) begun given visited count kind pred table
     → (cause : Cause) → swept setting state number begun kind pred table visited ≡ Err cause
-    → WasRefused (over (snapshot setting state begun.prefix) begun.own) (over (snapshot setting state begun.prefix) given.own) (Some statement) (ending_of cause)
+    → WasRefused (over (snapshot setting state begun.prefix) begun.own) (over (snapshot setting state begun.prefix) given.own) (Some statement)
+    (ending_of cause)
 refused_run setting state number begun given visited count statement kind pred table w s cause e =
     let tables : Tables = snapshot setting state begun.prefix in
     let P : Cause → Type 0 = λ one. WasRefused (over tables begun.own) (over tables given.own) (Some statement) (ending_of one) in

@@ -1,7 +1,7 @@
 -- What the machine comes to is serializable, in the order of its commits.
 use Rattle.std.proofs.Common.{◌≡◌, ℕ, suc, ◌*◌, ◌<◌, ◌≤◌, List, [], Option, None, Some, length, map, get_or, take, drop, refl, ap, sym, ◌∙◌, subst, arith}
 use Rattle.std.specs.Prelude.{IfSome, slice_get}
-use Rattle.std.specs.List.{list_any}
+use Rattle.std.specs.List.{list_any, range_with_len}
 use Rattle.std.specs.Option.{IsSomeAnd}
 use Rattle.std.proofs.lemmas.List.{length-map, take_all, take-map, drop-map}
 use Rattle.std.proofs.lemmas.Option.{same_Some, IfSome_then}
@@ -24,7 +24,7 @@ use Rattle.hy_machine.specs.Positions.{item_at}
 use Rattle.hy_machine.specs.Tables.{Cell, Tables, history, opening_tables, over}
 use Rattle.hy_machine.specs.Sessions.{session_at, snapshot}
 use Rattle.hy_machine.specs.declared.Cause.TheVariants as cause
-use Rattle.hy_machine.specs.Writes.{written}
+use Rattle.hy_machine.specs.Writes.{blank_own, written}
 use Rattle.hy_machine.specs.Validation.{committed_of, first_hit}
 use Rattle.hy_machine.specs.Outcomes.{txn_outcome_of, outcome_of}
 use Rattle.hy_machine.specs.Runs.{IsReached, RunsAreSteps, RunsEnd, run_of}
@@ -39,6 +39,7 @@ use Rattle.hy_lawful.specs.Refusing.{IsRefusedBy, WasRefused, selects, goes_out}
 use Rattle.hy_lawful.specs.Serial.{AreFirstOf, IsSerial, RepliesAreOfStart, ReplaysAt}
 use Rattle.hy_lawful.specs.Endings.{AnswersAll}
 use Rattle.hy_lawful.specs.Passing.{PassesBy, ChangesLieIn}
+use Rattle.hy_lawful.specs.Placing.{PlacesWhatItInserts, inserted_in}
 use Rattle.hy_lawful.specs.Laws.{SerialRuns}
 use Rattle.hy_lawful.proofs.Fits.{Ends, IsCommitted, IsInvalid}
 use Rattle.hy_lawful.proofs.Laws.{done_fits}
@@ -54,6 +55,7 @@ use Rattle.hy_lawful.proofs.PassStates.{Passed, EndPasses, IsRefusal, Passes}
 use Rattle.hy_lawful.proofs.PassSteps.{one_of, reached_passes}
 use Rattle.hy_lawful.proofs.MorePlaces.{place_missing, pass_by, lies_in}
 use Rattle.hy_lawful.proofs.MoreRefusals.{out_in_bags}
+use Rattle.hy_lawful.proofs.MorePlacing.{placed_is}
 use Rattle.hy_lawful.proofs.RunSweeps.{kept_item}
 use Rattle.hy_lawful.proofs.SerialTables.{opening_bags, opening_widths}
 
@@ -280,6 +282,19 @@ entry_there setting state end number before finished at =
     IfSome_then (committed_at finished.ending) (end_passes setting state end number before finished at).0
     (λ rank p. lies_in setting state.order finished.begun rank p)
 
+-- what it took is what it inserted
+places_all : (setting : Setting) (state : State) → AtEnd setting state → (number before : ℕ) (finished : Finished)
+    → slice_get (session_at state number).done before ≡ Some finished → PlacesWhatItInserts setting (txn_outcome_of setting number before finished)
+places_all setting state end number before finished at =
+    let has : EndedHasRun setting state number before finished = end.ran number before finished at in
+    let statements : List Bound = statements_at setting number before in
+    let indices : List ℕ = range_with_len 0 (length setting.first) in
+    placed_is setting (snapshot setting state finished.begun.prefix) (blank_own setting) 1 (length finished.begun.replies) statements finished.begun.took
+    has.given (has.has_run.took ∙ ap length (sym has.has_run.replies)) has.has_run.came_to setting.first
+    ∙ (ap (λ (replies : List Reply). map (inserted_in statements replies) indices) has.has_run.replies
+    ∙ ap (λ (some : List Bound). map (inserted_in some finished.begun.replies) indices)
+    (sym (statements_behind setting (record { session = number; txn = suc before }) before refl)))
+
 -- the refused statement, by its label
 refused_over : (setting : Setting) (state : State) (end : AtEnd setting state) → (number before : ℕ) (finished : Finished)
     → (at : slice_get (session_at state number).done before ≡ Some finished)
@@ -368,6 +383,7 @@ end_serial laws setting state end = record {
       (λ (txn : TxnOutcome). IfSome (committed_at txn.ending)
       (λ (rank : ℕ). IsSomeAnd (slice_get (map committed_of state.order) rank) (ChangesLieIn txn.wrote)))
       state (entry_there setting state end);
+  placed = each_outcome setting (PlacesWhatItInserts setting) state (places_all setting state end);
   refusals = each_outcome setting (λ (txn : TxnOutcome). IsRefusedBy setting (map committed_of state.order) txn txn.ending) state
       (λ number before finished at. refused_by laws setting state end number before finished at finished.ending refl);
   changes = changes_at setting state.order (order_of setting state end);

@@ -1,5 +1,6 @@
 -- What stands at each position after the first entries of a commit order, as the printed changes tell.
-use Rattle.std.specs.Prelude.{◌≡◌, ℕ, ◌*◌, List, [], ◌∷◌, ◌&&◌, ◌||◌, ◌==◌, IsTrue, is_some, if◌then◌else◌, length, take, slice_index_or, slice_get, map, flat_map}
+use Rattle.std.specs.Prelude.{◌≡◌, ℕ, ◌*◌, List, [], ◌∷◌, ◌&&◌, ◌||◌, ◌==◌, IsTrue, is_some, if◌then◌else◌}
+use Rattle.std.specs.Prelude.{length, take, slice_index_or, slice_get, map, flat_map}
 use Rattle.std.specs.List.{range_with_len}
 use Rattle.hy_value.specs.Sorted.{sorted}
 use Rattle.hy_bound.specs.Changes.{present}

@@ -26,5 +26,5 @@ logged_by setting order txn = logged_from setting.shapes 1 (statements_of settin
 
 -- the rows of a table that the answered statements of a transaction leave, alone from the database of its start on
 abbrev pub rows_left : Setting → List Entry → TxnOutcome → ℕ → Table
-rows_left setting order txn table =
-    rows_in (alone_of setting.shapes (take (length txn.replies) (statements_of setting.programs txn.label)) (database_at setting order txn.start)).database table
+rows_left setting order txn =
+    rows_in (alone_of setting.shapes (take (length txn.replies) (statements_of setting.programs txn.label)) (database_at setting order txn.start)).database

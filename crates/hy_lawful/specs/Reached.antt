@@ -23,6 +23,7 @@ pub record HasRun (setting : Setting) (state : State) (statements : List Bound) 
   pub replies : given.replies ≡ begun.replies
   pub records : given.records ≡ begun.records
   pub positions : AllByRecursion (IsPosition setting) begun.took
+  pub took : length begun.took ≡ length begun.replies
 
 -- the statements of a session's transaction with so many before it
 abbrev pub statements_at : Setting → ℕ → ℕ → List Bound

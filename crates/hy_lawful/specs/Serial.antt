@@ -11,6 +11,7 @@ use Rattle.hy_lawful.specs.Outcomes.{EachFrom, committed_at}
 use Rattle.hy_lawful.specs.Cells.{bags_at, IsChangeAt}
 use Rattle.hy_lawful.specs.Databases.{database_at, alone_at, logged_by}
 use Rattle.hy_lawful.specs.Passing.{PassesBy, ChangesLieIn}
+use Rattle.hy_lawful.specs.Placing.{PlacesWhatItInserts}
 use Rattle.hy_lawful.specs.Refusing.{IsRefusedBy}
 
 -- some replies are the first of others
@@ -39,6 +40,8 @@ pub record IsSerial (setting : Setting) (outcome : Outcome) : Type 0 where
   -- at the rank of a committed transaction stands its entry: what this changes the transaction wrote
   pub entries : AllByRecursion
       (λ (txn : TxnOutcome). IfSome (committed_at txn.ending) (λ (rank : ℕ). IsSomeAnd (slice_get outcome.order rank) (ChangesLieIn txn.wrote))) outcome.txns
+  -- a transaction took as many positions of each table as it was answered `inserted`
+  pub placed : AllByRecursion (PlacesWhatItInserts setting) outcome.txns
   -- a transaction that was refused was so for a cause
   pub refusals : AllByRecursion (λ (txn : TxnOutcome). IsRefusedBy setting outcome.order txn txn.ending) outcome.txns
   -- every change starts from what stands at its position

@@ -26,8 +26,10 @@ pub mod MoreRefusals
 pub mod SerialRuns
 pub mod PassHits
 pub mod PassHolds
+pub mod PassWritten
 pub mod PassStates
 pub mod PassMays
+pub mod PassRivals
 pub mod PassTurns
 pub mod PassSteps
 pub mod RunSweeps

@@ -72,7 +72,7 @@ found_in_tables table pos first (cells ∷ own) (suc k) e h =
     (found_in_tables table pos (suc first) own k (let same : suc first + k ≡ table = omega (arith, e) in same) h)
 
 -- where something was written there is a place
-place_found : (own : Own) (table pos : ℕ) → is_some (item_at own table pos) ≡ true → has_place (written own) table pos ≡ true
+pub place_found : (own : Own) (table pos : ℕ) → is_some (item_at own table pos) ≡ true → has_place (written own) table pos ≡ true
 place_found own table pos h = found_in_tables table pos 0 own table (zero-add table) h
 
 -- ---- entries

@@ -31,6 +31,7 @@ use Rattle.hy_lawful.specs.Outcomes.{committed_at}
 use Rattle.hy_lawful.proofs.Lists.{all_so}
 use Rattle.hy_lawful.proofs.Moves.{moved_to, sessions_moved}
 use Rattle.hy_lawful.proofs.PassTables.{tables_at, cell_at, pair_at, AllFit, cell_next, cell_stays, tables_grow, more_pairs, entry_item, entry_lays}
+use Rattle.hy_lawful.proofs.PassWritten.{Keeps, SessionNames, names_moved}
 use Rattle.hy_lawful.proofs.PassHits.{from_dropped, pair_missed, hit_stays}
 
 -- ---- the invariant
@@ -104,12 +105,15 @@ pub record Passes (setting : Setting) (state : State) : Type 0 where
   pub befores : Befores setting state.order
   pub sessions : (number : ℕ) → SessionPasses setting state.order (session_at state number)
   pub alone : (number : ℕ) → HoldsAlone setting state number (session_at state number).now
+  pub names : (number : ℕ) → SessionNames state (session_at state number)
 
 pub passes_moved : (setting : Setting) (state : State) (order : List Entry) (mark : Option ℕ) (number : ℕ) (session : Session)
     → number < length state.sessions → Befores setting order → SessionPasses setting order session
     → ((other : ℕ) → (other ≡ number → ⊥) → SessionPasses setting order (session_at state other))
-    → HoldsAlone setting state number session.now → Passes setting state → Passes setting (moved_to state order mark number session)
-passes_moved setting state order mark number session there befores here others alone passes = record {
+    → HoldsAlone setting state number session.now → Keeps (session_at state number) session → SessionNames state session → Passes setting state
+    → Passes setting (moved_to state order mark number session)
+passes_moved setting state order mark number session there befores here others alone keeps names passes = record {
+  names = names_moved state order mark number session there keeps names passes.names;
   befores = befores;
   sessions = sessions_moved (λ other one. SessionPasses setting order one) state order mark number session there here others;
   alone = sessions_moved (λ one given. HoldsAlone setting (moved_to state order mark number session) one given.now) state order mark number session there

@@ -1,6 +1,6 @@
 -- What the machine comes to is serializable, in the order of its commits.
 use Rattle.std.proofs.Common.{◌≡◌, ℕ, suc, ◌*◌, ◌<◌, ◌≤◌, List, [], Option, None, Some, length, map, get_or, take, drop, refl, ap, sym, ◌∙◌, subst, arith}
-use Rattle.std.specs.Prelude.{IfSome, slice_get}
+use Rattle.std.specs.Prelude.{IfSome, IsTrue, slice_get}
 use Rattle.std.specs.List.{list_any, range_with_len}
 use Rattle.std.specs.Option.{IsSomeAnd}
 use Rattle.std.proofs.lemmas.List.{length-map, take_all, take-map, drop-map}
@@ -18,6 +18,7 @@ use Rattle.hy_render.specs.declared.TxnOutcome.{TxnOutcome}
 use Rattle.hy_render.specs.declared.Committed.{Committed as Committing}
 use Rattle.hy_machine.specs.declared.Setting.{Setting}
 use Rattle.hy_machine.specs.declared.State.{State}
+use Rattle.hy_machine.specs.declared.Session.{Session}
 use Rattle.hy_machine.specs.declared.Finished.{Finished}
 use Rattle.hy_machine.specs.declared.Entry.{Entry}
 use Rattle.hy_machine.specs.Positions.{item_at}
@@ -32,18 +33,18 @@ use Rattle.hy_replay.specs.Ran.{Ran, ran}
 use Rattle.hy_replay.specs.Laws.{RunsAgain, RunsKeepWidths, bags_of}
 use Rattle.hy_replay.specs.BagLaws.{RunsAreAlone, RunsLogAlone, alone_as, logged_from}
 use Rattle.hy_lawful.specs.Scripts.{statements_of}
-use Rattle.hy_lawful.specs.Outcomes.{committed_at, refused_statement}
+use Rattle.hy_lawful.specs.Outcomes.{committed_at, outcome_at, refused_statement}
 use Rattle.hy_lawful.specs.Reached.{AllHaveRun, AllPassedUnseen, EndedHasRun, PassedUnseen, ReachedHaveRun, ReachedPassUnseen, statements_at}
 use Rattle.hy_lawful.specs.Databases.{alone_at, database_at, logged_by}
 use Rattle.hy_lawful.specs.Refusing.{IsRefusedBy, WasRefused, selects, goes_out}
 use Rattle.hy_lawful.specs.Serial.{AreFirstOf, IsSerial, RepliesAreOfStart, ReplaysAt}
 use Rattle.hy_lawful.specs.Endings.{AnswersAll}
-use Rattle.hy_lawful.specs.Passing.{PassesBy, ChangesLieIn}
+use Rattle.hy_lawful.specs.Passing.{has_place, PassesBy, ChangesLieIn}
 use Rattle.hy_lawful.specs.Placing.{PlacesWhatItInserts, inserted_in}
 use Rattle.hy_lawful.specs.Laws.{SerialRuns}
-use Rattle.hy_lawful.proofs.Fits.{Ends, IsCommitted, IsInvalid}
+use Rattle.hy_lawful.proofs.Fits.{Ends, IsCommitted, IsInvalid, OpenFits, NowFits}
 use Rattle.hy_lawful.proofs.Laws.{done_fits}
-use Rattle.hy_lawful.proofs.Outcomes.{each_outcome}
+use Rattle.hy_lawful.proofs.Outcomes.{each_outcome, outcome_found}
 use Rattle.hy_lawful.proofs.Over.{IsOver, HasCommitted, is_over, entry_committed}
 use Rattle.hy_lawful.proofs.Reached.{reached_fits}
 use Rattle.hy_lawful.proofs.SerialAlone.{first_replies}
@@ -52,8 +53,10 @@ use Rattle.hy_lawful.proofs.SerialScripts.{statements_behind, transactions_of, t
 use Rattle.hy_lawful.proofs.MoreTables.{IsOrder, printed_is, changes_at, bags_are}
 use Rattle.hy_lawful.proofs.PassTables.{tables_are}
 use Rattle.hy_lawful.proofs.PassStates.{Passed, EndPasses, IsRefusal, Passes}
-use Rattle.hy_lawful.proofs.PassSteps.{one_of, reached_passes}
-use Rattle.hy_lawful.proofs.MorePlaces.{place_missing, pass_by, lies_in}
+use Rattle.hy_lawful.proofs.PassSteps.{reached_passes}
+use Rattle.hy_lawful.proofs.Lists.{one_of}
+use Rattle.hy_lawful.proofs.MorePlaces.{place_missing, place_found, pass_by, lies_in}
+use Rattle.hy_lawful.proofs.PassWritten.{HasWritten, by_ended, by_open, Names}
 use Rattle.hy_lawful.proofs.MoreRefusals.{out_in_bags}
 use Rattle.hy_lawful.proofs.MorePlacing.{placed_is}
 use Rattle.hy_lawful.proofs.RunSweeps.{kept_item}
@@ -325,10 +328,27 @@ answered_alone laws setting state end number before finished at =
     ∙ laws.alone setting (snapshot setting state start) (take many (statements_at setting number before)) finished.begun.took has.given
     (tables_are setting state.order start) has.has_run.positions has.has_run.came_to)
 
+-- at the end what has been written is an ended transaction's
+rival_wrote : (setting : Setting) (state : State) → AtEnd setting state → (other : Label) (table pos : ℕ) → HasWritten state other table pos
+    → IsSomeAnd (outcome_at (outcome_of setting state) other) (λ (rival : TxnOutcome). IsTrue (has_place rival.wrote table pos))
+rival_wrote setting state end other table pos (by_ended before finished is at own) =
+    subst (λ (o : Option TxnOutcome). IsSomeAnd o (λ (rival : TxnOutcome). IsTrue (has_place rival.wrote table pos)))
+    (sym (outcome_found setting state other before finished is at)) (place_found finished.begun.own table pos own)
+rival_wrote setting state end other table pos (by_open current is now own) =
+    let session : Session = session_at state other.session in
+    let present : OpenFits setting state.order state.mark other.session session.done current =
+    subst (NowFits setting state.order state.mark other.session session.done) now (end.over.fits.sessions other.session).now in
+    absurd (omega (arith, present.there, end.over.all other.session))
+
+end_names : (setting : Setting) (state : State) → AtEnd setting state → (number before : ℕ) (finished : Finished)
+    → slice_get (session_at state number).done before ≡ Some finished → Names state finished.ending
+end_names setting state end number before finished at =
+    one_of (λ (one : Finished). Names state one.ending) (session_at state number).done (end.passes.names number).done before finished at
+
 -- one that was refused was so for a cause
 refused_by : Laws → (setting : Setting) (state : State) → AtEnd setting state → (number before : ℕ) (finished : Finished)
     → slice_get (session_at state number).done before ≡ Some finished → (ending : Ending) → finished.ending ≡ ending
-    → IsRefusedBy setting (map committed_of state.order) (txn_outcome_of setting number before finished) ending
+    → IsRefusedBy setting (outcome_of setting state) (txn_outcome_of setting number before finished) ending
 refused_by laws setting state end number before finished at (Committed rank) e = tt
 refused_by laws setting state end number before finished at Read e = tt
 refused_by laws setting state end number before finished at RolledBack e = tt
@@ -345,6 +365,7 @@ refused_by laws setting state end number before finished at (Conflict table pos 
           (refused_statement setting.programs (txn_outcome_of setting number before finished))) e
           (refused_over setting state end number before finished at);
       not_own = place_missing finished.begun.own table pos free;
+      wrote = rival_wrote setting state end other table pos (subst (Names state) e (end_names setting state end number before finished at));
     }
 refused_by laws setting state end number before finished at (Invalid table pos other statement) e =
     let invalid : IsInvalid setting state.order (txn_outcome_of setting number before finished) other statement =
@@ -384,7 +405,7 @@ end_serial laws setting state end = record {
       (λ (rank : ℕ). IsSomeAnd (slice_get (map committed_of state.order) rank) (ChangesLieIn txn.wrote)))
       state (entry_there setting state end);
   placed = each_outcome setting (PlacesWhatItInserts setting) state (places_all setting state end);
-  refusals = each_outcome setting (λ (txn : TxnOutcome). IsRefusedBy setting (map committed_of state.order) txn txn.ending) state
+  refusals = each_outcome setting (λ (txn : TxnOutcome). IsRefusedBy setting (outcome_of setting state) txn txn.ending) state
       (λ number before finished at. refused_by laws setting state end number before finished at finished.ending refl);
   changes = changes_at setting state.order (order_of setting state end);
   history = λ rank below. bags_are setting state.order (order_of setting state end) rank

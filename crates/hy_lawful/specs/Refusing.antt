@@ -1,6 +1,7 @@
 -- Why a statement is refused: it selects a row, or a value goes out of range for one that it selects.
 use Rattle.std.specs.Prelude.{◌≡◌, ℕ, List, Bool, false, ◌&&◌, ◌==◌, Option, None, Some, is_none, IsTrue, IsFalse, drop}
 use Rattle.std.specs.List.{list_any}
+use Rattle.std.specs.Option.{IsSomeAnd}
 use Rattle.hy_value.specs.declared.Value.{Value}
 use Rattle.hy_bound.specs.declared.Bound.{Bound}
 use Rattle.hy_bound.specs.declared.Bound.TheVariants.{Select, Group, Insert, Update, Delete}
@@ -9,13 +10,14 @@ use Rattle.hy_bound.specs.Assignment.{assigned}
 use Rattle.hy_render.specs.declared.Ending.{Ending}
 use Rattle.hy_render.specs.declared.Ending.TheVariants.{Committed, Read, RolledBack, Conflict, Invalid, Range, Full}
 use Rattle.hy_render.specs.declared.TxnOutcome.{TxnOutcome}
-use Rattle.hy_render.specs.declared.Committed.{Committed as Entry}
+use Rattle.hy_render.specs.declared.Outcome.{Outcome}
+use Rattle.hy_stamp.specs.declared.Label.{Label}
 use Rattle.hy_machine.specs.declared.Setting.{Setting}
 use Rattle.hy_machine.specs.declared.Cause.TheVariants as cause
 use Rattle.hy_machine.specs.Positions.{item_at}
 use Rattle.hy_machine.specs.Tables.{Cell, Tables}
 use Rattle.hy_machine.specs.Validation.{first_hit}
-use Rattle.hy_lawful.specs.Outcomes.{refused_statement}
+use Rattle.hy_lawful.specs.Outcomes.{outcome_at, refused_statement}
 use Rattle.hy_lawful.specs.Cells.{cell_at}
 use Rattle.hy_lawful.specs.Databases.{logged_by, rows_left}
 use Rattle.hy_lawful.specs.Passing.{has_place}
@@ -53,20 +55,22 @@ WasRefused seen left statement (Invalid table pos other number) = Unit {0}
 WasRefused seen left statement (Range table pos) = IsTrue (goes_out_at table statement (item_at left table pos))
 WasRefused seen left statement (Full table) = Unit {0}
 
--- conflict: the refused statement selects the row of the start at this position, which the transaction has not written
-pub record IsInConflictAt (setting : Setting) (order : List Entry) (txn : TxnOutcome) (table pos : ℕ) : Type 0 where
-  pub selects : IsTrue (selects table (refused_statement setting.programs txn) (cell_at setting order txn.start table pos))
+-- conflict: the refused statement selects the row of the start at this position, which the transaction has not written,
+-- and the one that is named has
+pub record IsInConflictAt (setting : Setting) (outcome : Outcome) (txn : TxnOutcome) (table pos : ℕ) (other : Label) : Type 0 where
+  pub selects : IsTrue (selects table (refused_statement setting.programs txn) (cell_at setting outcome.order txn.start table pos))
   pub not_own : IsFalse (has_place txn.wrote table pos)
+  pub wrote : IsSomeAnd (outcome_at outcome other) (λ (rival : TxnOutcome). IsTrue (has_place rival.wrote table pos))
 
 -- why a transaction ends that was refused: a conflict; the first hit of what it logs alone by the entries from its start
 -- on; or some row that its answered statements leave alone, for which a value goes out of range
-abbrev pub IsRefusedBy : Setting → List Entry → TxnOutcome → Ending → Type 0
-IsRefusedBy setting order txn (Committed rank) = Unit {0}
-IsRefusedBy setting order txn Read = Unit {0}
-IsRefusedBy setting order txn RolledBack = Unit {0}
-IsRefusedBy setting order txn (Conflict table pos other) = IsInConflictAt setting order txn table pos
-IsRefusedBy setting order txn (Invalid table pos other statement) =
-    first_hit (logged_by setting order txn) (drop txn.start order) ≡ Some (cause.Invalid table pos other statement)
-IsRefusedBy setting order txn (Range table pos) =
-    IsTrue (list_any (goes_out table (refused_statement setting.programs txn)) (rows_left setting order txn table))
-IsRefusedBy setting order txn (Full table) = Unit {0}
+abbrev pub IsRefusedBy : Setting → Outcome → TxnOutcome → Ending → Type 0
+IsRefusedBy setting outcome txn (Committed rank) = Unit {0}
+IsRefusedBy setting outcome txn Read = Unit {0}
+IsRefusedBy setting outcome txn RolledBack = Unit {0}
+IsRefusedBy setting outcome txn (Conflict table pos other) = IsInConflictAt setting outcome txn table pos other
+IsRefusedBy setting outcome txn (Invalid table pos other statement) =
+    first_hit (logged_by setting outcome.order txn) (drop txn.start outcome.order) ≡ Some (cause.Invalid table pos other statement)
+IsRefusedBy setting outcome txn (Range table pos) =
+    IsTrue (list_any (goes_out table (refused_statement setting.programs txn)) (rows_left setting outcome.order txn table))
+IsRefusedBy setting outcome txn (Full table) = Unit {0}

@@ -43,7 +43,7 @@ pub record IsSerial (setting : Setting) (outcome : Outcome) : Type 0 where
   -- a transaction took as many positions of each table as it was answered `inserted`
   pub placed : AllByRecursion (PlacesWhatItInserts setting) outcome.txns
   -- a transaction that was refused was so for a cause
-  pub refusals : AllByRecursion (λ (txn : TxnOutcome). IsRefusedBy setting outcome.order txn txn.ending) outcome.txns
+  pub refusals : AllByRecursion (λ (txn : TxnOutcome). IsRefusedBy setting outcome txn txn.ending) outcome.txns
   -- every change starts from what stands at its position
   pub changes : EachFrom 0 (λ (rank : ℕ) (entry : Entry). AllByRecursion (IsChangeAt setting outcome.order rank) entry.changes) outcome.order
   -- before and after every entry the rows that stand in the tables are those of the serial run

@@ -93,8 +93,8 @@ all_placed table statements took replies (one ∷ tables) h =
     ∙ ap (λ (n : ℕ). map (inserted_in statements replies) (range_with_len n (length tables))) (let e : suc table ≡ table + 1 = omega arith in e))
 
 -- what a transaction took is what it inserted
-pub placed_is : {A : Type 0} (setting : Setting) (tables : Tables) (own : Own) (number many : ℕ) (statements : List Bound) (took : List (Option ℕ)) (given : Ran)
-    → length took ≡ length given.replies → ran_from setting tables own number (take many statements) took ≡ Some given → (of : List A)
+pub placed_is : {A : Type 0} (setting : Setting) (tables : Tables) (own : Own) (number many : ℕ) (statements : List Bound) (took : List (Option ℕ))
+    (given : Ran) → length took ≡ length given.replies → ran_from setting tables own number (take many statements) took ≡ Some given → (of : List A)
     → placed_from 0 statements took of ≡ map (inserted_in statements given.replies) (range_with_len 0 (length of))
 placed_is setting tables own number many statements took given l e of =
     all_placed 0 statements took given.replies of (λ table. ran_placed setting tables own number table many statements took given l e)

@@ -194,8 +194,10 @@ refused_run setting state number begun given visited count statement kind pred t
     (λ pos one from v.
     verdict_fails P kind pred table pos (opponent setting state number begun.prefix table pos) (item_at (over tables begun.own) table pos) one
     (λ row other here t o. ap (selects table (Some statement)) here ∙ w.selects row t)
-    (λ row here t n. ap (goes_out_at table (Some statement)) (left_behind setting tables begun given visited count kind pred table pos s from ∙ here)
-    ∙ w.goes_out row t n)
+    (λ row here t n.
+    let same : item_at (over tables given.own) table pos ≡ item_at (over tables begun.own) table pos =
+    left_behind setting tables begun given visited count kind pred table pos s from in
+    (ap (goes_out_at table (Some statement)) (same ∙ here) ∙ w.goes_out row t n, same))
     v)
     e
 

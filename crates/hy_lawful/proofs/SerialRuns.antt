@@ -1,6 +1,6 @@
 -- What the machine comes to is serializable, in the order of its commits.
 use Rattle.std.proofs.Common.{◌≡◌, ℕ, suc, ◌*◌, ◌<◌, ◌≤◌, List, [], Option, None, Some, length, map, get_or, take, drop, refl, ap, sym, ◌∙◌, subst, arith}
-use Rattle.std.specs.Prelude.{IfSome, IsTrue, slice_get}
+use Rattle.std.specs.Prelude.{IfSome, IsTrue, slice_get, ◌||◌}
 use Rattle.std.specs.List.{list_any, range_with_len}
 use Rattle.std.specs.Option.{IsSomeAnd}
 use Rattle.std.proofs.lemmas.List.{length-map, take_all, take-map, drop-map}
@@ -36,7 +36,7 @@ use Rattle.hy_lawful.specs.Scripts.{statements_of}
 use Rattle.hy_lawful.specs.Outcomes.{committed_at, outcome_at, refused_statement}
 use Rattle.hy_lawful.specs.Reached.{AllHaveRun, AllPassedUnseen, EndedHasRun, PassedUnseen, ReachedHaveRun, ReachedPassUnseen, statements_at}
 use Rattle.hy_lawful.specs.Databases.{alone_at, database_at, logged_by}
-use Rattle.hy_lawful.specs.Refusing.{IsRefusedBy, WasRefused, selects, goes_out}
+use Rattle.hy_lawful.specs.Refusing.{IsRefusedBy, WasRefused, selects, goes_out, goes_out_at}
 use Rattle.hy_lawful.specs.Serial.{AreFirstOf, IsSerial, RepliesAreOfStart, ReplaysAt}
 use Rattle.hy_lawful.specs.Endings.{AnswersAll}
 use Rattle.hy_lawful.specs.Passing.{has_place, PassesBy, ChangesLieIn}
@@ -57,7 +57,7 @@ use Rattle.hy_lawful.proofs.PassSteps.{reached_passes}
 use Rattle.hy_lawful.proofs.Lists.{one_of}
 use Rattle.hy_lawful.proofs.MorePlaces.{place_missing, place_found, pass_by, lies_in}
 use Rattle.hy_lawful.proofs.PassWritten.{HasWritten, by_ended, by_open, Names}
-use Rattle.hy_lawful.proofs.MoreRefusals.{out_in_bags}
+use Rattle.hy_lawful.proofs.MoreRefusals.{out_in_bags, written_or_out}
 use Rattle.hy_lawful.proofs.MorePlacing.{placed_is}
 use Rattle.hy_lawful.proofs.RunSweeps.{kept_item}
 use Rattle.hy_lawful.proofs.SerialTables.{opening_bags, opening_widths}
@@ -380,10 +380,16 @@ refused_by laws setting state end number before finished at (Range table pos) e 
     let has : EndedHasRun setting state number before finished = end.ran number before finished at in
     let tables : Tables = snapshot setting state finished.begun.prefix in
     let statement : Option Bound = refused_statement setting.programs (txn_outcome_of setting number before finished) in
-    ap (λ (one : Alone). list_any (goes_out table statement) (rows_in one.database table))
-    (answered_alone laws setting state end number before finished at)
-    ∙ out_in_bags table statement (over tables has.given.own) pos
-    (subst (WasRefused (over tables finished.begun.own) (over tables has.given.own) statement) e (refused_over setting state end number before finished at))
+    let refused : WasRefused (over tables finished.begun.own) (over tables has.given.own) statement (Range table pos) =
+    subst (WasRefused (over tables finished.begun.own) (over tables has.given.own) statement) e (refused_over setting state end number before finished at) in
+    record {
+      some = ap (λ (one : Alone). list_any (goes_out table statement) (rows_in one.database table))
+          (answered_alone laws setting state end number before finished at)
+          ∙ out_in_bags table statement (over tables has.given.own) pos refused.0;
+      here = ap (λ (cell : Cell). has_place (written finished.begun.own) table pos || goes_out_at table statement cell)
+          (printed_is setting state.order (order_of setting state end) finished.begun.prefix table pos)
+          ∙ written_or_out table pos statement tables finished.begun.own (ap (goes_out_at table statement) (sym refused.1) ∙ refused.0);
+    }
 refused_by laws setting state end number before finished at (Full table) e = tt
 
 all_tables : Laws → (setting : Setting) (state : State) → AtEnd setting state

@@ -1,5 +1,5 @@
 -- Why a statement is refused: it selects a row, or a value goes out of range for one that it selects.
-use Rattle.std.specs.Prelude.{◌≡◌, ℕ, List, Bool, false, ◌&&◌, ◌==◌, Option, None, Some, is_none, IsTrue, IsFalse, drop}
+use Rattle.std.specs.Prelude.{◌≡◌, ℕ, List, Bool, false, ◌&&◌, ◌||◌, ◌==◌, Option, None, Some, is_none, IsTrue, IsFalse, drop}
 use Rattle.std.specs.List.{list_any}
 use Rattle.std.specs.Option.{IsSomeAnd}
 use Rattle.hy_value.specs.declared.Value.{Value}
@@ -10,6 +10,7 @@ use Rattle.hy_bound.specs.Assignment.{assigned}
 use Rattle.hy_render.specs.declared.Ending.{Ending}
 use Rattle.hy_render.specs.declared.Ending.TheVariants.{Committed, Read, RolledBack, Conflict, Invalid, Range, Full}
 use Rattle.hy_render.specs.declared.TxnOutcome.{TxnOutcome}
+use Rattle.hy_render.specs.declared.Committed.{Committed as Entry}
 use Rattle.hy_render.specs.declared.Outcome.{Outcome}
 use Rattle.hy_stamp.specs.declared.Label.{Label}
 use Rattle.hy_machine.specs.declared.Setting.{Setting}
@@ -52,7 +53,8 @@ WasRefused seen left statement Read = Unit {0}
 WasRefused seen left statement RolledBack = Unit {0}
 WasRefused seen left statement (Conflict table pos other) = IsTrue (selects table statement (item_at seen table pos))
 WasRefused seen left statement (Invalid table pos other number) = Unit {0}
-WasRefused seen left statement (Range table pos) = IsTrue (goes_out_at table statement (item_at left table pos))
+WasRefused seen left statement (Range table pos) =
+    IsTrue (goes_out_at table statement (item_at left table pos)) × (item_at left table pos ≡ item_at seen table pos)
 WasRefused seen left statement (Full table) = Unit {0}
 
 -- conflict: the refused statement selects the row of the start at this position, which the transaction has not written,
@@ -62,8 +64,15 @@ pub record IsInConflictAt (setting : Setting) (outcome : Outcome) (txn : TxnOutc
   pub not_own : IsFalse (has_place txn.wrote table pos)
   pub wrote : IsSomeAnd (outcome_at outcome other) (λ (rival : TxnOutcome). IsTrue (has_place rival.wrote table pos))
 
+-- out of range: a value goes out of range for some row that the answered statements leave alone; at this position, it
+-- does so for the row of the start, or the transaction has written the position
+pub record IsOutOfRangeAt (setting : Setting) (order : List Entry) (txn : TxnOutcome) (table pos : ℕ) : Type 0 where
+  pub some : IsTrue (list_any (goes_out table (refused_statement setting.programs txn)) (rows_left setting order txn table))
+  pub here : IsTrue (has_place txn.wrote table pos
+      || goes_out_at table (refused_statement setting.programs txn) (cell_at setting order txn.start table pos))
+
 -- why a transaction ends that was refused: a conflict; the first hit of what it logs alone by the entries from its start
--- on; or some row that its answered statements leave alone, for which a value goes out of range
+-- on; or a value out of range
 abbrev pub IsRefusedBy : Setting → Outcome → TxnOutcome → Ending → Type 0
 IsRefusedBy setting outcome txn (Committed rank) = Unit {0}
 IsRefusedBy setting outcome txn Read = Unit {0}
@@ -71,6 +80,5 @@ IsRefusedBy setting outcome txn RolledBack = Unit {0}
 IsRefusedBy setting outcome txn (Conflict table pos other) = IsInConflictAt setting outcome txn table pos other
 IsRefusedBy setting outcome txn (Invalid table pos other statement) =
     first_hit (logged_by setting outcome.order txn) (drop txn.start outcome.order) ≡ Some (cause.Invalid table pos other statement)
-IsRefusedBy setting outcome txn (Range table pos) =
-    IsTrue (list_any (goes_out table (refused_statement setting.programs txn)) (rows_left setting outcome.order txn table))
+IsRefusedBy setting outcome txn (Range table pos) = IsOutOfRangeAt setting outcome.order txn table pos
 IsRefusedBy setting outcome txn (Full table) = Unit {0}

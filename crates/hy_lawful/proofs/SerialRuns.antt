@@ -1,187 +1,54 @@
 -- What the machine comes to is serializable, in the order of its commits.
-use Rattle.std.proofs.Common.{◌≡◌, ℕ, suc, ◌*◌, ◌<◌, ◌≤◌, List, [], Option, None, Some, length, map, get_or, take, drop, refl, ap, sym, ◌∙◌, subst, arith}
-use Rattle.std.specs.Prelude.{IfSome, IsTrue, slice_get, ◌||◌}
-use Rattle.std.specs.List.{list_any, range_with_len}
+use Rattle.std.proofs.Common.{◌≡◌, ℕ, suc, ◌<◌, ◌≤◌, List, Option, None, Some, length, map, take, refl, ap, sym, ◌∙◌, subst, arith}
+use Rattle.std.specs.Prelude.{IfSome, slice_get}
+use Rattle.std.specs.List.{range_with_len}
 use Rattle.std.specs.Option.{IsSomeAnd}
-use Rattle.std.proofs.lemmas.List.{length-map, take_all, take-map, drop-map}
-use Rattle.std.proofs.lemmas.Option.{same_Some, IfSome_then}
+use Rattle.std.proofs.lemmas.List.{length-map, take_all}
+use Rattle.std.proofs.lemmas.Option.{IfSome_then}
 use Rattle.hy_bound.specs.declared.Bound.{Bound}
 use Rattle.hy_bound.specs.declared.Record.{Record}
 use Rattle.hy_bound.specs.declared.Reply.{Reply}
-use Rattle.hy_bound.specs.Fits.{Fits as FitsScript}
-use Rattle.hy_meaning.specs.Statement.{Database, rows_in}
-use Rattle.hy_meaning.specs.Serial.{Alone, alone_of, serial, database_of}
-use Rattle.hy_stamp.specs.declared.Label.{Label}
+use Rattle.hy_meaning.specs.Statement.{Database}
+use Rattle.hy_meaning.specs.Serial.{Alone, alone_of}
 use Rattle.hy_render.specs.declared.Ending.{Ending}
-use Rattle.hy_render.specs.declared.Ending.TheVariants.{Committed, Read, RolledBack, Conflict, Invalid, Range, Full}
 use Rattle.hy_render.specs.declared.TxnOutcome.{TxnOutcome}
-use Rattle.hy_render.specs.declared.Committed.{Committed as Committing}
 use Rattle.hy_machine.specs.declared.Setting.{Setting}
 use Rattle.hy_machine.specs.declared.State.{State}
-use Rattle.hy_machine.specs.declared.Session.{Session}
 use Rattle.hy_machine.specs.declared.Finished.{Finished}
 use Rattle.hy_machine.specs.declared.Entry.{Entry}
-use Rattle.hy_machine.specs.Positions.{item_at}
-use Rattle.hy_machine.specs.Tables.{Cell, Tables, history, opening_tables, over}
+use Rattle.hy_machine.specs.Tables.{Tables, history, opening_tables}
 use Rattle.hy_machine.specs.Sessions.{session_at, snapshot}
-use Rattle.hy_machine.specs.declared.Cause.TheVariants as cause
 use Rattle.hy_machine.specs.Writes.{blank_own, written}
-use Rattle.hy_machine.specs.Validation.{committed_of, first_hit}
+use Rattle.hy_machine.specs.Validation.{committed_of}
 use Rattle.hy_machine.specs.Outcomes.{txn_outcome_of, outcome_of}
 use Rattle.hy_machine.specs.Runs.{IsReached, RunsAreSteps, RunsEnd, run_of}
-use Rattle.hy_replay.specs.Ran.{Ran, ran}
+use Rattle.hy_replay.specs.Ran.{ran}
 use Rattle.hy_replay.specs.Laws.{RunsAgain, RunsKeepWidths, bags_of}
-use Rattle.hy_replay.specs.BagLaws.{RunsAreAlone, RunsLogAlone, alone_as, logged_from}
-use Rattle.hy_lawful.specs.Scripts.{statements_of}
-use Rattle.hy_lawful.specs.Outcomes.{committed_at, outcome_at, refused_statement}
-use Rattle.hy_lawful.specs.Reached.{AllHaveRun, AllPassedUnseen, EndedHasRun, PassedUnseen, ReachedHaveRun, ReachedPassUnseen, statements_at}
-use Rattle.hy_lawful.specs.Databases.{alone_at, database_at, logged_by}
-use Rattle.hy_lawful.specs.Refusing.{IsRefusedBy, WasRefused, selects, goes_out, goes_out_at}
+use Rattle.hy_replay.specs.BagLaws.{RunsAreAlone, RunsLogAlone, alone_as}
+use Rattle.hy_lawful.specs.Outcomes.{committed_at}
+use Rattle.hy_lawful.specs.Reached.{EndedHasRun, ReachedHaveRun, ReachedPassUnseen, statements_at}
+use Rattle.hy_lawful.specs.Databases.{alone_at, database_at}
+use Rattle.hy_lawful.specs.Refusing.{IsRefusedBy}
 use Rattle.hy_lawful.specs.Serial.{AreFirstOf, IsSerial, RepliesAreOfStart, ReplaysAt}
-use Rattle.hy_lawful.specs.Endings.{AnswersAll}
-use Rattle.hy_lawful.specs.Passing.{has_place, PassesBy, ChangesLieIn}
+use Rattle.hy_lawful.specs.Passing.{PassesBy, ChangesLieIn}
 use Rattle.hy_lawful.specs.Placing.{PlacesWhatItInserts, inserted_in}
 use Rattle.hy_lawful.specs.Laws.{SerialRuns}
-use Rattle.hy_lawful.proofs.Fits.{Ends, IsCommitted, IsInvalid, OpenFits, NowFits}
 use Rattle.hy_lawful.proofs.Laws.{done_fits}
-use Rattle.hy_lawful.proofs.Outcomes.{each_outcome, outcome_found}
-use Rattle.hy_lawful.proofs.Over.{IsOver, HasCommitted, is_over, entry_committed}
+use Rattle.hy_lawful.proofs.Outcomes.{each_outcome}
+use Rattle.hy_lawful.proofs.Over.{is_over}
 use Rattle.hy_lawful.proofs.Reached.{reached_fits}
 use Rattle.hy_lawful.proofs.SerialAlone.{first_replies}
-use Rattle.hy_lawful.proofs.SerialHistory.{RanAt, History, alone_at_rank, serial_to}
-use Rattle.hy_lawful.proofs.SerialScripts.{statements_behind, transactions_of, transaction_at, has_label, label_within, statements_stand}
-use Rattle.hy_lawful.proofs.MoreTables.{IsOrder, printed_is, changes_at, bags_are}
+use Rattle.hy_lawful.proofs.SerialHistory.{alone_at_rank}
+use Rattle.hy_lawful.proofs.SerialScripts.{statements_behind, transactions_of, label_within}
+use Rattle.hy_lawful.proofs.PrintedTables.{changes_at, bags_are}
 use Rattle.hy_lawful.proofs.PassTables.{tables_are}
-use Rattle.hy_lawful.proofs.PassStates.{Passed, EndPasses, IsRefusal, Passes}
+use Rattle.hy_lawful.proofs.PassStates.{Passed}
 use Rattle.hy_lawful.proofs.PassSteps.{reached_passes}
-use Rattle.hy_lawful.proofs.Lists.{one_of}
-use Rattle.hy_lawful.proofs.MorePlaces.{place_missing, place_found, pass_by, lies_in}
-use Rattle.hy_lawful.proofs.PassWritten.{HasWritten, by_ended, by_open, Names}
-use Rattle.hy_lawful.proofs.MoreRefusals.{out_in_bags, written_or_out}
-use Rattle.hy_lawful.proofs.MorePlacing.{placed_is}
-use Rattle.hy_lawful.proofs.RunSweeps.{kept_item}
-use Rattle.hy_lawful.proofs.SerialTables.{opening_bags, opening_widths}
-
--- what is known of a state at its end
-record AtEnd (setting : Setting) (state : State) : Type 0 where
-  over : IsOver setting state
-  ran : AllHaveRun setting state
-  unseen : AllPassedUnseen setting state
-  passes : Passes setting state
-  script : FitsScript setting.shapes (setting.chunks * setting.rows) setting.first setting.programs
-
--- the laws of transactions over positions
-record Laws : Type 0 where
-  again : RunsAgain
-  keeps : RunsKeepWidths
-  alone : RunsAreAlone
-  logs : RunsLogAlone
-
--- an ended transaction that has committed
-record Commits (setting : Setting) (state : State) (number before : ℕ) (finished : Finished) (rank : ℕ) : Type 0 where
-  at : slice_get (session_at state number).done before ≡ Some finished
-  ending : finished.ending ≡ Committed rank
-
--- the rank at which an ending commits
-ending_at : (ending : Ending) (rank : ℕ) → committed_at ending ≡ Some rank → ending ≡ Committed rank
-ending_at (Committed other) rank e = ap Committed (same_Some other rank e)
-ending_at Read rank e = absurd cc
-ending_at RolledBack rank e = absurd cc
-ending_at (Conflict table pos other) rank e = absurd cc
-ending_at (Invalid table pos other statement) rank e = absurd cc
-ending_at (Range table pos) rank e = absurd cc
-ending_at (Full table) rank e = absurd cc
-
--- as many transactions as entries
-transactions_length : (setting : Setting) (state : State) → length (transactions_of setting.programs state.order) ≡ length state.order
-transactions_length setting state =
-    length-map (map committed_of state.order) (λ (entry : Committing). statements_of setting.programs entry.label) ∙ length-map state.order committed_of
-
--- ---- transactions at their ranks
-
-stands_committed : (setting : Setting) (state : State) → AtEnd setting state → (number before : ℕ) (finished : Finished) (rank : ℕ)
-    → Commits setting state number before finished rank → IsCommitted setting state.order (txn_outcome_of setting number before finished) rank
-stands_committed setting state end number before finished rank c =
-    subst (Ends setting state.order (txn_outcome_of setting number before finished)) c.ending
-    (done_fits setting state end.over.fits number before finished c.at).ends
-
--- it has answered all its statements
-answered_all : (setting : Setting) (number before : ℕ) (finished : Finished)
-    → AnswersAll setting.programs (txn_outcome_of setting number before finished)
-    → take (length finished.begun.replies) (statements_at setting number before) ≡ statements_at setting number before
-answered_all setting number before finished answers =
-    let same : statements_of setting.programs (record { session = number; txn = suc before }) ≡ statements_at setting number before =
-    statements_behind setting (record { session = number; txn = suc before }) before refl in
-    take_all (length finished.begun.replies) (statements_at setting number before) (omega (arith, answers, ap length same))
-
-all_answered : (setting : Setting) (state : State) → AtEnd setting state → (number before : ℕ) (finished : Finished) (rank : ℕ)
-    → Commits setting state number before finished rank
-    → take (length finished.begun.replies) (statements_at setting number before) ≡ statements_at setting number before
-all_answered setting state end number before finished rank c =
-    answered_all setting number before finished (stands_committed setting state end number before finished rank c).ends.answers
-
-ran_at : (setting : Setting) (state : State) (end : AtEnd setting state) → (number before : ℕ) (finished : Finished) (rank : ℕ)
-    → (c : Commits setting state number before finished rank)
-    → RanAt setting (snapshot setting state) (statements_at setting number before) (end.ran number before finished c.at).given rank
-ran_at setting state end number before finished rank c =
-    let has : EndedHasRun setting state number before finished = end.ran number before finished c.at in
-    let passed : PassedUnseen setting state finished.begun rank =
-    subst (λ (ending : Ending). IfSome (committed_at ending) (PassedUnseen setting state finished.begun)) c.ending
-    (end.unseen number before finished c.at) in
-    let own : has.given.own ≡ finished.begun.own =
-    subst (λ (ending : Ending). IfSome (committed_at ending) (λ (rank : ℕ). has.given.own ≡ finished.begun.own)) c.ending has.wrote in
-    record {
-      took = finished.begun.took;
-      start = finished.begun.prefix;
-      later = (stands_committed setting state end number before finished rank c).later;
-      came_to = subst (λ (statements : List Bound). ran setting (snapshot setting state finished.begun.prefix) statements finished.begun.took ≡ Some has.given)
-          (all_answered setting state end number before finished rank c) has.has_run.came_to;
-      stand = statements_stand setting end.script.sessions number before;
-      positions = has.has_run.positions;
-      unseen = λ at low below. rw (own, has.has_run.records) (passed.unseen at low below);
-      lays = passed.lays ∙ sym (ap (over (snapshot setting state rank)) own);
-    }
-
--- ---- the commit order
-
--- the transaction of each rank
-ran_in_order : (setting : Setting) (state : State) → AtEnd setting state → (rank : ℕ) → rank < length (transactions_of setting.programs state.order)
-    → (given : Ran) × RanAt setting (snapshot setting state) (get_or (transactions_of setting.programs state.order) rank []) given rank
-ran_in_order setting state end rank below =
-    let there = has_label state.order rank (omega (arith, below, transactions_length setting state)) in
-    let committed : HasCommitted state there.0 rank = entry_committed setting state end.over rank there.0 (end.over.fits.ranked rank there.0 there.1) in
-    let same : statements_at setting there.0.session committed.has.before ≡ get_or (transactions_of setting.programs state.order) rank [] =
-    sym (transaction_at setting.programs state.order rank there.0 there.1 ∙ statements_behind setting there.0 committed.has.before committed.has.is) in
-    let c : Commits setting state there.0.session committed.has.before committed.has.finished rank =
-    record { at = committed.has.at; ending = committed.ending } in
-    let given : Ran = (end.ran there.0.session committed.has.before committed.has.finished committed.has.at).given in (
-      given,
-      subst (λ (statements : List Bound). RanAt setting (snapshot setting state) statements given rank) same
-          (ran_at setting state end there.0.session committed.has.before committed.has.finished rank c),
-    )
-
-history_of : (setting : Setting) (state : State) → AtEnd setting state → History setting (snapshot setting state) (transactions_of setting.programs state.order)
-history_of setting state end = record {
-  shapes = end.script.tables;
-  are = tables_are setting state.order;
-  wide = opening_widths setting end.script.first_rows;
-  ran = ran_in_order setting state end;
-}
-
--- the tables of a prefix have the rows that the transactions of its entries leave alone, one after another
-bags_at : Laws → (setting : Setting) (state : State) → AtEnd setting state → (rank : ℕ) → rank ≤ length state.order
-    → bags_of (snapshot setting state rank) ≡ database_at setting (map committed_of state.order) rank
-bags_at laws setting state end rank below =
-    let transactions : List (List Bound) = transactions_of setting.programs state.order in
-    serial_to laws.again laws.keeps laws.alone setting (snapshot setting state) transactions (history_of setting state end) rank
-    (omega (arith, below, transactions_length setting state))
-    ∙ (ap (serial setting.shapes (take rank transactions)) (opening_bags setting end.script.first_rows)
-    ∙ ap (λ (some : List (List Bound)). serial setting.shapes some (database_of setting.first))
-    (take-map (λ (entry : Committing). statements_of setting.programs entry.label) rank (map committed_of state.order)))
-
--- what is known of the order of the entries
-order_of : (setting : Setting) (state : State) → AtEnd setting state → IsOrder setting state.order
-order_of setting state end = record { rows = end.script.first_rows; fit = end.over.fits.cells; befores = end.passes.befores }
+use Rattle.hy_lawful.proofs.PrintedPlaces.{pass_by, lies_in}
+use Rattle.hy_lawful.proofs.RunPlacing.{placed_is}
+use Rattle.hy_lawful.proofs.SerialEnd.{ending_at, transactions_length, stands_committed, all_answered, ran_at}
+use Rattle.hy_lawful.proofs.SerialEnd.{history_of, bags_at, order_of, end_passes, logs_alone, AtEnd, Laws, Commits}
+use Rattle.hy_lawful.proofs.SerialRefusals.{refused_by}
 
 -- ---- the clauses
 
@@ -214,36 +81,11 @@ replies_of_start laws setting state end number before finished at =
     subst (λ (one : Alone). AreFirstOf finished.begun.replies one.replies)
     (alone_there laws setting state end number before start (done_fits setting state end.over.fits number before finished at).start) begins
 
--- what stands of an ended transaction that passes
-end_passes : (setting : Setting) (state : State) → AtEnd setting state → (number before : ℕ) (finished : Finished)
-    → slice_get (session_at state number).done before ≡ Some finished → EndPasses setting state.order finished
-end_passes setting state end number before finished at =
-    one_of (EndPasses setting state.order) (session_at state number).done (end.passes.sessions number).done before finished at
-
 passed_at : (setting : Setting) (state : State) → AtEnd setting state → (number before : ℕ) (finished : Finished) (rank : ℕ)
     → Commits setting state number before finished rank → Passed setting state.order finished.begun rank
 passed_at setting state end number before finished rank c =
     subst (λ (ending : Ending). IfSome (committed_at ending) (Passed setting state.order finished.begun)) c.ending
     (end_passes setting state end number before finished c.at).0
-
--- one that has answered all its statements has the records that it logs alone
-logs_alone : Laws → (setting : Setting) (state : State) → AtEnd setting state → (number before : ℕ) (finished : Finished)
-    → slice_get (session_at state number).done before ≡ Some finished
-    → take (length finished.begun.replies) (statements_at setting number before) ≡ statements_at setting number before
-    → finished.begun.records ≡ logged_by setting (map committed_of state.order) (txn_outcome_of setting number before finished)
-logs_alone laws setting state end number before finished at answered =
-    let has : EndedHasRun setting state number before finished = end.ran number before finished at in
-    let start : ℕ = finished.begun.prefix in
-    let statements : List Bound = statements_at setting number before in
-    let label : Label = record { session = number; txn = suc before } in
-    sym has.has_run.records
-    ∙ (laws.logs setting (snapshot setting state start) (take (length finished.begun.replies) statements) finished.begun.took has.given
-    (tables_are setting state.order start) has.has_run.positions has.has_run.came_to
-    ∙ (ap (λ (some : List Bound). logged_from setting.shapes 1 some (bags_of (snapshot setting state start))) answered
-    ∙ (ap (logged_from setting.shapes 1 statements)
-    (bags_at laws setting state end start (done_fits setting state end.over.fits number before finished at).start)
-    ∙ ap (λ (some : List Bound). logged_from setting.shapes 1 some (database_at setting (map committed_of state.order) start))
-    (sym (statements_behind setting label before refl)))))
 
 replays_at : Laws → (setting : Setting) (state : State) → AtEnd setting state → (number before : ℕ) (finished : Finished) (rank : ℕ)
     → Commits setting state number before finished rank
@@ -297,100 +139,6 @@ places_all setting state end number before finished at =
     ∙ (ap (λ (replies : List Reply). map (inserted_in statements replies) indices) has.has_run.replies
     ∙ ap (λ (some : List Bound). map (inserted_in some finished.begun.replies) indices)
     (sym (statements_behind setting (record { session = number; txn = suc before }) before refl)))
-
--- the refused statement, by its label
-refused_over : (setting : Setting) (state : State) (end : AtEnd setting state) → (number before : ℕ) (finished : Finished)
-    → (at : slice_get (session_at state number).done before ≡ Some finished)
-    → WasRefused (over (snapshot setting state finished.begun.prefix) finished.begun.own)
-    (over (snapshot setting state finished.begun.prefix) (end.ran number before finished at).given.own)
-    (refused_statement setting.programs (txn_outcome_of setting number before finished)) finished.ending
-refused_over setting state end number before finished at =
-    let has : EndedHasRun setting state number before finished = end.ran number before finished at in
-    subst (λ (statements : List Bound). WasRefused (over (snapshot setting state finished.begun.prefix) finished.begun.own)
-    (over (snapshot setting state finished.begun.prefix) has.given.own) (slice_get statements (length finished.begun.replies)) finished.ending)
-    (sym (statements_behind setting (record { session = number; txn = suc before }) before refl)) has.refused
-
--- the answered statements give alone what they came to
-answered_alone : Laws → (setting : Setting) (state : State) → (end : AtEnd setting state) → (number before : ℕ) (finished : Finished)
-    → (at : slice_get (session_at state number).done before ≡ Some finished)
-    → alone_of setting.shapes
-    (take (length finished.begun.replies) (statements_of setting.programs (record { session = number; txn = suc before })))
-    (database_at setting (map committed_of state.order) finished.begun.prefix)
-    ≡ alone_as (snapshot setting state finished.begun.prefix) (end.ran number before finished at).given
-answered_alone laws setting state end number before finished at =
-    let has : EndedHasRun setting state number before finished = end.ran number before finished at in
-    let start : ℕ = finished.begun.prefix in
-    let many : ℕ = length finished.begun.replies in
-    ap (λ (db : Database). alone_of setting.shapes (take many (statements_of setting.programs (record { session = number; txn = suc before }))) db)
-    (sym (bags_at laws setting state end start (done_fits setting state end.over.fits number before finished at).start))
-    ∙ (ap (λ (statements : List Bound). alone_of setting.shapes (take many statements) (bags_of (snapshot setting state start)))
-    (statements_behind setting (record { session = number; txn = suc before }) before refl)
-    ∙ laws.alone setting (snapshot setting state start) (take many (statements_at setting number before)) finished.begun.took has.given
-    (tables_are setting state.order start) has.has_run.positions has.has_run.came_to)
-
--- at the end what has been written is an ended transaction's
-rival_wrote : (setting : Setting) (state : State) → AtEnd setting state → (other : Label) (table pos : ℕ) → HasWritten state other table pos
-    → IsSomeAnd (outcome_at (outcome_of setting state) other) (λ (rival : TxnOutcome). IsTrue (has_place rival.wrote table pos))
-rival_wrote setting state end other table pos (by_ended before finished is at own) =
-    subst (λ (o : Option TxnOutcome). IsSomeAnd o (λ (rival : TxnOutcome). IsTrue (has_place rival.wrote table pos)))
-    (sym (outcome_found setting state other before finished is at)) (place_found finished.begun.own table pos own)
-rival_wrote setting state end other table pos (by_open current is now own) =
-    let session : Session = session_at state other.session in
-    let present : OpenFits setting state.order state.mark other.session session.done current =
-    subst (NowFits setting state.order state.mark other.session session.done) now (end.over.fits.sessions other.session).now in
-    absurd (omega (arith, present.there, end.over.all other.session))
-
-end_names : (setting : Setting) (state : State) → AtEnd setting state → (number before : ℕ) (finished : Finished)
-    → slice_get (session_at state number).done before ≡ Some finished → Names state finished.ending
-end_names setting state end number before finished at =
-    one_of (λ (one : Finished). Names state one.ending) (session_at state number).done (end.passes.names number).done before finished at
-
--- one that was refused was so for a cause
-refused_by : Laws → (setting : Setting) (state : State) → AtEnd setting state → (number before : ℕ) (finished : Finished)
-    → slice_get (session_at state number).done before ≡ Some finished → (ending : Ending) → finished.ending ≡ ending
-    → IsRefusedBy setting (outcome_of setting state) (txn_outcome_of setting number before finished) ending
-refused_by laws setting state end number before finished at (Committed rank) e = tt
-refused_by laws setting state end number before finished at Read e = tt
-refused_by laws setting state end number before finished at RolledBack e = tt
-refused_by laws setting state end number before finished at (Conflict table pos other) e =
-    let has : EndedHasRun setting state number before finished = end.ran number before finished at in
-    let free : item_at finished.begun.own table pos ≡ None =
-    subst (IsRefusal state.order finished.begun) e (end_passes setting state end number before finished at).1 in
-    record {
-      selects = ap (selects table (refused_statement setting.programs (txn_outcome_of setting number before finished)))
-          (printed_is setting state.order (order_of setting state end) finished.begun.prefix table pos
-          ∙ sym (kept_item (λ (own : Cell). own) (snapshot setting state finished.begun.prefix) finished.begun.own table pos free))
-          ∙ subst (WasRefused (over (snapshot setting state finished.begun.prefix) finished.begun.own)
-          (over (snapshot setting state finished.begun.prefix) has.given.own)
-          (refused_statement setting.programs (txn_outcome_of setting number before finished))) e
-          (refused_over setting state end number before finished at);
-      not_own = place_missing finished.begun.own table pos free;
-      wrote = rival_wrote setting state end other table pos (subst (Names state) e (end_names setting state end number before finished at));
-    }
-refused_by laws setting state end number before finished at (Invalid table pos other statement) e =
-    let invalid : IsInvalid setting state.order (txn_outcome_of setting number before finished) other statement =
-    subst (Ends setting state.order (txn_outcome_of setting number before finished)) e
-    (done_fits setting state end.over.fits number before finished at).ends in
-    let hit : first_hit finished.begun.records (map committed_of (drop finished.begun.prefix state.order)) ≡ Some (cause.Invalid table pos other statement) =
-    subst (IsRefusal state.order finished.begun) e (end_passes setting state end number before finished at).1 in
-    ap (λ (records : List Record). first_hit records (drop finished.begun.prefix (map committed_of state.order)))
-    (sym (logs_alone laws setting state end number before finished at (answered_all setting number before finished invalid.answers)))
-    ∙ (ap (first_hit finished.begun.records) (drop-map committed_of finished.begun.prefix state.order) ∙ hit)
-refused_by laws setting state end number before finished at (Range table pos) e =
-    let has : EndedHasRun setting state number before finished = end.ran number before finished at in
-    let tables : Tables = snapshot setting state finished.begun.prefix in
-    let statement : Option Bound = refused_statement setting.programs (txn_outcome_of setting number before finished) in
-    let refused : WasRefused (over tables finished.begun.own) (over tables has.given.own) statement (Range table pos) =
-    subst (WasRefused (over tables finished.begun.own) (over tables has.given.own) statement) e (refused_over setting state end number before finished at) in
-    record {
-      some = ap (λ (one : Alone). list_any (goes_out table statement) (rows_in one.database table))
-          (answered_alone laws setting state end number before finished at)
-          ∙ out_in_bags table statement (over tables has.given.own) pos refused.0;
-      here = ap (λ (cell : Cell). has_place (written finished.begun.own) table pos || goes_out_at table statement cell)
-          (printed_is setting state.order (order_of setting state end) finished.begun.prefix table pos)
-          ∙ written_or_out table pos statement tables finished.begun.own (ap (goes_out_at table statement) (sym refused.1) ∙ refused.0);
-    }
-refused_by laws setting state end number before finished at (Full table) e = tt
 
 all_tables : Laws → (setting : Setting) (state : State) → AtEnd setting state
     → (outcome_of setting state).tables ≡ database_at setting (map committed_of state.order) (length (map committed_of state.order))

@@ -21,7 +21,7 @@ use Rattle.hy_machine.specs.Validation.{committed_of}
 use Rattle.hy_replay.specs.Laws.{AreTables, bags_of}
 use Rattle.hy_lawful.specs.Outcomes.{EachFrom}
 use Rattle.hy_lawful.specs.Cells.{after_changes, cell_at as printed_at, rows_at, bags_at, IsChangeAt}
-use Rattle.hy_lawful.proofs.MoreChanges.{all_changes, after_append, after_pairs}
+use Rattle.hy_lawful.proofs.PrintedChanges.{all_changes, after_append, after_pairs}
 use Rattle.hy_lawful.proofs.PassTables.{tables_at, pair_at, AllFit, covered_are, covered_at, tables_are}
 use Rattle.hy_lawful.proofs.PassStates.{Befores}
 

@@ -18,7 +18,7 @@ use Rattle.hy_replay.specs.Laws.{bags_of}
 use Rattle.hy_lawful.specs.Passing.{has_place}
 use Rattle.hy_lawful.specs.Refusing.{goes_out, goes_out_at}
 use Rattle.hy_lawful.proofs.RunSweeps.{kept_item}
-use Rattle.hy_lawful.proofs.MorePlaces.{place_found}
+use Rattle.hy_lawful.proofs.PrintedPlaces.{place_found}
 
 or_swapped : (a b c : Bool) → (a || (b || c)) ≡ (b || (a || c))
 or_swapped true true c = refl

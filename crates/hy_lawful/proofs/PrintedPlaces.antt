@@ -17,8 +17,8 @@ use Rattle.hy_machine.specs.Tables.{Cell, Own}
 use Rattle.hy_machine.specs.Writes.{place_at, written}
 use Rattle.hy_machine.specs.Validation.{committed_of, record_hit}
 use Rattle.hy_lawful.specs.Passing.{has_place, PassesBy, ChangesLieIn}
-use Rattle.hy_lawful.proofs.MoreChanges.{all_by_place, all_changes}
-use Rattle.hy_lawful.proofs.MoreTables.{pair_there}
+use Rattle.hy_lawful.proofs.PrintedChanges.{all_by_place, all_changes}
+use Rattle.hy_lawful.proofs.PrintedTables.{pair_there}
 use Rattle.hy_lawful.proofs.PassStates.{Passed}
 
 -- ---- places

@@ -134,7 +134,8 @@ ran_in_order setting state end rank below =
           (ran_at setting state end there.0.session committed.has.before committed.has.finished rank c),
     )
 
-pub history_of : (setting : Setting) (state : State) → AtEnd setting state → History setting (snapshot setting state) (transactions_of setting.programs state.order)
+pub history_of : (setting : Setting) (state : State) → AtEnd setting state
+    → History setting (snapshot setting state) (transactions_of setting.programs state.order)
 history_of setting state end = record {
   shapes = end.script.tables;
   are = tables_are setting state.order;

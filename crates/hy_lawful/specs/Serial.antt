@@ -1,4 +1,5 @@
--- Serializability: what every transaction was told is what it is told alone.
+-- Serializability: what every transaction was told is what it is told alone, and the printed changes and refusals are
+-- those of such a history.
 use Rattle.std.specs.Prelude.{◌≡◌, ℕ, ◌<◌, ◌≤◌, List, IfSome, None, length, take, slice_get}
 use Rattle.std.specs.List.{AllByRecursion}
 use Rattle.std.specs.Option.{IsSomeAnd}
@@ -33,7 +34,7 @@ pub record ReplaysAt (setting : Setting) (order : List Entry) (txn : TxnOutcome)
 pub record IsSerial (setting : Setting) (outcome : Outcome) : Type 0 where
   -- the replies of every transaction are those of its start
   pub replies : AllByRecursion (RepliesAreOfStart setting outcome.order) outcome.txns
-  -- a committed transaction, replayed at its rank, gives its replies
+  -- a committed transaction, replayed at its rank, gives its replies, and what came between passed it by
   pub replays : AllByRecursion (λ (txn : TxnOutcome). IfSome (committed_at txn.ending) (ReplaysAt setting outcome.order txn)) outcome.txns
   -- the final tables are those of the serial run of the whole order
   pub tables : outcome.tables ≡ database_at setting outcome.order (length outcome.order)

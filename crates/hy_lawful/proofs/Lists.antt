@@ -74,6 +74,11 @@ item_from first P (y ∷ ys) h (suc i) x e =
 pub item_at_number : {X : Type 0} (P : ℕ → X → Type 0) (xs : List X) → EachFrom 0 P xs → (i : ℕ) (x : X) → slice_get xs i ≡ Some x → P i x
 item_at_number P xs h i x e = subst (λ n. P n x) (zero-add i) (item_from 0 P xs h i x e)
 
+pub one_of : {X : Type 0} (P : X → Type 0) (xs : List X) → AllByRecursion P xs → (i : ℕ) (x : X) → slice_get xs i ≡ Some x → P x
+one_of P [] h i x e = absurd cc
+one_of P (y ∷ xs) h zero x e = subst P (same_Some y x e) h.0
+one_of P (y ∷ xs) h (suc i) x e = one_of P xs h.1 i x e
+
 -- ---- choices
 
 pub or_some : {X : Type 0} (a b : Option X) (x : X) → option_or a b ≡ Some x → (a ≡ Some x) ⊎ (b ≡ Some x)

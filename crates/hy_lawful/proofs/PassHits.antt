@@ -20,7 +20,7 @@ use Rattle.hy_lawful.proofs.PassTables.{pair_at}
 
 -- ---- the entries from one on
 
-dropped_pair : (from : ℕ) (order : List Entry) (i table pos : ℕ) → pair_at (drop from order) i table pos ≡ pair_at order (from + i) table pos
+pub dropped_pair : (from : ℕ) (order : List Entry) (i table pos : ℕ) → pair_at (drop from order) i table pos ≡ pair_at order (from + i) table pos
 dropped_pair zero order i table pos = ap (λ (n : ℕ). pair_at order n table pos) (sym (zero-add i))
 dropped_pair (suc from) [] i table pos = refl
 dropped_pair (suc from) (entry ∷ order) i table pos = dropped_pair from order i table pos
@@ -136,3 +136,23 @@ pair_missed records (entry ∷ entries) zero table pos pair e p =
 pair_missed records (entry ∷ entries) (suc i) table pos pair e p =
     pair_missed records entries i table pos pair
     (or_none (hit_among records entry.label (committed_of entry).changes) (first_hit records (map committed_of entries)) e).1 p
+
+pub unchanged_by : (table pos : ℕ) (entries : List Entry) → ((i : ℕ) → pair_at entries i table pos ≡ None) → last_some (changer_at table pos) entries ≡ None
+unchanged_by table pos [] h = refl
+unchanged_by table pos (entry ∷ entries) h =
+    ap (λ (last : Option Label). option_or last (changer_at table pos entry)) (unchanged_by table pos entries (λ i. h (suc i)))
+    ∙ ap (λ (item : Option Pair). cond (changes_row item) (Some entry.label) None) (h 0)
+
+or_more : {X : Type 0} (a b longer : Option X) (x : X) → (b ≡ Some x → longer ≡ Some x) → option_or a b ≡ Some x → option_or a longer ≡ Some x
+or_more None b longer x f e = f e
+or_more (Some a) b longer x f e = e
+
+-- the first hit of entries is that of more entries behind them
+pub hit_stays : (records : List Record) (from : ℕ) (order more : List Entry) (cause : Cause)
+    → first_hit records (map committed_of (drop from order)) ≡ Some cause → first_hit records (map committed_of (drop from (order ++ more))) ≡ Some cause
+hit_stays records zero [] more cause e = absurd cc
+hit_stays records (suc from) [] more cause e = absurd cc
+hit_stays records zero (entry ∷ order) more cause e =
+    or_more (hit_among records entry.label (committed_of entry).changes) (first_hit records (map committed_of order))
+    (first_hit records (map committed_of (order ++ more))) cause (hit_stays records zero order more cause) e
+hit_stays records (suc from) (entry ∷ order) more cause e = hit_stays records from order more cause e

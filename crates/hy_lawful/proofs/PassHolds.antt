@@ -4,7 +4,7 @@ use Rattle.std.proofs.Common.{length, map, drop, get_or, cond, refl, ap, sym, �
 use Rattle.std.proofs.Math.ListN.{set}
 use Rattle.std.specs.Prelude.{◌&&◌, ◌||◌, ◌==◌, filter}
 use Rattle.std.specs.List.{AllByRecursion, list_any, range_with_len}
-use Rattle.std.proofs.lemmas.Bool.{cases_Bool, cases_eq, cases_lt, eq-eqb, eqb-true, ne_eqb, or_parts, or_left, or_right, and_from}
+use Rattle.std.proofs.lemmas.Bool.{cases_Bool, and_parts, cases_eq, cases_lt, eq-eqb, eqb-true, ne_eqb, or_parts, or_left, or_right, and_from}
 use Rattle.std.proofs.lemmas.List.{get_or-set_same, get_or-set_other, set_past}
 use Rattle.std.proofs.lemmas.List.Folds.{list_any-append}
 use Rattle.std.proofs.lemmas.Nat.{div-add-mod', div_below}
@@ -155,6 +155,24 @@ unheld setting number table pos first (session ∷ sessions) e (suc i) apart h =
     let passed = none_first (not (first == number) && holds setting table pos session.now) (label_of first session)
     (holder_from setting number table pos (suc first) sessions) e in
     unheld setting number table pos (suc first) sessions passed.1 i (λ same. apart (let s : first + suc i ≡ number = omega (arith, same) in s)) h
+
+pub no_holder : (setting : Setting) (number table pos first : ℕ) (sessions : List Session)
+    → ((i : ℕ) → (first + i ≡ number → ⊥) → holds setting table pos (get_or sessions i fresh).now ≡ true → ⊥)
+    → holder_from setting number table pos first sessions ≡ None
+no_holder setting number table pos first [] h = refl
+no_holder setting number table pos first (session ∷ sessions) h =
+    ap (λ (b : Bool). cond b (Some (label_of first session)) (holder_from setting number table pos (suc first) sessions)) not_this
+    ∙ no_holder setting number table pos (suc first) sessions
+    (λ i apart held. h (suc i) (λ same. apart (let e : suc first + i ≡ number = omega (arith, same) in e)) held)
+  where
+    not_this : (not (first == number) && holds setting table pos session.now) ≡ false
+    not_this = elim (cases_Bool (not (first == number) && holds setting table pos session.now)) [
+      | inr f ↦ f
+      | inl t ↦
+          let parts = and_parts (not (first == number)) (holds setting table pos session.now) t in
+          absurd (h 0 (λ same. absurd (let is : (first == number) ≡ true = eq-eqb first number (omega (arith, same)) in
+          let never : not (first == number) ≡ false = ap not is in cc)) parts.1)
+    ]
 
 pub held_by_none : (setting : Setting) (table pos : ℕ) (sessions : List Session)
     → list_any (λ (session : Session). holds setting table pos session.now) sessions ≡ false

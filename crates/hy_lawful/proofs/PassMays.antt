@@ -3,6 +3,7 @@ use Rattle.std.proofs.Common.{◌≡◌, ℕ, suc, ◌+◌, ◌-◌, ◌≤◌, 
 use Rattle.std.proofs.Common.{drop, cond, refl, ap, sym, ◌∙◌, subst, arith, inl, inr, add-zero}
 use Rattle.std.specs.Prelude.{find, ◌&&◌}
 use Rattle.std.specs.List.{AllByRecursion, list_any}
+use Rattle.std.specs.Option.{option_or}
 use Rattle.std.proofs.lemmas.Bool.{cases_Bool, or_parts, not-true}
 use Rattle.std.proofs.lemmas.Option.{same_Some}
 use Rattle.hy_value.specs.declared.Value.{Value}
@@ -24,8 +25,8 @@ use Rattle.hy_machine.specs.Holding.{holds, holder_from, changes_row, changer_at
 use Rattle.hy_machine.specs.Visits.{new_cell, judged, verdict, and_write, sweep, verdict_at, swept}
 use Rattle.hy_lawful.proofs.Fits.{FitsTables, Fits}
 use Rattle.hy_lawful.proofs.PassTables.{cell_at, pair_at, tables_are, covered_at, AllFit, cell_next}
-use Rattle.hy_lawful.proofs.PassHits.{from_dropped, or_none, unchanged, unwritten}
-use Rattle.hy_lawful.proofs.PassHolds.{unheld, held_by_none}
+use Rattle.hy_lawful.proofs.PassHits.{from_dropped, dropped_pair, unchanged_by, or_none, unchanged, unwritten}
+use Rattle.hy_lawful.proofs.PassHolds.{no_holder, unheld, held_by_none}
 use Rattle.hy_lawful.proofs.PassStates.{Clear, Befores, Passes}
 
 -- a transaction may write at a position, or has written there
@@ -46,6 +47,15 @@ pub record IsAtWork (setting : Setting) (state : State) (number : ℕ) (begun : 
   pub own : FitsTables setting begun.own
   pub low : begun.low ≤ begun.prefix
   pub may : OwnMay setting state number begun
+
+-- nobody is in the way where one may write
+pub no_opponent : (setting : Setting) (state : State) (number : ℕ) (begun : Begun) (table pos : ℕ) → MayWrite setting state number begun table pos
+    → opponent setting state number begun.prefix table pos ≡ None
+no_opponent setting state number begun table pos m =
+    ap (λ (holder : Option Label). option_or holder (last_some (changer_at table pos) (drop begun.prefix state.order)))
+    (no_holder setting number table pos 0 state.sessions (λ i apart held. m.alone i (λ same. apart (omega (arith, same))) held))
+    ∙ unchanged_by table pos (drop begun.prefix state.order)
+    (λ i. dropped_pair begun.prefix state.order i table pos ∙ m.clear (begun.prefix + i) (omega arith))
 
 -- ---- positions with a row
 

@@ -1,12 +1,14 @@
 -- What is kept along steps for those that committed to be passed unseen: no entry from the start of an open transaction on
 -- does anything at the positions that it holds, no other holds these, and what was passed unseen stays so.
-use Rattle.std.proofs.Common.{◌≡◌, ℕ, suc, ◌+◌, ◌-◌, ◌<◌, ◌≤◌, List, [], ◌∷◌, ◌++◌, Option, None, Some, true, is_some, length, map, drop, refl, ap, sym}
+use Rattle.std.proofs.Common.{◌≡◌, ℕ, zero, suc, ◌+◌, ◌-◌, ◌<◌, ◌≤◌, List, [], ◌∷◌, ◌++◌, Option, None, Some, true, is_some, length, map, drop, refl, ap, sym}
 use Rattle.std.proofs.Common.{◌∙◌, subst, arith, inl, inr, ◌⊎◌}
 use Rattle.std.specs.Prelude.{IfSome}
 use Rattle.std.specs.List.{AllByRecursion}
 use Rattle.std.proofs.lemmas.List.{length-append}
 use Rattle.std.proofs.lemmas.Option.{same_Some, IfSome_then}
 use Rattle.hy_bound.specs.declared.Record.{Record}
+use Rattle.hy_render.specs.declared.Ending.{Ending}
+use Rattle.hy_render.specs.declared.Ending.TheVariants.{Committed, Read, RolledBack, Conflict, Invalid, Range, Full}
 use Rattle.hy_machine.specs.declared.Setting.{Setting}
 use Rattle.hy_machine.specs.declared.State.{State}
 use Rattle.hy_machine.specs.declared.Session.{Session}
@@ -15,21 +17,29 @@ use Rattle.hy_machine.specs.declared.Begun.{Begun}
 use Rattle.hy_machine.specs.declared.Finished.{Finished}
 use Rattle.hy_machine.specs.declared.Entry.{Entry}
 use Rattle.hy_machine.specs.declared.Pair.{Pair}
+use Rattle.hy_machine.specs.declared.Cause.TheVariants as cause
 use Rattle.hy_machine.specs.declared.Phase.{Phase}
 use Rattle.hy_machine.specs.declared.Phase.TheVariants.{Working, Stamping, Undoing}
 use Rattle.hy_machine.specs.Positions.{item_at}
 use Rattle.hy_machine.specs.Tables.{Cell, Tables, over}
 use Rattle.hy_machine.specs.Sessions.{session_at, pair_of, entry_cells}
 use Rattle.hy_machine.specs.Holding.{holds}
+use Rattle.hy_machine.specs.Turns.{ending_of}
 use Rattle.hy_machine.specs.Validation.{committed_of, record_hit, first_hit}
 use Rattle.hy_replay.specs.Laws.{IsUnseenAt, DifferUnseen}
 use Rattle.hy_lawful.specs.Outcomes.{committed_at}
 use Rattle.hy_lawful.proofs.Lists.{all_so}
 use Rattle.hy_lawful.proofs.Moves.{moved_to, sessions_moved}
 use Rattle.hy_lawful.proofs.PassTables.{tables_at, cell_at, pair_at, AllFit, cell_next, cell_stays, tables_grow, more_pairs, entry_item, entry_lays}
-use Rattle.hy_lawful.proofs.PassHits.{from_dropped, pair_missed}
+use Rattle.hy_lawful.proofs.PassWritten.{Keeps, SessionNames, names_moved}
+use Rattle.hy_lawful.proofs.PassHits.{from_dropped, pair_missed, hit_stays}
 
 -- ---- the invariant
+
+-- what an entry does at a position is not at one of a transaction's own, and hits none of its records
+pub record PassesAt (begun : Begun) (table pos : ℕ) (pair : Pair) : Type 0 where
+  pub apart : item_at begun.own table pos ≡ None
+  pub missed : record_hit begun.records table pair.before pair.after ≡ None
 
 -- what stands before the place of a transaction in an order, from its start on, is unseen by it; its entry lays what it wrote
 pub record Passed (setting : Setting) (order : List Entry) (begun : Begun) (rank : ℕ) : Type 0 where
@@ -37,9 +47,25 @@ pub record Passed (setting : Setting) (order : List Entry) (begun : Begun) (rank
   pub unseen : (at : ℕ) → begun.prefix ≤ at → at < rank
       → DifferUnseen (tables_at setting order at) (tables_at setting order (suc at)) begun.own begun.records
   pub lays : tables_at setting order (suc rank) ≡ over (tables_at setting order rank) begun.own
+  pub passes : (at : ℕ) → begun.prefix ≤ at → at < rank → (table pos : ℕ) (pair : Pair) → pair_at order at table pos ≡ Some pair
+      → PassesAt begun table pos pair
+  pub wrote : (table pos : ℕ) (pair : Pair) → pair_at order rank table pos ≡ Some pair → is_some (item_at begun.own table pos) ≡ true
+
+-- one that is in conflict has not written that position; one that is invalid names the first hit of its records by the
+-- entries from its start on
+abbrev pub IsRefusal : List Entry → Begun → Ending → Type 0
+IsRefusal order begun (Committed rank) = Unit {0}
+IsRefusal order begun Read = Unit {0}
+IsRefusal order begun RolledBack = Unit {0}
+IsRefusal order begun (Conflict table pos other) = item_at begun.own table pos ≡ None
+IsRefusal order begun (Invalid table pos other statement) =
+    first_hit begun.records (map committed_of (drop begun.prefix order)) ≡ Some (cause.Invalid table pos other statement)
+IsRefusal order begun (Range table pos) = Unit {0}
+IsRefusal order begun (Full table) = Unit {0}
 
 abbrev pub EndPasses : Setting → List Entry → Finished → Type 0
-EndPasses setting order finished = IfSome (committed_at finished.ending) (Passed setting order finished.begun)
+EndPasses setting order finished =
+    IfSome (committed_at finished.ending) (Passed setting order finished.begun) × IsRefusal order finished.begun finished.ending
 
 -- no entry from the start of a transaction on does anything at a position
 abbrev pub Clear : List Entry → Begun → ℕ → ℕ → Type 0
@@ -51,7 +77,8 @@ HeldClear setting order current = (table pos : ℕ) → holds setting table pos 
 abbrev pub PhasePasses : Setting → List Entry → Begun → Phase → Type 0
 PhasePasses setting order begun (Working visited count) = HeldClear setting order (record { begun = begun; phase = Working visited count })
 PhasePasses setting order begun (Stamping visited) = Passed setting order begun (length order - 1)
-PhasePasses setting order begun (Undoing visited cause) = HeldClear setting order (record { begun = begun; phase = Undoing visited cause })
+PhasePasses setting order begun (Undoing visited cause) =
+    HeldClear setting order (record { begun = begun; phase = Undoing visited cause }) × IsRefusal order begun (ending_of cause)
 
 pub record OpenPasses (setting : Setting) (order : List Entry) (current : Open) : Type 0 where
   pub low : current.begun.low ≤ current.begun.prefix
@@ -78,12 +105,15 @@ pub record Passes (setting : Setting) (state : State) : Type 0 where
   pub befores : Befores setting state.order
   pub sessions : (number : ℕ) → SessionPasses setting state.order (session_at state number)
   pub alone : (number : ℕ) → HoldsAlone setting state number (session_at state number).now
+  pub names : (number : ℕ) → SessionNames state (session_at state number)
 
 pub passes_moved : (setting : Setting) (state : State) (order : List Entry) (mark : Option ℕ) (number : ℕ) (session : Session)
     → number < length state.sessions → Befores setting order → SessionPasses setting order session
     → ((other : ℕ) → (other ≡ number → ⊥) → SessionPasses setting order (session_at state other))
-    → HoldsAlone setting state number session.now → Passes setting state → Passes setting (moved_to state order mark number session)
-passes_moved setting state order mark number session there befores here others alone passes = record {
+    → HoldsAlone setting state number session.now → Keeps (session_at state number) session → SessionNames state session → Passes setting state
+    → Passes setting (moved_to state order mark number session)
+passes_moved setting state order mark number session there befores here others alone keeps names passes = record {
+  names = names_moved state order mark number session there keeps names passes.names;
   befores = befores;
   sessions = sessions_moved (λ other one. SessionPasses setting order one) state order mark number session there here others;
   alone = sessions_moved (λ one given. HoldsAlone setting (moved_to state order mark number session) one given.now) state order mark number session there
@@ -99,6 +129,11 @@ passes_moved setting state order mark number session there befores here others a
 
 -- ---- an entry more
 
+pair_stays : (order more : List Entry) (rank table pos : ℕ) → rank < length order → pair_at (order ++ more) rank table pos ≡ pair_at order rank table pos
+pair_stays [] more rank table pos below = absurd (omega (arith, below))
+pair_stays (entry ∷ order) more zero table pos below = refl
+pair_stays (entry ∷ order) more (suc rank) table pos below = pair_stays order more rank table pos (omega (arith, below))
+
 pub passed_grows : (setting : Setting) (order more : List Entry) (begun : Begun) (rank : ℕ) → Passed setting order begun rank
     → Passed setting (order ++ more) begun rank
 passed_grows setting order more begun rank p = record {
@@ -109,12 +144,27 @@ passed_grows setting order more begun rank p = record {
       (sym (tables_grow setting order more (suc at) (omega (arith, to, p.within)))) (p.unseen at from to));
   lays = tables_grow setting order more (suc rank) p.within
       ∙ (p.lays ∙ ap (λ (tables : Tables). over tables begun.own) (sym (tables_grow setting order more rank (omega (arith, p.within)))));
+  passes = λ at from to table pos pair e. p.passes at from to table pos pair
+      (sym (pair_stays order more at table pos (omega (arith, to, p.within))) ∙ e);
+  wrote = λ table pos pair e. p.wrote table pos pair (sym (pair_stays order more rank table pos p.within) ∙ e);
 }
+
+refusal_grows : (order more : List Entry) (begun : Begun) (ending : Ending) → IsRefusal order begun ending → IsRefusal (order ++ more) begun ending
+refusal_grows order more begun (Committed rank) h = tt
+refusal_grows order more begun Read h = tt
+refusal_grows order more begun RolledBack h = tt
+refusal_grows order more begun (Conflict table pos other) h = h
+refusal_grows order more begun (Invalid table pos other statement) h =
+    hit_stays begun.records begun.prefix order more (cause.Invalid table pos other statement) h
+refusal_grows order more begun (Range table pos) h = tt
+refusal_grows order more begun (Full table) h = tt
 
 pub ends_grow : (setting : Setting) (order more : List Entry) (finished : Finished) → EndPasses setting order finished
     → EndPasses setting (order ++ more) finished
-ends_grow setting order more finished h =
-    IfSome_then (committed_at finished.ending) h (λ rank p. passed_grows setting order more finished.begun rank p)
+ends_grow setting order more finished h = (
+  IfSome_then (committed_at finished.ending) h.0 (λ rank p. passed_grows setting order more finished.begun rank p),
+  refusal_grows order more finished.begun finished.ending h.1,
+)
 
 -- an entry does nothing at the positions that an open transaction holds
 abbrev pub Spares : Setting → Entry → Open → Type 0
@@ -137,8 +187,10 @@ phase_grows : (setting : Setting) (order : List Entry) (entry : Entry) (begun : 
 phase_grows setting order entry begun (Working visited count) h spares n =
     held_grows setting order entry (record { begun = begun; phase = Working visited count }) h spares
 phase_grows setting order entry begun (Stamping visited) h spares n = absurd (n visited refl)
-phase_grows setting order entry begun (Undoing visited cause) h spares n =
-    held_grows setting order entry (record { begun = begun; phase = Undoing visited cause }) h spares
+phase_grows setting order entry begun (Undoing visited cause) h spares n = (
+  held_grows setting order entry (record { begun = begun; phase = Undoing visited cause }) h.0 spares,
+  refusal_grows order (entry ∷ []) begun (ending_of cause) h.1,
+)
 
 abbrev pub NowSpared : Setting → Entry → Option Open → Type 0
 NowSpared setting entry None = Unit {0}
@@ -232,6 +284,21 @@ unseen_at setting order begun entry is hit at from table pos = by_item (pair_at 
           (missed_from begun.records begun.prefix order hit at from table pos pair e));
     })
 
+passes_at : (setting : Setting) (order : List Entry) (begun : Begun) (entry : Entry) → IsEntry setting order begun entry
+    → first_hit begun.records (map committed_of (drop begun.prefix order)) ≡ None → (at : ℕ) → begun.prefix ≤ at → (table pos : ℕ) (pair : Pair)
+    → pair_at order at table pos ≡ Some pair → PassesAt begun table pos pair
+passes_at setting order begun entry is hit at from table pos pair e = record {
+  apart = not_own order begun is.clear at table pos from pair e (item_at begun.own table pos) refl;
+  missed = missed_from begun.records begun.prefix order hit at from table pos pair e;
+}
+
+wrote_at : (setting : Setting) (order : List Entry) (begun : Begun) (entry : Entry) → IsEntry setting order begun entry → (table pos : ℕ) (pair : Pair)
+    → pair_at (order ++ entry ∷ []) (length order) table pos ≡ Some pair → is_some (item_at begun.own table pos) ≡ true
+wrote_at setting order begun entry is table pos pair e = elim (more_pairs order entry (length order) table pos pair e) [
+  | inl old ↦ absurd (omega (arith, old.0))
+  | inr new ↦ (entry_pair setting order begun entry is table pos pair new.1).0
+]
+
 pub entered_passed : (setting : Setting) (order : List Entry) (begun : Begun) (entry : Entry) → IsEntry setting order begun entry
     → first_hit begun.records (map committed_of (drop begun.prefix order)) ≡ None → Passed setting (order ++ entry ∷ []) begun (length order)
 entered_passed setting order begun entry is hit = record {
@@ -241,4 +308,7 @@ entered_passed setting order begun entry is hit = record {
       (subst (λ (tables : Tables). DifferUnseen (tables_at setting order at) tables begun.own begun.records)
       (sym (tables_grow setting order (entry ∷ []) (suc at) (omega (arith, to)))) (unseen_at setting order begun entry is hit at from));
   lays = entry_lays setting order entry (tables_at setting order begun.prefix) begun.own is.cells;
+  passes = λ at from to table pos pair e. passes_at setting order begun entry is hit at from table pos pair
+      (sym (pair_stays order (entry ∷ []) at table pos to) ∙ e);
+  wrote = wrote_at setting order begun entry is;
 }

@@ -2,12 +2,10 @@
 use Rattle.std.proofs.Common.{◌≡◌, ℕ, zero, suc, ◌-◌, ◌<◌, ◌≤◌, List, [], ◌∷◌, ◌++◌, Option, None, Some, true, false, is_some, length, map, drop}
 use Rattle.std.proofs.Common.{get_or, replicate, refl, ap, sym, ◌∙◌, subst, arith}
 use Rattle.std.proofs.Math.ListN.{get_or-map}
-use Rattle.std.specs.Prelude.{slice_get}
 use Rattle.std.specs.Option.{option_map}
-use Rattle.std.specs.List.{AllByRecursion}
 use Rattle.std.proofs.lemmas.Bool.{and_parts}
 use Rattle.std.proofs.lemmas.List.{length-append}
-use Rattle.std.proofs.lemmas.Option.{same_Some, IfSome_then}
+use Rattle.std.proofs.lemmas.Option.{IfSome_then}
 use Rattle.hy_value.specs.declared.Value.{Value}
 use Rattle.hy_bound.specs.declared.Txn.{Txn}
 use Rattle.hy_stamp.specs.declared.Label.{Label}
@@ -16,6 +14,7 @@ use Rattle.hy_machine.specs.declared.Setting.{Setting}
 use Rattle.hy_machine.specs.declared.State.{State}
 use Rattle.hy_machine.specs.declared.Session.{Session}
 use Rattle.hy_machine.specs.declared.Open.{Open}
+use Rattle.hy_machine.specs.declared.Finished.{Finished}
 use Rattle.hy_machine.specs.declared.Entry.{Entry}
 use Rattle.hy_machine.specs.declared.Phase.TheVariants.{Working, Stamping}
 use Rattle.hy_machine.specs.declared.Turn.{Turn}
@@ -31,7 +30,7 @@ use Rattle.hy_machine.specs.Steps.{with_session, beginning, after_visit, after_a
 use Rattle.hy_machine.specs.Runs.{opening_of, after_steps, IsReached}
 use Rattle.hy_lawful.specs.Outcomes.{committed_at}
 use Rattle.hy_lawful.specs.Reached.{ReachedPassUnseen}
-use Rattle.hy_lawful.proofs.Lists.{all_more}
+use Rattle.hy_lawful.proofs.Lists.{all_more, one_of}
 use Rattle.hy_lawful.proofs.Fits.{PhaseFits, OpenFits, NowFits, NowStamps, Fits}
 use Rattle.hy_lawful.proofs.Moves.{moved_to}
 use Rattle.hy_lawful.proofs.Turns.{FitsTurn, phase_fits}
@@ -39,6 +38,7 @@ use Rattle.hy_lawful.proofs.Reached.{is_there, reached_fits}
 use Rattle.hy_lawful.proofs.PassTables.{pair_at}
 use Rattle.hy_lawful.proofs.PassStates.{Passed, EndPasses, OpenPasses, NowPasses, SessionPasses, Passes, passes_moved, done_grows, session_grows, NowSpared}
 use Rattle.hy_lawful.proofs.PassStates.{IsEntry, entry_pair, befores_grow, entered_passed}
+use Rattle.hy_lawful.proofs.PassWritten.{keeps_open, keeps_begun, keeps_ended, writes_keep, Names, NowNames, SessionNames}
 use Rattle.hy_lawful.proofs.PassMays.{OwnMay}
 use Rattle.hy_lawful.proofs.PassTurns.{GoesOn, PassesTurn, phase_passes}
 
@@ -77,8 +77,8 @@ blank_free setting state table pos h =
     absurd cc
 
 begins : (setting : Setting) (state : State) (number : ℕ) → Passes setting state → number < length state.sessions
-    → Passes setting (after_turn setting state number Begins).0
-begins setting state number passes there =
+    → (session_at state number).now ≡ None → Passes setting (after_turn setting state number Begins).0
+begins setting state number passes there is =
     passes_moved setting state state.order state.mark number
     (record { done = (session_at state number).done; now = Some (record { begun = beginning setting state; phase = Working 0 0 }) }) there passes.befores
     (record {
@@ -88,7 +88,9 @@ begins setting state number passes there =
         phase = λ table pos h rank from. past_order state.order rank table pos from;
       };
     })
-    (λ other apart. passes.sessions other) (λ other table pos apart h. absurd (blank_free setting state table pos h)) passes
+    (λ other apart. passes.sessions other) (λ other table pos apart h. absurd (blank_free setting state table pos h))
+    (keeps_begun (session_at state number) (record { begun = beginning setting state; phase = Working 0 0 }) is)
+    (record { done = (passes.names number).done; now = tt }) passes
 
 -- ---- a transaction goes on
 
@@ -102,10 +104,12 @@ record IsOpen (setting : Setting) (state : State) (number : ℕ) (current : Open
   low : current.begun.low ≤ current.begun.prefix
 
 goes : (setting : Setting) (state : State) (number : ℕ) (current new : Open) → IsOpen setting state number current → GoesOn setting state number new
+    → ((table pos : ℕ) → is_some (item_at current.begun.own table pos) ≡ true → is_some (item_at new.begun.own table pos) ≡ true)
     → Passes setting (moved_to state state.order state.mark number (record { done = (session_at state number).done; now = Some new }))
-goes setting state number current new o h =
+goes setting state number current new o h more =
     passes_moved setting state state.order state.mark number (record { done = (session_at state number).done; now = Some new }) o.there o.passes.befores
-    (record { done = (o.passes.sessions number).done; now = h.0 }) (λ other apart. o.passes.sessions other) h.1 o.passes
+    (record { done = (o.passes.sessions number).done; now = h.0 }) (λ other apart. o.passes.sessions other) h.1
+    (keeps_open (session_at state number) current new o.is more) (record { done = (o.passes.names number).done; now = h.2 }) o.passes
 
 not_stamping : (setting : Setting) (state : State) (number before : ℕ) (current : Open) → (state.mark ≡ Some number → ⊥)
     → PhaseFits setting state.order state.mark number before current.begun current.phase → (visited : ℕ) → current.phase ≡ Stamping visited → ⊥
@@ -134,6 +138,8 @@ enters setting state number current o may hit free =
     (spared other apart (session_at state other).now refl))
     (λ other table pos apart h. (may table pos (and_parts (is_some (item_at current.begun.own table pos))
     (is_among (written_chunks setting current.begun.own) table (chunk_of setting pos)) h).0).alone other apart)
+    (keeps_open (session_at state number) current (after_visit [] (Stamping 0) current) o.is (λ table pos own. own))
+    (record { done = (o.passes.names number).done; now = tt })
     o.passes
   where
     entry : Entry
@@ -161,10 +167,10 @@ enters setting state number current o may hit free =
     )
 
 ends : (setting : Setting) (state : State) (number : ℕ) (current : Open) (ending : Ending) → IsOpen setting state number current
-    → EndPasses setting state.order (record { begun = current.begun; ending = ending })
+    → EndPasses setting state.order (record { begun = current.begun; ending = ending }) → Names state ending
     → Passes setting (moved_to state state.order None number
     (record { done = (session_at state number).done ++ record { begun = current.begun; ending = ending } ∷ []; now = None }))
-ends setting state number current ending o h =
+ends setting state number current ending o h named =
     passes_moved setting state state.order None number
     (record { done = (session_at state number).done ++ record { begun = current.begun; ending = ending } ∷ []; now = None }) o.there o.passes.befores
     (record {
@@ -172,7 +178,13 @@ ends setting state number current ending o h =
           (o.passes.sessions number).done h;
       now = tt;
     })
-    (λ other apart. o.passes.sessions other) (λ other table pos apart held. absurd cc) o.passes
+    (λ other apart. o.passes.sessions other) (λ other table pos apart held. absurd cc) (keeps_ended (session_at state number) current ending o.is)
+    (record {
+      done = all_more (λ (finished : Finished). Names state finished.ending) (session_at state number).done
+          (record { begun = current.begun; ending = ending }) (o.passes.names number).done named;
+      now = tt;
+    })
+    o.passes
 
 turn_passes : (setting : Setting) (state : State) (number : ℕ) (current : Open) → IsOpen setting state number current → (turn : Turn)
     → FitsTurn setting state number current.begun turn → PassesTurn setting state number current turn
@@ -183,11 +195,11 @@ turn_passes setting state number current o Begins f h = absurd h
 turn_passes setting state number current o (Visits writes phase) f h =
     subst (λ (now : Option Open). Passes setting
     (with_session state number (record { done = (session_at state number).done; now = option_map (after_visit writes phase) now })))
-    (sym o.is) (goes setting state number current (after_visit writes phase current) o h)
+    (sym o.is) (goes setting state number current (after_visit writes phase current) o h (writes_keep current.begun.own writes))
 turn_passes setting state number current o (Answers writes reply took records) f h =
     subst (λ (now : Option Open). Passes setting
     (with_session state number (record { done = (session_at state number).done; now = option_map (after_answer writes reply took records) now })))
-    (sym o.is) (goes setting state number current (after_answer writes reply took records current) o h)
+    (sym o.is) (goes setting state number current (after_answer writes reply took records current) o h (writes_keep current.begun.own writes))
 turn_passes setting state number current o Enters f h =
     subst (λ (now : Option Open). Passes setting (moved_to state (order_with setting state number now) (Some number) number
     (record { done = (session_at state number).done; now = option_map (after_visit [] (Stamping 0)) now })))
@@ -195,7 +207,7 @@ turn_passes setting state number current o Enters f h =
 turn_passes setting state number current o (Ends ending) f h =
     subst (λ (now : Option Open). Passes setting
     (moved_to state state.order None number (record { done = done_with ending (session_at state number).done now; now = None })))
-    (sym o.is) (ends setting state number current ending o h)
+    (sym o.is) (ends setting state number current ending o h.0 h.1)
 
 -- ---- steps
 
@@ -209,7 +221,7 @@ session_passes : (setting : Setting) (state : State) (number : ℕ) (txn : Txn) 
     → Passes setting (after_turn setting state number (session_turn setting state number (Some txn) now)).0
 session_passes setting state number txn fits passes e None is =
     begins_unless setting state number (blocker state number) passes
-    (begins setting state number passes (is_there setting state number txn fits e))
+    (begins setting state number passes (is_there setting state number txn fits e) is)
 session_passes setting state number txn fits passes e (Some current) is =
     let present : OpenFits setting state.order state.mark number (session_at state number).done current =
     subst (NowFits setting state.order state.mark number (session_at state number).done) is (fits.sessions number).now in
@@ -227,7 +239,8 @@ session_passes setting state number txn fits passes e (Some current) is =
     (phase_fits setting state fits number txn current.begun e present.above present.records current.phase present.phase
     (λ m. subst NowStamps is (fits.marked number m)))
     (phase_passes setting state fits passes number txn current.begun present.own current.phase passing
-    (λ other table pos apart h. passes.alone number other table pos apart (ap (holds setting table pos) is ∙ h)))
+    (λ other table pos apart h. passes.alone number other table pos apart (ap (holds setting table pos) is ∙ h))
+    (subst (NowNames state) is (passes.names number).now))
 
 by_txn : (setting : Setting) (state : State) (number : ℕ) → Fits setting state → Passes setting state → (txn : Option Txn)
     → txn_at setting number (session_at state number) ≡ txn
@@ -268,19 +281,15 @@ opening_passes setting = record {
   alone = λ number other table pos apart h. absurd
       (let never : holds setting table pos None ≡ true =
       ap (λ (session : Session). holds setting table pos session.now) (sym (fresh_at setting number)) ∙ h in cc);
+  names = λ number. subst (SessionNames (opening_of setting)) (sym (fresh_at setting number)) (record { done = tt; now = tt });
 }
 
-reached_passes : (setting : Setting) (state : State) → IsReached setting state → Passes setting state
+pub reached_passes : (setting : Setting) (state : State) → IsReached setting state → Passes setting state
 reached_passes setting state r =
     subst (Passes setting) (sym r.1) (steps_pass setting (opening_of setting) r.0 ([], refl) (opening_passes setting))
-
-one_of : {X : Type 0} (P : X → Type 0) (xs : List X) → AllByRecursion P xs → (i : ℕ) (x : X) → slice_get xs i ≡ Some x → P x
-one_of P [] h i x e = absurd cc
-one_of P (y ∷ xs) h zero x e = subst P (same_Some y x e) h.0
-one_of P (y ∷ xs) h (suc i) x e = one_of P xs h.1 i x e
 
 pub reached_pass : ReachedPassUnseen
 reached_pass setting state r number before finished e =
     IfSome_then (committed_at finished.ending)
-    (one_of (EndPasses setting state.order) (session_at state number).done ((reached_passes setting state r).sessions number).done before finished e)
+    (one_of (EndPasses setting state.order) (session_at state number).done ((reached_passes setting state r).sessions number).done before finished e).0
     (λ rank p. record { unseen = p.unseen; lays = p.lays })

@@ -63,7 +63,7 @@ covered_long f most [] lists h = tt
 covered_long f most (cells ∷ tables) [] h = h
 covered_long f most (cells ∷ tables) (items ∷ lists) h = (overlaid_length (covered f) cells items ∙ h.0, covered_long f most tables lists h.1)
 
-covered_are : {B : Type 0} (setting : Setting) (f : B → Cell) (tables : Tables) (lists : List (List (Option B))) → AreTables setting tables
+pub covered_are : {B : Type 0} (setting : Setting) (f : B → Cell) (tables : Tables) (lists : List (List (Option B))) → AreTables setting tables
     → AreTables setting (covered_tables f tables lists)
 covered_are setting f tables lists are = record {
   many = overlaid_length (overlaid (covered f)) tables lists ∙ are.many;

@@ -7,6 +7,7 @@ use Rattle.hy_value.specs.declared.Value.{Value}
 use Rattle.hy_bound.specs.declared.Txn.{Txn}
 use Rattle.hy_bound.specs.declared.Bound.{Bound}
 use Rattle.hy_bound.specs.declared.Bound.TheVariants.{Select, Group, Insert, Update, Delete}
+use Rattle.hy_bound.specs.declared.Record.{Record}
 use Rattle.hy_bound.specs.declared.Reply.{Reply}
 use Rattle.hy_bound.specs.declared.WriteKind.{WriteKind}
 use Rattle.hy_bound.specs.declared.WriteKind.TheVariants as kind
@@ -14,6 +15,7 @@ use Rattle.hy_bound.specs.Condition.{Condition}
 use Rattle.hy_bound.specs.Records.{shape_of}
 use Rattle.hy_meaning.specs.Statement.{answer_of, grouped}
 use Rattle.hy_stamp.specs.declared.Label.{Label}
+use Rattle.hy_render.specs.declared.Ending.{Ending}
 use Rattle.hy_render.specs.declared.Ending.TheVariants as ways
 use Rattle.hy_machine.specs.declared.Setting.{Setting}
 use Rattle.hy_machine.specs.declared.State.{State}
@@ -28,24 +30,28 @@ use Rattle.hy_machine.specs.declared.Phase.TheVariants.{Working, Stamping, Undoi
 use Rattle.hy_machine.specs.declared.Turn.{Turn}
 use Rattle.hy_machine.specs.declared.Turn.TheVariants.{Done, Waits, Begins, Visits, Answers, Enters, Ends}
 use Rattle.hy_machine.specs.Positions.{item_at}
-use Rattle.hy_machine.specs.Tables.{Own, positions_in, chunk_of}
+use Rattle.hy_machine.specs.Tables.{Cell, Own, positions_in, chunk_of}
 use Rattle.hy_machine.specs.Writes.{with_writes, wrote_nothing, written_chunks, is_among}
 use Rattle.hy_machine.specs.Sessions.{blocker, view}
-use Rattle.hy_machine.specs.Holding.{undone, holds, is_free}
+use Rattle.hy_machine.specs.Holding.{undone, holds, is_free, opponent}
 use Rattle.hy_machine.specs.Validation.{committed_of, first_hit}
-use Rattle.hy_machine.specs.Visits.{swept, sees_key, free_position, checks_of}
+use Rattle.hy_machine.specs.Visits.{verdict_at, swept, sees_key, free_position, checks_of}
 use Rattle.hy_machine.specs.Turns.{rows_seen, read_turn, write_turn, check_turn, place_turn, insert_turn, statement_turn, ending_of, unless_blocked}
 use Rattle.hy_machine.specs.Turns.{undo_turn, stamp_turn, validated_turn, commit_turn, closing_turn, working_turn, phase_turn}
 use Rattle.hy_machine.specs.Steps.{after_visit, after_answer}
 use Rattle.hy_lawful.specs.Outcomes.{committed_at}
 use Rattle.hy_lawful.proofs.Fits.{FitsTables, Fits}
+use Rattle.hy_lawful.proofs.Refusals.{sweep_refuses, verdict_fails, is_invalid}
 use Rattle.hy_lawful.proofs.PassHolds.{own_among, fewer_among, written_is}
-use Rattle.hy_lawful.proofs.PassStates.{Passed, EndPasses, PhasePasses, HeldClear, OpenPasses, HoldsAlone, Passes}
-use Rattle.hy_lawful.proofs.PassMays.{OwnMay, AllMay, MayWrite, IsAtWork, swept_may, found_is, free_may}
+use Rattle.hy_lawful.proofs.PassStates.{Passed, IsRefusal, EndPasses, PhasePasses, HeldClear, OpenPasses, HoldsAlone, Passes}
+use Rattle.hy_lawful.proofs.PassWritten.{Names, PhaseNames}
+use Rattle.hy_lawful.proofs.PassRivals.{opponent_wrote}
+use Rattle.hy_lawful.proofs.PassMays.{OwnMay, AllMay, MayWrite, IsAtWork, no_opponent, swept_may, found_is, free_may}
 
 -- an open transaction goes on as this one
 abbrev pub GoesOn : Setting → State → ℕ → Open → Type 0
-GoesOn setting state number new = OpenPasses setting state.order new × HoldsAlone setting state number (Some new)
+GoesOn setting state number new =
+    OpenPasses setting state.order new × HoldsAlone setting state number (Some new) × PhaseNames state new.phase
 
 -- a turn of an open transaction passes
 abbrev pub PassesTurn : Setting → State → ℕ → Open → Turn → Type 0
@@ -58,22 +64,28 @@ PassesTurn setting state number current (Answers writes reply took records) =
 PassesTurn setting state number current Enters =
     OwnMay setting state number current.begun
     × (first_hit current.begun.records (map committed_of (drop current.begun.prefix state.order)) ≡ None)
-PassesTurn setting state number current (Ends ending) = EndPasses setting state.order (record { begun = current.begun; ending = ending })
+PassesTurn setting state number current (Ends ending) =
+    EndPasses setting state.order (record { begun = current.begun; ending = ending }) × Names state ending
 
-abbrev NotStamping : Phase → Type 0
-NotStamping (Working visited count) = Unit {0}
-NotStamping (Stamping visited) = ⊥
-NotStamping (Undoing visited cause) = Unit {0}
+abbrev Refused : State → Begun → Ending → Type 0
+Refused state begun ending = IsRefusal state.order begun ending × Names state ending
+
+-- a phase that a transaction at work comes to
+abbrev NextPhase : State → Begun → Phase → Type 0
+NextPhase state begun (Working visited count) = Unit {0}
+NextPhase state begun (Stamping visited) = ⊥
+NextPhase state begun (Undoing visited cause) = Refused state begun (ending_of cause)
 
 -- a turn of a transaction at work
 abbrev WorkTurn : Setting → State → ℕ → Begun → Turn → Type 0
 WorkTurn setting state number begun Done = Unit {0}
 WorkTurn setting state number begun (Waits by) = Unit {0}
 WorkTurn setting state number begun Begins = ⊥
-WorkTurn setting state number begun (Visits writes phase) = AllMay setting state number begun writes × NotStamping phase
+WorkTurn setting state number begun (Visits writes phase) =
+    AllMay setting state number begun writes × NextPhase state (record begun { own = with_writes begun.own writes }) phase
 WorkTurn setting state number begun (Answers writes reply took records) = AllMay setting state number begun writes
 WorkTurn setting state number begun Enters = first_hit begun.records (map committed_of (drop begun.prefix state.order)) ≡ None
-WorkTurn setting state number begun (Ends ending) = committed_at ending ≡ None
+WorkTurn setting state number begun (Ends ending) = (committed_at ending ≡ None) × Refused state begun ending
 
 -- ---- statements
 
@@ -85,11 +97,30 @@ read_writes setting state number begun visited tables statement gathered reply =
   | inr f ↦ rw f tt
 ]
 
+-- where somebody is in the way nothing is written
+not_own : (setting : Setting) (state : State) (number : ℕ) (begun : Begun) (table pos : ℕ) (other : Label) → IsAtWork setting state number begun
+    → opponent setting state number begun.prefix table pos ≡ Some other → (own : Option Cell) → item_at begun.own table pos ≡ own → own ≡ None
+not_own setting state number begun table pos other w o None e = refl
+not_own setting state number begun table pos other w o (Some cell) e =
+    absurd (let never : None ≡ Some other = sym (no_opponent setting state number begun table pos (w.may table pos (ap is_some e))) ∙ o in cc)
+
 write_writes : (setting : Setting) (state : State) (number : ℕ) (begun : Begun) (visited count : ℕ) (statement : Bound) (kind : WriteKind) (pred : Condition)
     (table : ℕ) → IsAtWork setting state number begun
     → (result : Result (List Write) Cause) → swept setting state number begun kind pred table visited ≡ result
     → WorkTurn setting state number begun (write_turn setting begun visited count statement kind result)
-write_writes setting state number begun visited count statement kind pred table w (Err cause) e = (tt, tt)
+write_writes setting state number begun visited count statement kind pred table w (Err cause) e = (
+  tt,
+  sweep_refuses (λ (one : Cause). Refused state begun (ending_of one)) table (verdict_at setting state number begun kind pred table)
+      (positions_in setting visited) cause
+      (λ pos one v. verdict_fails (λ (one : Cause). Refused state begun (ending_of one)) kind pred table pos
+      (opponent setting state number begun.prefix table pos) (item_at (view setting state begun) table pos) one
+      (λ row other here t o. (
+        not_own setting state number begun table pos other w o (item_at begun.own table pos) refl,
+        opponent_wrote setting state w.fits w.passes number begun.prefix table pos other o,
+      ))
+      (λ row here t n. (tt, tt)) v)
+      e,
+)
 write_writes setting state number begun visited count statement kind pred table w (Ok writes) e =
     elim (cases_Bool (ltb (suc visited) setting.chunks)) [
       | inl t ↦ rw t (swept_may setting state number begun kind pred table visited writes w e, tt)
@@ -108,7 +139,7 @@ place_writes setting state number begun visited chunk statement table row w (Som
     (free_may setting state number begun table pos w.low (found_is (is_free setting state begun table) (positions_in setting chunk) pos e), tt)
 place_writes setting state number begun visited chunk statement table row w None e = elim (cases_Bool (ltb (suc chunk) setting.chunks)) [
   | inl t ↦ rw t (tt, tt)
-  | inr f ↦ rw f (tt, tt)
+  | inr f ↦ rw f (tt, (tt, tt))
 ]
 
 insert_writes : (setting : Setting) (state : State) (number : ℕ) (begun : Begun) (visited : ℕ) (statement : Bound) (table : ℕ) (row : List Value)
@@ -152,17 +183,45 @@ unless_writes setting state number begun turn None h = h
 unless_writes setting state number begun turn (Some by) h = tt
 
 undo_writes : (setting : Setting) (state : State) (number : ℕ) (begun : Begun) (visited : ℕ) (cause : Cause)
-    → WorkTurn setting state number begun (undo_turn setting state number begun visited cause)
-undo_writes setting state number begun visited cause = elim (cases_Bool (ltb visited (length (written_chunks setting begun.own)))) [
-  | inl t ↦ rw t (tt, tt)
-  | inr f ↦ rw f (unless_writes setting state number begun (Ends (ending_of cause)) (blocker state number) (undone_is cause))
+    → Refused state begun (ending_of cause) → WorkTurn setting state number begun (undo_turn setting state number begun visited cause)
+undo_writes setting state number begun visited cause h = elim (cases_Bool (ltb visited (length (written_chunks setting begun.own)))) [
+  | inl t ↦ rw t (tt, h)
+  | inr f ↦ rw f (unless_writes setting state number begun (Ends (ending_of cause)) (blocker state number) (undone_is cause, h))
 ]
+
+abbrev NoConflict : Cause → Type 0
+NoConflict RolledBack = Unit {0}
+NoConflict (Conflict table pos other) = ⊥
+NoConflict (Invalid table pos other statement) = Unit {0}
+NoConflict (Range table pos) = Unit {0}
+NoConflict (Full table) = Unit {0}
+
+no_conflict : (records : List Record) (entries : List Entry) (table pos : ℕ) (other : Label)
+    → first_hit records (map committed_of entries) ≡ Some (Conflict table pos other) → ⊥
+no_conflict records entries table pos other e =
+    is_invalid NoConflict records entries (Conflict table pos other) (λ of at label statement. tt) e
+
+-- what validation refuses names its hit
+hit_names : (order : List Entry) (begun : Begun) (cause : Cause) → first_hit begun.records (map committed_of (drop begun.prefix order)) ≡ Some cause
+    → IsRefusal order begun (ending_of cause)
+hit_names order begun RolledBack e = tt
+hit_names order begun (Conflict table pos other) e = absurd (no_conflict begun.records (drop begun.prefix order) table pos other e)
+hit_names order begun (Invalid table pos other statement) e = e
+hit_names order begun (Range table pos) e = tt
+hit_names order begun (Full table) e = tt
 
 validated_writes : (setting : Setting) (state : State) (number : ℕ) (begun : Begun) (hit : Option Cause)
     → first_hit begun.records (map committed_of (drop begun.prefix state.order)) ≡ hit
     → WorkTurn setting state number begun (validated_turn hit)
 validated_writes setting state number begun None e = e
-validated_writes setting state number begun (Some cause) e = (tt, tt)
+validated_writes setting state number begun (Some cause) e = (
+  tt,
+  (
+    hit_names state.order begun cause e,
+    is_invalid (λ (one : Cause). Names state (ending_of one)) begun.records (drop begun.prefix state.order) cause
+        (λ table pos label statement. tt) e,
+  ),
+)
 
 commit_writes : (setting : Setting) (state : State) (number : ℕ) (begun : Begun)
     → WorkTurn setting state number begun (commit_turn setting state number begun)
@@ -170,14 +229,14 @@ commit_writes setting state number begun = unless_writes setting state number be
     (cond (wrote_nothing begun.own) (Ends ways.Read) (validated_turn (first_hit begun.records (map committed_of (drop begun.prefix state.order)))))
     (blocker state number)
     (elim (cases_Bool (wrote_nothing begun.own)) [
-      | inl t ↦ rw t refl
+      | inl t ↦ rw t (refl, (tt, tt))
       | inr f ↦ rw f (validated_writes setting state number begun (first_hit begun.records (map committed_of (drop begun.prefix state.order))) refl)
     ])
 
 closing_writes : (setting : Setting) (state : State) (number : ℕ) (begun : Begun) (commits : Bool)
     → WorkTurn setting state number begun (closing_turn setting state number begun commits)
 closing_writes setting state number begun true = commit_writes setting state number begun
-closing_writes setting state number begun false = undo_writes setting state number begun 0 RolledBack
+closing_writes setting state number begun false = undo_writes setting state number begun 0 RolledBack (tt, tt)
 
 working_writes : (setting : Setting) (state : State) (number : ℕ) (txn : Txn) (begun : Begun) (visited count : ℕ) → IsAtWork setting state number begun
     → (statement : Option Bound) → WorkTurn setting state number begun (working_turn setting state number txn begun visited count statement)
@@ -186,21 +245,27 @@ working_writes setting state number txn begun visited count w (Some statement) =
 
 -- ---- what the open transaction is then
 
-phase_clear : (setting : Setting) (order : List Entry) (begun : Begun) (phase : Phase) → NotStamping phase
-    → HeldClear setting order (record { begun = begun; phase = phase }) → PhasePasses setting order begun phase
-phase_clear setting order begun (Working visited count) n h = h
-phase_clear setting order begun (Stamping visited) n h = absurd n
-phase_clear setting order begun (Undoing visited cause) n h = h
+phase_clear : (setting : Setting) (state : State) (begun : Begun) (phase : Phase) → NextPhase state begun phase
+    → HeldClear setting state.order (record { begun = begun; phase = phase }) → PhasePasses setting state.order begun phase
+phase_clear setting state begun (Working visited count) n h = h
+phase_clear setting state begun (Stamping visited) n h = absurd n
+phase_clear setting state begun (Undoing visited cause) n h = (h, n.0)
+
+phase_names : (state : State) (begun : Begun) (phase : Phase) → NextPhase state begun phase → PhaseNames state phase
+phase_names state begun (Working visited count) n = tt
+phase_names state begun (Stamping visited) n = tt
+phase_names state begun (Undoing visited cause) n = n.1
 
 goes_on : (setting : Setting) (state : State) (number : ℕ) (begun : Begun) (writes : List Write) (new : Open) → IsAtWork setting state number begun
     → AllMay setting state number begun writes → new.begun.own ≡ with_writes begun.own writes → new.begun.prefix ≡ begun.prefix
-    → new.begun.low ≡ begun.low → NotStamping new.phase → GoesOn setting state number new
+    → new.begun.low ≡ begun.low → NextPhase state new.begun new.phase → GoesOn setting state number new
 goes_on setting state number begun writes new w all own prefix low n = (
   record {
     low = omega (arith, w.low, prefix, low);
-    phase = phase_clear setting state.order new.begun new.phase n (λ table pos h rank from. (may table pos h).clear rank (omega (arith, from, prefix)));
+    phase = phase_clear setting state new.begun new.phase n (λ table pos h rank from. (may table pos h).clear rank (omega (arith, from, prefix)));
   },
   λ other table pos apart h. (may table pos h).alone other apart,
+  phase_names state new.begun new.phase n,
 )
   where
     may : (table pos : ℕ) → holds setting table pos (Some new) ≡ true → MayWrite setting state number begun table pos
@@ -220,7 +285,7 @@ writes_pass setting state number current w (Answers writes reply took records) h
     goes_on setting state number current.begun writes (after_answer writes reply took records current) w h refl refl refl tt
 writes_pass setting state number current w Enters h = (w.may, h)
 writes_pass setting state number current w (Ends ending) h =
-    subst (λ (rank : Option ℕ). IfSome rank (Passed setting state.order current.begun)) (sym h) tt
+    ((subst (λ (rank : Option ℕ). IfSome rank (Passed setting state.order current.begun)) (sym h.0) tt, h.1.0), h.1.1)
 
 unless_passes : (setting : Setting) (state : State) (number : ℕ) (current : Open) (turn : Turn) (by : Option Label)
     → PassesTurn setting state number current turn → PassesTurn setting state number current (unless_blocked by turn)
@@ -238,17 +303,18 @@ holds_less setting begun visited cause table pos h =
     parts.0 (fewer_among visited (written_chunks setting begun.own) table (chunk_of setting pos) parts.1)
 
 undo_passes : (setting : Setting) (state : State) (number : ℕ) (begun : Begun) (visited : ℕ) (cause : Cause) → begun.low ≤ begun.prefix
-    → HeldClear setting state.order (record { begun = begun; phase = Undoing visited cause })
+    → PhasePasses setting state.order begun (Undoing visited cause) → Names state (ending_of cause)
     → HoldsAlone setting state number (Some (record { begun = begun; phase = Undoing visited cause }))
     → PassesTurn setting state number (record { begun = begun; phase = Undoing visited cause }) (undo_turn setting state number begun visited cause)
-undo_passes setting state number begun visited cause low clear alone = elim (cases_Bool (ltb visited (length (written_chunks setting begun.own)))) [
+undo_passes setting state number begun visited cause low h named alone = elim (cases_Bool (ltb visited (length (written_chunks setting begun.own)))) [
   | inl t ↦ rw t (
-    record { low = low; phase = λ table pos h. clear table pos (holds_less setting begun visited cause table pos h) },
-    λ other table pos apart h. alone other table pos apart (holds_less setting begun visited cause table pos h),
+    record { low = low; phase = (λ table pos held. h.0 table pos (holds_less setting begun visited cause table pos held), h.1) },
+    λ other table pos apart held. alone other table pos apart (holds_less setting begun visited cause table pos held),
+    named,
   )
   | inr f ↦ rw f (unless_passes setting state number (record { begun = begun; phase = Undoing visited cause }) (Ends (ending_of cause))
       (blocker state number)
-      (subst (λ (rank : Option ℕ). IfSome rank (Passed setting state.order begun)) (sym (undone_is cause)) tt))
+      ((subst (λ (rank : Option ℕ). IfSome rank (Passed setting state.order begun)) (sym (undone_is cause)) tt, h.1), named))
 ]
 
 stamp_passes : (setting : Setting) (state : State) (number : ℕ) (begun : Begun) (visited : ℕ) → begun.low ≤ begun.prefix
@@ -256,16 +322,16 @@ stamp_passes : (setting : Setting) (state : State) (number : ℕ) (begun : Begun
     → HoldsAlone setting state number (Some (record { begun = begun; phase = Stamping visited }))
     → PassesTurn setting state number (record { begun = begun; phase = Stamping visited }) (stamp_turn setting state begun visited)
 stamp_passes setting state number begun visited low passed alone = elim (cases_Bool (ltb visited (length (written_chunks setting begun.own)))) [
-  | inl t ↦ rw t (record { low = low; phase = passed }, alone)
-  | inr f ↦ rw f passed
+  | inl t ↦ rw t (record { low = low; phase = passed }, alone, tt)
+  | inr f ↦ rw f ((passed, tt), tt)
 ]
 
 -- the turn of an open transaction
 pub phase_passes : (setting : Setting) (state : State) → Fits setting state → Passes setting state → (number : ℕ) (txn : Txn) (begun : Begun)
     → FitsTables setting begun.own → (phase : Phase) → OpenPasses setting state.order (record { begun = begun; phase = phase })
-    → HoldsAlone setting state number (Some (record { begun = begun; phase = phase }))
+    → HoldsAlone setting state number (Some (record { begun = begun; phase = phase })) → PhaseNames state phase
     → PassesTurn setting state number (record { begun = begun; phase = phase }) (phase_turn setting state number txn begun phase)
-phase_passes setting state fits passes number txn begun own (Working visited count) present alone =
+phase_passes setting state fits passes number txn begun own (Working visited count) present alone named =
     let works : IsAtWork setting state number begun = record {
       fits = fits;
       passes = passes;
@@ -280,7 +346,7 @@ phase_passes setting state fits passes number txn begun own (Working visited cou
     writes_pass setting state number (record { begun = begun; phase = Working visited count }) works
     (working_turn setting state number txn begun visited count (slice_get txn.statements (length begun.replies)))
     (working_writes setting state number txn begun visited count works (slice_get txn.statements (length begun.replies)))
-phase_passes setting state fits passes number txn begun own (Stamping visited) present alone =
+phase_passes setting state fits passes number txn begun own (Stamping visited) present alone named =
     stamp_passes setting state number begun visited present.low present.phase alone
-phase_passes setting state fits passes number txn begun own (Undoing visited cause) present alone =
-    undo_passes setting state number begun visited cause present.low present.phase alone
+phase_passes setting state fits passes number txn begun own (Undoing visited cause) present alone named =
+    undo_passes setting state number begun visited cause present.low present.phase named alone

@@ -1,8 +1,9 @@
 -- Why a statement is refused, and why validation refuses a transaction.
-use Rattle.std.proofs.Common.{◌≡◌, ℕ, suc, List, [], ◌∷◌, Option, None, Some, Bool, true, false, Result, Ok, Err, map, cond, refl, subst, inl, inr}
+use Rattle.std.proofs.Common.{◌≡◌, ℕ, zero, suc, ◌+◌, ◌≤◌, List, [], ◌∷◌, Option, None, Some, Bool, true, false, Result}
+use Rattle.std.proofs.Common.{Ok, Err, map, cond, refl, subst, arith, inl, inr}
 use Rattle.std.specs.Option.{option_map}
 use Rattle.std.specs.Prelude.{◌&&◌, ◌==◌}
-use Rattle.std.specs.List.{AllByRecursion}
+use Rattle.std.specs.List.{AllByRecursion, range_with_len}
 use Rattle.hy_bound.specs.Records.{is_hit}
 use Rattle.std.proofs.lemmas.Option.{same_Some}
 use Rattle.hy_value.specs.declared.Value.{Value}
@@ -59,7 +60,7 @@ verdict_refuses kind pred table pos opponent (Some row) cause e = by_truth (trut
     by_truth true h = judged_refuses kind table pos opponent row (new_cell kind row) cause refl h
     by_truth false h = absurd cc
 
-and_refuses : (P : Cause → Type 0) (table pos : ℕ) (here : Result (Option Cell) Cause) (others : Result (List Write) Cause) (cause : Cause)
+pub and_refuses : (P : Cause → Type 0) (table pos : ℕ) (here : Result (Option Cell) Cause) (others : Result (List Write) Cause) (cause : Cause)
     → ((one : Cause) → here ≡ Err one → P one) → (others ≡ Err cause → P cause) → and_write table pos here others ≡ Err cause → P cause
 and_refuses P table pos (Err one) others cause f g e = let same : one ≡ cause = cc in subst P same (f one refl)
 and_refuses P table pos (Ok cell) (Err one) cause f g e = g e
@@ -71,6 +72,32 @@ pub sweep_refuses : (P : Cause → Type 0) (table : ℕ) (judge : ℕ → Result
 sweep_refuses P table judge [] cause f e = absurd cc
 sweep_refuses P table judge (pos ∷ positions) cause f e =
     and_refuses P table pos (judge pos) (sweep table judge positions) cause (f pos) (sweep_refuses P table judge positions cause f) e
+
+-- the same of a visit of the positions from one on
+pub range_refuses : (P : Cause → Type 0) (table : ℕ) (judge : ℕ → Result (Option Cell) Cause) (first many : ℕ) (cause : Cause)
+    → ((pos : ℕ) (one : Cause) → first ≤ pos → judge pos ≡ Err one → P one) → sweep table judge (range_with_len first many) ≡ Err cause → P cause
+range_refuses P table judge first zero cause f e = absurd cc
+range_refuses P table judge first (suc many) cause f e =
+    and_refuses P table first (judge first) (sweep table judge (range_with_len (first + 1) many)) cause (λ one. f first one (omega arith))
+    (range_refuses P table judge (first + 1) many cause (λ pos one from. f pos one (omega (arith, from)))) e
+
+-- a position is refused whose row is selected: by an opponent, or since a value goes out of range
+pub verdict_fails : (P : Cause → Type 0) (kind : WriteKind) (pred : Condition) (table pos : ℕ) (opponent : Option Label) (cell : Cell) (cause : Cause)
+    → ((row : List Value) (other : Label) → cell ≡ Some row → truth_of pred row ≡ true → opponent ≡ Some other → P (Conflict table pos other))
+    → ((row : List Value) → cell ≡ Some row → truth_of pred row ≡ true → new_cell kind row ≡ None → P (Range table pos))
+    → verdict kind pred table pos opponent cell ≡ Err cause → P cause
+verdict_fails P kind pred table pos opponent None cause f g e = absurd cc
+verdict_fails P kind pred table pos opponent (Some row) cause f g e = by_truth (truth_of pred row) refl e
+  where
+    by_judge : truth_of pred row ≡ true → (other : Option Label) → opponent ≡ other → (new : Option Cell) → new_cell kind row ≡ new
+        → judged table pos other new ≡ Err cause → P cause
+    by_judge t (Some other) o new n h = let same : Conflict table pos other ≡ cause = cc in subst P same (f row other refl t o)
+    by_judge t None o None n h = let same : Range table pos ≡ cause = cc in subst P same (g row refl t n)
+    by_judge t None o (Some new) n h = absurd cc
+
+    by_truth : (b : Bool) → truth_of pred row ≡ b → cond b (judged table pos opponent (new_cell kind row)) (Ok None) ≡ Err cause → P cause
+    by_truth true t h = by_judge t opponent refl (new_cell kind row) refl h
+    by_truth false t h = absurd cc
 
 -- ---- validation
 
@@ -113,3 +140,14 @@ first_hit_is P Q records (entry ∷ entries) cause q f e =
       | inl h ↦ hits_are P Q records entry.label (committed_of entry).changes cause q (f 0 entry.label refl) h
       | inr h ↦ first_hit_is P Q records entries cause q (λ i label. f (suc i) label) h
     ]
+
+any_record : (records : List Record) → AllByRecursion (λ (of : Record). Unit {0}) records
+any_record [] = tt
+any_record (of ∷ records) = (tt, any_record records)
+
+-- what validation refuses is invalid
+pub is_invalid : (P : Cause → Type 0) (records : List Record) (entries : List Entry) (cause : Cause)
+    → ((table pos : ℕ) (label : Label) (statement : ℕ) → P (Invalid table pos label statement)) → first_hit records (map committed_of entries) ≡ Some cause
+    → P cause
+is_invalid P records entries cause f e =
+    first_hit_is P (λ (number : ℕ). Unit {0}) records entries cause (any_record records) (λ i label at table pos statement q. f table pos label statement) e

@@ -23,7 +23,7 @@ use Rattle.hy_machine.specs.declared.Write.{Write}
 use Rattle.hy_machine.specs.declared.Phase.TheVariants.{Working, Stamping}
 use Rattle.hy_machine.specs.declared.Turn.{Turn}
 use Rattle.hy_machine.specs.declared.Turn.TheVariants.{Done, Waits, Begins, Visits, Answers, Enters, Ends}
-use Rattle.hy_machine.specs.Tables.{Tables, history, opening_tables}
+use Rattle.hy_machine.specs.Tables.{Tables, history, opening_tables, over}
 use Rattle.hy_machine.specs.Writes.{blank_own, with_writes}
 use Rattle.hy_machine.specs.Sessions.{session_at, txn_at, blocker, least_with, least_prefix, entry_of}
 use Rattle.hy_machine.specs.Outcomes.{statements_in}
@@ -33,6 +33,7 @@ use Rattle.hy_machine.specs.Runs.{opening_of, after_steps, IsReached}
 use Rattle.hy_replay.specs.Ran.{Ran}
 use Rattle.hy_lawful.specs.Outcomes.{committed_at}
 use Rattle.hy_lawful.specs.Reached.{AllHaveRun, statements_at}
+use Rattle.hy_lawful.specs.Refusing.{WasRefused}
 use Rattle.hy_lawful.proofs.Fits.{Fits}
 use Rattle.hy_lawful.proofs.Moves.{moved_to, sessions_moved}
 use Rattle.hy_lawful.proofs.Reached.{fresh_at, is_there, opening_fits, step_fits}
@@ -52,6 +53,8 @@ record EndedRun (setting : Setting) (order : List Entry) (statements : List Boun
   run : IsRun setting (tables_at setting order finished.begun.prefix) statements finished.begun given
   wrote : IfSome (committed_at finished.ending) (λ (rank : ℕ). given.own ≡ finished.begun.own)
   start : finished.begun.prefix ≤ length order
+  refused : WasRefused (over (tables_at setting order finished.begun.prefix) finished.begun.own)
+      (over (tables_at setting order finished.begun.prefix) given.own) (slice_get statements (length finished.begun.replies)) finished.ending
 
 -- an open transaction has run so far
 record OpenRun (setting : Setting) (order : List Entry) (statements : List Bound) (current : Open) : Type 0 where
@@ -91,6 +94,9 @@ ended_grows setting order more statements finished h = record {
       (sym (tables_kept setting order more finished.begun.prefix h.start)) h.run;
   wrote = h.wrote;
   start = omega (arith, h.start, length-append order more);
+  refused = subst (λ (tables : Tables). WasRefused (over tables finished.begun.own) (over tables h.given.own)
+      (slice_get statements (length finished.begun.replies)) finished.ending)
+      (sym (tables_kept setting order more finished.begun.prefix h.start)) h.refused;
 }
 
 open_grows : (setting : Setting) (order more : List Entry) (statements : List Bound) (current : Open)
@@ -197,14 +203,14 @@ item_of_more (first ∷ xs) last (suc i) x e = elim (item_of_more xs last i x e)
 ]
 
 ends : (setting : Setting) (state : State) (number : ℕ) (current : Open) (o : IsOpen setting state number current) (ending : Ending)
-    → IfSome (committed_at ending) (λ (rank : ℕ). o.run.given.own ≡ current.begun.own)
+    → RunTurn setting (tables_at setting state.order current.begun.prefix) (statements_now setting state number) current.begun o.run.given (Ends ending)
     → AllRun setting (moved_to state state.order None number
     (record { done = (session_at state number).done ++ record { begun = current.begun; ending = ending } ∷ []; now = None }))
-ends setting state number current o ending wrote =
+ends setting state number current o ending h =
     let finished : Finished = record { begun = current.begun; ending = ending } in
     let done : List Finished = (session_at state number).done in
     let ended : EndedRun setting state.order (statements_at setting number (length done)) finished =
-    record { given = o.run.given; run = o.run.run; wrote = wrote; start = o.run.start } in
+    record { given = o.run.given; run = o.run.run; wrote = h.0; start = o.run.start; refused = h.1 } in
     sessions_moved (SessionRun setting state.order) state state.order None number (record { done = done ++ finished ∷ []; now = None }) o.there
     (record {
       done = λ before one e. elim (item_of_more done finished before one e) [
@@ -331,6 +337,13 @@ reached_have_run setting state chunks r number before finished e =
     (reached_run setting state chunks r number).done before finished e in
     record {
       given = ended.given;
-      has_run = record { came_to = ended.run.came_to; replies = ended.run.replies; records = ended.run.records; positions = ended.run.positions };
+      has_run = record {
+        came_to = ended.run.came_to;
+        replies = ended.run.replies;
+        records = ended.run.records;
+        positions = ended.run.positions;
+        took = ended.run.took;
+      };
       wrote = ended.wrote;
+      refused = ended.refused;
     }

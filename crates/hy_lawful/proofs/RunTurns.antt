@@ -1,7 +1,13 @@
 -- What a session's turn makes of what its open transaction has run.
 use Rattle.std.proofs.Common.{◌≡◌, ℕ, suc, ◌<◌, ◌≤◌, List, [], Option, None, Some, Bool, true, false, length, map, drop, cond, ltb, refl, ap, inl, inr}
-use Rattle.std.specs.Prelude.{slice_get}
-use Rattle.std.proofs.lemmas.Bool.{cases_Bool}
+use Rattle.std.specs.Prelude.{slice_get, ◌&&◌, ◌==◌, is_none}
+use Rattle.std.specs.Option.{option_map}
+use Rattle.std.proofs.lemmas.Bool.{cases_Bool, and_from, eq-eqb}
+use Rattle.hy_value.specs.declared.Value.{Value}
+use Rattle.hy_bound.specs.declared.Assign.{Assign}
+use Rattle.hy_bound.specs.Condition.{Condition}
+use Rattle.hy_bound.specs.Predicate.{truth_of}
+use Rattle.hy_bound.specs.Assignment.{assigned}
 use Rattle.hy_stamp.specs.declared.Label.{Label}
 use Rattle.hy_bound.specs.declared.Txn.{Txn}
 use Rattle.hy_bound.specs.declared.Bound.{Bound}
@@ -18,7 +24,8 @@ use Rattle.hy_machine.specs.declared.Phase.{Phase}
 use Rattle.hy_machine.specs.declared.Phase.TheVariants.{Working, Stamping, Undoing}
 use Rattle.hy_machine.specs.declared.Turn.{Turn}
 use Rattle.hy_machine.specs.declared.Turn.TheVariants.{Ends}
-use Rattle.hy_machine.specs.Tables.{Tables, Own}
+use Rattle.hy_machine.specs.declared.Entry.{Entry}
+use Rattle.hy_machine.specs.Tables.{Cell, Tables, Own, over}
 use Rattle.hy_machine.specs.Writes.{wrote_nothing, written_chunks}
 use Rattle.hy_machine.specs.Sessions.{session_at, snapshot, view, blocker}
 use Rattle.hy_machine.specs.Validation.{committed_of, first_hit}
@@ -26,7 +33,9 @@ use Rattle.hy_machine.specs.Visits.{swept}
 use Rattle.hy_machine.specs.Turns.{rows_seen, statement_turn, ending_of, unless_blocked}
 use Rattle.hy_machine.specs.Turns.{undo_turn, stamp_turn, validated_turn, commit_turn, closing_turn, working_turn, phase_turn}
 use Rattle.hy_replay.specs.Ran.{Ran, one}
-use Rattle.hy_lawful.proofs.RunVisits.{At, Stands, RunTurn, IsNext, read_run, write_run}
+use Rattle.hy_lawful.specs.Refusing.{WasRefused}
+use Rattle.hy_lawful.proofs.Refusals.{is_invalid}
+use Rattle.hy_lawful.proofs.RunVisits.{At, Stands, RunTurn, IsNext, Writes, read_run, write_run}
 use Rattle.hy_lawful.proofs.RunInserts.{insert_run}
 
 -- ---- statements
@@ -36,6 +45,26 @@ record Works (setting : Setting) (state : State) (number : ℕ) (begun : Begun) 
   chunks : 0 < setting.chunks
   is : (session_at state number).now ≡ Some (record { begun = begun; phase = Working visited count })
   low : begun.low ≤ begun.prefix
+
+abbrev made : Option (List Value) → Option Cell
+made given = option_map Some given
+
+none_assigned : (given : Option (List Value)) → made given ≡ None → is_none given ≡ true
+none_assigned None e = refl
+none_assigned (Some row) e = absurd cc
+
+update_writes : (table : ℕ) (sets : List Assign) (pred : Condition) → Writes (Update table sets pred) (kind.Set sets) pred table
+update_writes table sets pred = record {
+  selects = λ row t. and_from (table == table) (truth_of pred row) (eq-eqb table table refl) t;
+  goes_out = λ row t n. and_from (table == table && truth_of pred row) (is_none (assigned sets row))
+      (and_from (table == table) (truth_of pred row) (eq-eqb table table refl) t) (none_assigned (assigned sets row) n);
+}
+
+delete_writes : (table : ℕ) (pred : Condition) → Writes (Delete table pred) kind.Delete pred table
+delete_writes table pred = record {
+  selects = λ row t. and_from (table == table) (truth_of pred row) (eq-eqb table table refl) t;
+  goes_out = λ row t n. absurd cc;
+}
 
 statement_run : (setting : Setting) (state : State) (statements : List Bound) (number : ℕ) (begun : Begun) (given : Ran) (visited count : ℕ)
     (statement : Bound) → Works setting state number begun visited count → IsNext statements begun statement
@@ -52,10 +81,12 @@ statement_run setting state statements number begun given visited count (Group t
 statement_run setting state statements number begun given visited count (Insert table row) w n at =
     insert_run setting state statements number begun given visited count table row w.chunks w.is w.low n at
 statement_run setting state statements number begun given visited count (Update table sets pred) w n at =
-    write_run setting state statements number begun given visited count (Update table sets pred) (kind.Set sets) pred table n (λ later v c s. s) refl at
+    write_run setting state statements number begun given visited count (Update table sets pred) (kind.Set sets) pred table n
+    (update_writes table sets pred) (λ later v c s. s) refl at
     (swept setting state number begun (kind.Set sets) pred table visited) refl
 statement_run setting state statements number begun given visited count (Delete table pred) w n at =
-    write_run setting state statements number begun given visited count (Delete table pred) kind.Delete pred table n (λ later v c s. s) refl at
+    write_run setting state statements number begun given visited count (Delete table pred) kind.Delete pred table n
+    (delete_writes table pred) (λ later v c s. s) refl at
     (swept setting state number begun kind.Delete pred table visited) refl
 
 -- ---- what closes a transaction
@@ -67,32 +98,37 @@ unless_run setting tables statements begun given turn (Some by) h = tt
 
 -- what is undone has not committed
 undone_run : (setting : Setting) (tables : Tables) (statements : List Bound) (begun : Begun) (given : Ran) (cause : Cause)
+    → WasRefused (over tables begun.own) (over tables given.own) (slice_get statements (length begun.replies)) (ending_of cause)
     → RunTurn setting tables statements begun given (Ends (ending_of cause))
-undone_run setting tables statements begun given RolledBack = tt
-undone_run setting tables statements begun given (Conflict table pos other) = tt
-undone_run setting tables statements begun given (Invalid table pos other statement) = tt
-undone_run setting tables statements begun given (Range table pos) = tt
-undone_run setting tables statements begun given (Full table) = tt
+undone_run setting tables statements begun given RolledBack h = (tt, h)
+undone_run setting tables statements begun given (Conflict table pos other) h = (tt, h)
+undone_run setting tables statements begun given (Invalid table pos other statement) h = (tt, h)
+undone_run setting tables statements begun given (Range table pos) h = (tt, h)
+undone_run setting tables statements begun given (Full table) h = (tt, h)
 
 undo_run : (setting : Setting) (state : State) (statements : List Bound) (number : ℕ) (begun : Begun) (given : Ran) (visited : ℕ) (cause : Cause)
+    → Stands setting (snapshot setting state begun.prefix) statements begun given (Undoing visited cause)
     → RunTurn setting (snapshot setting state begun.prefix) statements begun given (undo_turn setting state number begun visited cause)
-undo_run setting state statements number begun given visited cause = elim (cases_Bool (ltb visited (length (written_chunks setting begun.own)))) [
-  | inl t ↦ rw t tt
+undo_run setting state statements number begun given visited cause h = elim (cases_Bool (ltb visited (length (written_chunks setting begun.own)))) [
+  | inl t ↦ rw t h
   | inr f ↦ rw f (unless_run setting (snapshot setting state begun.prefix) statements begun given (Ends (ending_of cause)) (blocker state number)
-      (undone_run setting (snapshot setting state begun.prefix) statements begun given cause))
+      (undone_run setting (snapshot setting state begun.prefix) statements begun given cause h))
 ]
 
 stamp_run : (setting : Setting) (state : State) (statements : List Bound) (begun : Begun) (given : Ran) (visited : ℕ) → given.own ≡ begun.own
     → RunTurn setting (snapshot setting state begun.prefix) statements begun given (stamp_turn setting state begun visited)
 stamp_run setting state statements begun given visited same = elim (cases_Bool (ltb visited (length (written_chunks setting begun.own)))) [
   | inl t ↦ rw t same
-  | inr f ↦ rw f same
+  | inr f ↦ rw f (same, tt)
 ]
 
 validated_run : (setting : Setting) (tables : Tables) (statements : List Bound) (begun : Begun) (given : Ran) → given.own ≡ begun.own
-    → (hit : Option Cause) → RunTurn setting tables statements begun given (validated_turn hit)
-validated_run setting tables statements begun given same None = same
-validated_run setting tables statements begun given same (Some cause) = tt
+    → (entries : List Entry) (hit : Option Cause) → first_hit begun.records (map committed_of entries) ≡ hit
+    → RunTurn setting tables statements begun given (validated_turn hit)
+validated_run setting tables statements begun given same entries None e = same
+validated_run setting tables statements begun given same entries (Some cause) e =
+    is_invalid (λ (one : Cause). WasRefused (over tables begun.own) (over tables given.own) (slice_get statements (length begun.replies)) (ending_of one))
+    begun.records entries cause (λ table pos label statement. tt) e
 
 commit_run : (setting : Setting) (state : State) (statements : List Bound) (number : ℕ) (begun : Begun) (given : Ran) → given.own ≡ begun.own
     → RunTurn setting (snapshot setting state begun.prefix) statements begun given (commit_turn setting state number begun)
@@ -101,15 +137,15 @@ commit_run setting state statements number begun given same =
     (cond (wrote_nothing begun.own) (Ends ways.Read) (validated_turn (first_hit begun.records (map committed_of (drop begun.prefix state.order)))))
     (blocker state number)
     (elim (cases_Bool (wrote_nothing begun.own)) [
-      | inl t ↦ rw t tt
-      | inr f ↦ rw f (validated_run setting (snapshot setting state begun.prefix) statements begun given same
-          (first_hit begun.records (map committed_of (drop begun.prefix state.order))))
+      | inl t ↦ rw t (tt, tt)
+      | inr f ↦ rw f (validated_run setting (snapshot setting state begun.prefix) statements begun given same (drop begun.prefix state.order)
+          (first_hit begun.records (map committed_of (drop begun.prefix state.order))) refl)
     ])
 
 closing_run : (setting : Setting) (state : State) (statements : List Bound) (number : ℕ) (begun : Begun) (given : Ran) → given.own ≡ begun.own
     → (commits : Bool) → RunTurn setting (snapshot setting state begun.prefix) statements begun given (closing_turn setting state number begun commits)
 closing_run setting state statements number begun given same true = commit_run setting state statements number begun given same
-closing_run setting state statements number begun given same false = undo_run setting state statements number begun given 0 RolledBack
+closing_run setting state statements number begun given same false = undo_run setting state statements number begun given 0 RolledBack tt
 
 working_run : (setting : Setting) (state : State) (number : ℕ) (txn : Txn) (begun : Begun) (given : Ran) (visited count : ℕ)
     → Works setting state number begun visited count
@@ -133,4 +169,4 @@ phase_run setting state number txn begun given chunks low (Working visited count
     (slice_get txn.statements (length begun.replies)) refl h
 phase_run setting state number txn begun given chunks low (Stamping visited) is h = stamp_run setting state txn.statements begun given visited h
 phase_run setting state number txn begun given chunks low (Undoing visited cause) is h =
-    undo_run setting state txn.statements number begun given visited cause
+    undo_run setting state txn.statements number begun given visited cause h

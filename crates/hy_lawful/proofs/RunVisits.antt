@@ -1,6 +1,6 @@
 -- Where an open transaction stands between its answers, and what a visit of a SELECT, a GROUP BY, an UPDATE or a DELETE makes
 -- of it.
-use Rattle.std.proofs.Common.{◌≡◌, ℕ, suc, ◌+◌, ◌*◌, ◌<◌, List, [], ◌++◌, Option, None, Some, Result, Ok, Err, false, length}
+use Rattle.std.proofs.Common.{◌≡◌, ℕ, suc, ◌+◌, ◌*◌, ◌<◌, ◌≤◌, List, [], ◌++◌, Option, None, Some, Result, Ok, Err, true, false, length}
 use Rattle.std.proofs.Common.{ltb, refl, ap, sym, ◌∙◌, subst, arith, inl, inr}
 use Rattle.std.specs.Prelude.{slice_get, IfSome}
 use Rattle.std.specs.List.{range_with_len}
@@ -29,10 +29,13 @@ use Rattle.hy_machine.specs.Tables.{Cell, Tables, Own, capacity, positions_in, o
 use Rattle.hy_machine.specs.Writes.{with_writes}
 use Rattle.hy_machine.specs.Sessions.{snapshot}
 use Rattle.hy_machine.specs.Holding.{opponent}
-use Rattle.hy_machine.specs.Visits.{has_key_in, verdict, verdict_at, sweep, swept, checks_of}
-use Rattle.hy_machine.specs.Turns.{told_by, read_turn, write_turn}
+use Rattle.hy_machine.specs.Visits.{has_key_in, new_cell, verdict, verdict_at, sweep, swept, checks_of}
+use Rattle.hy_machine.specs.Turns.{ending_of, told_by, read_turn, write_turn}
 use Rattle.hy_replay.specs.Ran.{Ran, writes_at, changed_by, one}
+use Rattle.hy_bound.specs.Predicate.{truth_of}
 use Rattle.hy_lawful.specs.Outcomes.{committed_at}
+use Rattle.hy_lawful.specs.Refusing.{selects, goes_out, goes_out_at, WasRefused}
+use Rattle.hy_lawful.proofs.Refusals.{range_refuses, verdict_fails}
 use Rattle.hy_lawful.proofs.RunSweeps.{alike_over, writes_apart, writes_joined, range_joined, sweep_joined, sweep_same, sweep_below, verdict_alone}
 use Rattle.hy_lawful.proofs.RunAnswers.{AnswersNext}
 
@@ -69,7 +72,8 @@ abbrev pub Stands : Setting → Tables → List Bound → Begun → Ran → Phas
 Stands setting tables statements begun given (Working visited count) =
     At setting tables begun given visited count (slice_get statements (length begun.replies))
 Stands setting tables statements begun given (Stamping visited) = given.own ≡ begun.own
-Stands setting tables statements begun given (Undoing visited cause) = Unit {0}
+Stands setting tables statements begun given (Undoing visited cause) =
+    WasRefused (over tables begun.own) (over tables given.own) (slice_get statements (length begun.replies)) (ending_of cause)
 
 -- what a turn of an open transaction does
 abbrev pub RunTurn : Setting → Tables → List Bound → Begun → Ran → Turn → Type 0
@@ -81,7 +85,9 @@ RunTurn setting tables statements begun given (Visits writes phase) =
 RunTurn setting tables statements begun given (Answers writes reply took records) =
     AnswersNext setting tables statements begun given writes reply took records
 RunTurn setting tables statements begun given Enters = given.own ≡ begun.own
-RunTurn setting tables statements begun given (Ends ending) = IfSome (committed_at ending) (λ (rank : ℕ). given.own ≡ begun.own)
+RunTurn setting tables statements begun given (Ends ending) =
+    IfSome (committed_at ending) (λ (rank : ℕ). given.own ≡ begun.own)
+    × WasRefused (over tables begun.own) (over tables given.own) (slice_get statements (length begun.replies)) ending
 
 -- ---- a statement is begun
 
@@ -160,8 +166,43 @@ swept_more setting state number begun given visited count kind pred table writes
     ∙ verdict_alone kind pred table pos (opponent setting state number begun.prefix table pos) (item_at (over tables begun.own) table pos) cell h)
     writes e)
 
+-- what a statement of this kind makes of the rows that it selects
+pub record Writes (statement : Bound) (kind : WriteKind) (pred : Condition) (table : ℕ) : Type 0 where
+  pub selects : (row : List Value) → truth_of pred row ≡ true → selects table (Some statement) (Some row) ≡ true
+  pub goes_out : (row : List Value) → truth_of pred row ≡ true → new_cell kind row ≡ None → goes_out table (Some statement) row ≡ true
+
+-- what stands behind the visited chunks is what the answered statements left
+left_behind : (setting : Setting) (tables : Tables) (begun : Begun) (given : Ran) (visited count : ℕ) (kind : WriteKind) (pred : Condition) (table pos : ℕ)
+    → HasSwept setting tables begun given visited count kind pred table → visited * setting.rows ≤ pos
+    → item_at (over tables given.own) table pos ≡ item_at (over tables begun.own) table pos
+left_behind setting tables begun given visited count kind pred table pos s from =
+    let judge : ℕ → Result (Option Cell) Cause = λ pos. verdict kind pred table pos None (item_at (over tables given.own) table pos) in
+    alike_over tables given.own begun.own table pos
+    (sym (writes_apart given.own s.writes table pos (sweep_below table judge 0 (visited * setting.rows) pos s.writes (omega (arith, from)) s.swept))
+    ∙ ap (λ (own : Own). item_at own table pos) s.own)
+
+refused_run : (setting : Setting) (state : State) (number : ℕ) (begun : Begun) (given : Ran) (visited count : ℕ) (statement : Bound)
+    (kind : WriteKind) (pred : Condition) (table : ℕ) → Writes statement kind pred table
+    → HasSwept setting (snapshot setting state begun.prefix) begun given visited count kind pred table
+    → (cause : Cause) → swept setting state number begun kind pred table visited ≡ Err cause
+    → WasRefused (over (snapshot setting state begun.prefix) begun.own) (over (snapshot setting state begun.prefix) given.own) (Some statement)
+    (ending_of cause)
+refused_run setting state number begun given visited count statement kind pred table w s cause e =
+    let tables : Tables = snapshot setting state begun.prefix in
+    let P : Cause → Type 0 = λ one. WasRefused (over tables begun.own) (over tables given.own) (Some statement) (ending_of one) in
+    range_refuses P table (verdict_at setting state number begun kind pred table) (visited * setting.rows) setting.rows cause
+    (λ pos one from v.
+    verdict_fails P kind pred table pos (opponent setting state number begun.prefix table pos) (item_at (over tables begun.own) table pos) one
+    (λ row other here t o. ap (selects table (Some statement)) here ∙ w.selects row t)
+    (λ row here t n.
+    let same : item_at (over tables given.own) table pos ≡ item_at (over tables begun.own) table pos =
+    left_behind setting tables begun given visited count kind pred table pos s from in
+    (ap (goes_out_at table (Some statement)) (same ∙ here) ∙ w.goes_out row t n, same))
+    v)
+    e
+
 pub write_run : (setting : Setting) (state : State) (statements : List Bound) (number : ℕ) (begun : Begun) (given : Ran) (visited count : ℕ) (statement : Bound)
-    (kind : WriteKind) (pred : Condition) (table : ℕ) → IsNext statements begun statement
+    (kind : WriteKind) (pred : Condition) (table : ℕ) → IsNext statements begun statement → Writes statement kind pred table
     → ((later : Begun) (v c : ℕ) → HasSwept setting (snapshot setting state begun.prefix) later given v c kind pred table
     → At setting (snapshot setting state begun.prefix) later given v c (Some statement))
     → one setting (snapshot setting state begun.prefix) given.own (suc (length begun.replies)) statement None
@@ -170,8 +211,11 @@ pub write_run : (setting : Setting) (state : State) (statements : List Bound) (n
     → HasSwept setting (snapshot setting state begun.prefix) begun given visited count kind pred table
     → (writes : Result (List Write) Cause) → swept setting state number begun kind pred table visited ≡ writes
     → RunTurn setting (snapshot setting state begun.prefix) statements begun given (write_turn setting begun visited count statement kind writes)
-write_run setting state statements number begun given visited count statement kind pred table n at gives s (Err cause) e = tt
-write_run setting state statements number begun given visited count statement kind pred table n at gives s (Ok writes) e =
+write_run setting state statements number begun given visited count statement kind pred table n w at gives s (Err cause) e =
+    subst (λ (next : Option Bound). WasRefused (over (snapshot setting state begun.prefix) begun.own)
+    (over (snapshot setting state begun.prefix) given.own) next (ending_of cause)) (sym n.here)
+    (refused_run setting state number begun given visited count statement kind pred table w s cause e)
+write_run setting state statements number begun given visited count statement kind pred table n w at gives s (Ok writes) e =
     let tables : Tables = snapshot setting state begun.prefix in
     let more : writes_at kind pred (over tables given.own) table (range_with_len 0 (suc visited * setting.rows)) ≡ Ok (s.writes ++ writes) =
     swept_more setting state number begun given visited count kind pred table writes s e in

@@ -1,6 +1,6 @@
 -- Transactions that stand in an order, each over the tables of its start: over the tables before its own place it comes to
 -- the same, so that the tables are those of the transactions alone, one after another.
-use Rattle.std.proofs.Common.{◌≡◌, ℕ, zero, suc, ◌+◌, ◌-◌, ◌<◌, ◌≤◌, List, [], ◌∷◌, Option, Some, length, get_or, take, refl, ap, sym, ◌∙◌}
+use Rattle.std.proofs.Common.{◌≡◌, ℕ, zero, suc, ◌+◌, ◌-◌, ◌<◌, ◌≤◌, List, [], Option, Some, length, get_or, take, refl, ap, sym, ◌∙◌}
 use Rattle.std.proofs.Common.{subst, arith, inl, inr}
 use Rattle.std.specs.List.{All, AllByRecursion}
 use Rattle.std.proofs.Math.Seq.{take-suc}

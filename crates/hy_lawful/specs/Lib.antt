@@ -3,6 +3,11 @@ pub mod Outcomes
 pub mod Positions
 pub mod Endings
 pub mod Lawful
+pub mod Cells
+pub mod Databases
+pub mod Passing
+pub mod Refusing
+pub mod Placing
 pub mod Serial
 pub mod Reached
 pub mod Laws

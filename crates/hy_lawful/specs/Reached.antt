@@ -15,6 +15,7 @@ use Rattle.hy_replay.specs.Ran.{Ran, ran}
 use Rattle.hy_replay.specs.Laws.{DifferUnseen}
 use Rattle.hy_replay.specs.BagLaws.{IsPosition}
 use Rattle.hy_lawful.specs.Outcomes.{committed_at}
+use Rattle.hy_lawful.specs.Refusing.{WasRefused}
 
 -- the answered statements of a transaction, over the tables of its start, come to this: its replies and its records
 pub record HasRun (setting : Setting) (state : State) (statements : List Bound) (begun : Begun) (given : Ran) : Type 0 where
@@ -22,16 +23,21 @@ pub record HasRun (setting : Setting) (state : State) (statements : List Bound) 
   pub replies : given.replies ≡ begun.replies
   pub records : given.records ≡ begun.records
   pub positions : AllByRecursion (IsPosition setting) begun.took
+  pub took : length begun.took ≡ length begun.replies
 
 -- the statements of a session's transaction with so many before it
 abbrev pub statements_at : Setting → ℕ → ℕ → List Bound
 statements_at setting number before = statements_in (slice_get (program_of setting number) before)
 
--- an ended transaction has run; where it has committed, what it wrote is what its statements come to
+-- an ended transaction has run; where it has committed, what it wrote is what its statements come to, and where a
+-- statement was refused, it was so over what the transaction saw
 pub record EndedHasRun (setting : Setting) (state : State) (number before : ℕ) (finished : Finished) : Type 0 where
   pub given : Ran
   pub has_run : HasRun setting state (statements_at setting number before) finished.begun given
   pub wrote : IfSome (committed_at finished.ending) (λ (rank : ℕ). given.own ≡ finished.begun.own)
+  pub refused : WasRefused (over (snapshot setting state finished.begun.prefix) finished.begun.own)
+      (over (snapshot setting state finished.begun.prefix) given.own)
+      (slice_get (statements_at setting number before) (length finished.begun.replies)) finished.ending
 
 -- all ended transactions have run
 abbrev pub AllHaveRun : Setting → State → Type 0

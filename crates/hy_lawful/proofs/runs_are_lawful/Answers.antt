@@ -10,3 +10,4 @@ returns-clause-lawful c = λ setting schedule. lawful setting (run_of setting sc
 pub returns-clause-serial : goal.returns-clause-serial
 returns-clause-serial c = serial_runs c.runs_are_steps.ensures.steps c.runs_are_steps.ensures.ends c.transactions_have_run.ensures
     c.the_committed_passed_unseen.ensures c.what_is_unseen_leaves_a_run.ensures c.a_run_keeps_widths.ensures c.a_run_over_cells_is_alone.ensures.alone
+    c.a_run_over_cells_is_alone.ensures.records

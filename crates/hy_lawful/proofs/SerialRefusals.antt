@@ -1,0 +1,141 @@
+-- What was refused was so for a cause.
+use Rattle.std.proofs.Common.{◌≡◌, ℕ, suc, List, Option, None, Some, length, map, take, drop, refl, ap, sym, ◌∙◌, subst, arith}
+use Rattle.std.specs.Prelude.{IsTrue, slice_get, ◌||◌}
+use Rattle.std.specs.List.{list_any}
+use Rattle.std.specs.Option.{IsSomeAnd}
+use Rattle.std.proofs.lemmas.List.{drop-map}
+use Rattle.hy_bound.specs.declared.Bound.{Bound}
+use Rattle.hy_bound.specs.declared.Record.{Record}
+use Rattle.hy_meaning.specs.Statement.{Database, rows_in}
+use Rattle.hy_meaning.specs.Serial.{Alone, alone_of}
+use Rattle.hy_stamp.specs.declared.Label.{Label}
+use Rattle.hy_render.specs.declared.Ending.{Ending}
+use Rattle.hy_render.specs.declared.Ending.TheVariants.{Committed, Read, RolledBack, Conflict, Invalid, Range, Full}
+use Rattle.hy_render.specs.declared.TxnOutcome.{TxnOutcome}
+use Rattle.hy_machine.specs.declared.Setting.{Setting}
+use Rattle.hy_machine.specs.declared.State.{State}
+use Rattle.hy_machine.specs.declared.Session.{Session}
+use Rattle.hy_machine.specs.declared.Finished.{Finished}
+use Rattle.hy_machine.specs.Positions.{item_at}
+use Rattle.hy_machine.specs.Tables.{Cell, Tables, over}
+use Rattle.hy_machine.specs.Sessions.{session_at, snapshot}
+use Rattle.hy_machine.specs.declared.Cause.TheVariants as cause
+use Rattle.hy_machine.specs.Writes.{written}
+use Rattle.hy_machine.specs.Validation.{committed_of, first_hit}
+use Rattle.hy_machine.specs.Outcomes.{txn_outcome_of, outcome_of}
+use Rattle.hy_replay.specs.Laws.{bags_of}
+use Rattle.hy_replay.specs.BagLaws.{alone_as}
+use Rattle.hy_lawful.specs.Scripts.{statements_of}
+use Rattle.hy_lawful.specs.Outcomes.{outcome_at, refused_statement}
+use Rattle.hy_lawful.specs.Reached.{EndedHasRun, statements_at}
+use Rattle.hy_lawful.specs.Databases.{database_at}
+use Rattle.hy_lawful.specs.Refusing.{IsRefusedBy, WasRefused, selects, goes_out, goes_out_at}
+use Rattle.hy_lawful.specs.Passing.{has_place}
+use Rattle.hy_lawful.proofs.Fits.{Ends, IsInvalid, OpenFits, NowFits}
+use Rattle.hy_lawful.proofs.Laws.{done_fits}
+use Rattle.hy_lawful.proofs.Outcomes.{outcome_found}
+use Rattle.hy_lawful.proofs.SerialScripts.{statements_behind}
+use Rattle.hy_lawful.proofs.PrintedTables.{printed_is}
+use Rattle.hy_lawful.proofs.PassTables.{tables_are}
+use Rattle.hy_lawful.proofs.PassStates.{IsRefusal}
+use Rattle.hy_lawful.proofs.Lists.{one_of}
+use Rattle.hy_lawful.proofs.PrintedPlaces.{place_missing, place_found}
+use Rattle.hy_lawful.proofs.PassWritten.{HasWritten, by_ended, by_open, Names}
+use Rattle.hy_lawful.proofs.SerialRanges.{out_in_bags, written_or_out}
+use Rattle.hy_lawful.proofs.RunSweeps.{kept_item}
+use Rattle.hy_lawful.proofs.SerialEnd.{answered_all}
+use Rattle.hy_lawful.proofs.SerialEnd.{bags_at, order_of, end_passes, logs_alone, AtEnd, Laws}
+
+-- the refused statement, by its label
+refused_over : (setting : Setting) (state : State) (end : AtEnd setting state) → (number before : ℕ) (finished : Finished)
+    → (at : slice_get (session_at state number).done before ≡ Some finished)
+    → WasRefused (over (snapshot setting state finished.begun.prefix) finished.begun.own)
+    (over (snapshot setting state finished.begun.prefix) (end.ran number before finished at).given.own)
+    (refused_statement setting.programs (txn_outcome_of setting number before finished)) finished.ending
+refused_over setting state end number before finished at =
+    let has : EndedHasRun setting state number before finished = end.ran number before finished at in
+    subst (λ (statements : List Bound). WasRefused (over (snapshot setting state finished.begun.prefix) finished.begun.own)
+    (over (snapshot setting state finished.begun.prefix) has.given.own) (slice_get statements (length finished.begun.replies)) finished.ending)
+    (sym (statements_behind setting (record { session = number; txn = suc before }) before refl)) has.refused
+
+-- the answered statements give alone what they came to
+answered_alone : Laws → (setting : Setting) (state : State) → (end : AtEnd setting state) → (number before : ℕ) (finished : Finished)
+    → (at : slice_get (session_at state number).done before ≡ Some finished)
+    → alone_of setting.shapes
+    (take (length finished.begun.replies) (statements_of setting.programs (record { session = number; txn = suc before })))
+    (database_at setting (map committed_of state.order) finished.begun.prefix)
+    ≡ alone_as (snapshot setting state finished.begun.prefix) (end.ran number before finished at).given
+answered_alone laws setting state end number before finished at =
+    let has : EndedHasRun setting state number before finished = end.ran number before finished at in
+    let start : ℕ = finished.begun.prefix in
+    let many : ℕ = length finished.begun.replies in
+    ap (λ (db : Database). alone_of setting.shapes (take many (statements_of setting.programs (record { session = number; txn = suc before }))) db)
+    (sym (bags_at laws setting state end start (done_fits setting state end.over.fits number before finished at).start))
+    ∙ (ap (λ (statements : List Bound). alone_of setting.shapes (take many statements) (bags_of (snapshot setting state start)))
+    (statements_behind setting (record { session = number; txn = suc before }) before refl)
+    ∙ laws.alone setting (snapshot setting state start) (take many (statements_at setting number before)) finished.begun.took has.given
+    (tables_are setting state.order start) has.has_run.positions has.has_run.came_to)
+
+-- at the end what has been written is an ended transaction's
+rival_wrote : (setting : Setting) (state : State) → AtEnd setting state → (other : Label) (table pos : ℕ) → HasWritten state other table pos
+    → IsSomeAnd (outcome_at (outcome_of setting state) other) (λ (rival : TxnOutcome). IsTrue (has_place rival.wrote table pos))
+rival_wrote setting state end other table pos (by_ended before finished is at own) =
+    subst (λ (o : Option TxnOutcome). IsSomeAnd o (λ (rival : TxnOutcome). IsTrue (has_place rival.wrote table pos)))
+    (sym (outcome_found setting state other before finished is at)) (place_found finished.begun.own table pos own)
+rival_wrote setting state end other table pos (by_open current is now own) =
+    let session : Session = session_at state other.session in
+    let present : OpenFits setting state.order state.mark other.session session.done current =
+    subst (NowFits setting state.order state.mark other.session session.done) now (end.over.fits.sessions other.session).now in
+    absurd (omega (arith, present.there, end.over.all other.session))
+
+end_names : (setting : Setting) (state : State) → AtEnd setting state → (number before : ℕ) (finished : Finished)
+    → slice_get (session_at state number).done before ≡ Some finished → Names state finished.ending
+end_names setting state end number before finished at =
+    one_of (λ (one : Finished). Names state one.ending) (session_at state number).done (end.passes.names number).done before finished at
+
+-- one that was refused was so for a cause
+pub refused_by : Laws → (setting : Setting) (state : State) → AtEnd setting state → (number before : ℕ) (finished : Finished)
+    → slice_get (session_at state number).done before ≡ Some finished → (ending : Ending) → finished.ending ≡ ending
+    → IsRefusedBy setting (outcome_of setting state) (txn_outcome_of setting number before finished) ending
+refused_by laws setting state end number before finished at (Committed rank) e = tt
+refused_by laws setting state end number before finished at Read e = tt
+refused_by laws setting state end number before finished at RolledBack e = tt
+refused_by laws setting state end number before finished at (Conflict table pos other) e =
+    let has : EndedHasRun setting state number before finished = end.ran number before finished at in
+    let free : item_at finished.begun.own table pos ≡ None =
+    subst (IsRefusal state.order finished.begun) e (end_passes setting state end number before finished at).1 in
+    record {
+      selects = ap (selects table (refused_statement setting.programs (txn_outcome_of setting number before finished)))
+          (printed_is setting state.order (order_of setting state end) finished.begun.prefix table pos
+          ∙ sym (kept_item (λ (own : Cell). own) (snapshot setting state finished.begun.prefix) finished.begun.own table pos free))
+          ∙ subst (WasRefused (over (snapshot setting state finished.begun.prefix) finished.begun.own)
+          (over (snapshot setting state finished.begun.prefix) has.given.own)
+          (refused_statement setting.programs (txn_outcome_of setting number before finished))) e
+          (refused_over setting state end number before finished at);
+      not_own = place_missing finished.begun.own table pos free;
+      wrote = rival_wrote setting state end other table pos (subst (Names state) e (end_names setting state end number before finished at));
+    }
+refused_by laws setting state end number before finished at (Invalid table pos other statement) e =
+    let invalid : IsInvalid setting state.order (txn_outcome_of setting number before finished) other statement =
+    subst (Ends setting state.order (txn_outcome_of setting number before finished)) e
+    (done_fits setting state end.over.fits number before finished at).ends in
+    let hit : first_hit finished.begun.records (map committed_of (drop finished.begun.prefix state.order)) ≡ Some (cause.Invalid table pos other statement) =
+    subst (IsRefusal state.order finished.begun) e (end_passes setting state end number before finished at).1 in
+    ap (λ (records : List Record). first_hit records (drop finished.begun.prefix (map committed_of state.order)))
+    (sym (logs_alone laws setting state end number before finished at (answered_all setting number before finished invalid.answers)))
+    ∙ (ap (first_hit finished.begun.records) (drop-map committed_of finished.begun.prefix state.order) ∙ hit)
+refused_by laws setting state end number before finished at (Range table pos) e =
+    let has : EndedHasRun setting state number before finished = end.ran number before finished at in
+    let tables : Tables = snapshot setting state finished.begun.prefix in
+    let statement : Option Bound = refused_statement setting.programs (txn_outcome_of setting number before finished) in
+    let refused : WasRefused (over tables finished.begun.own) (over tables has.given.own) statement (Range table pos) =
+    subst (WasRefused (over tables finished.begun.own) (over tables has.given.own) statement) e (refused_over setting state end number before finished at) in
+    record {
+      some = ap (λ (one : Alone). list_any (goes_out table statement) (rows_in one.database table))
+          (answered_alone laws setting state end number before finished at)
+          ∙ out_in_bags table statement (over tables has.given.own) pos refused.0;
+      here = ap (λ (cell : Cell). has_place (written finished.begun.own) table pos || goes_out_at table statement cell)
+          (printed_is setting state.order (order_of setting state end) finished.begun.prefix table pos)
+          ∙ written_or_out table pos statement tables finished.begun.own (ap (goes_out_at table statement) (sym refused.1) ∙ refused.0);
+    }
+refused_by laws setting state end number before finished at (Full table) e = tt

@@ -17,7 +17,8 @@ use Rattle.hy_machine.specs.declared.Setting.{Setting}
 use Rattle.hy_lawful.specs.Scripts.{Programs, statements_of}
 use Rattle.hy_lawful.specs.Endings.{updates, changes_rows, inserts, MayEnd}
 use Rattle.hy_lawful.specs.Lawful.{Lawful}
-use Rattle.hy_lawful.specs.Serial.{IsSerial, RepliesAreOfStart, database_at, alone_at}
+use Rattle.hy_lawful.specs.Databases.{database_at, alone_at}
+use Rattle.hy_lawful.specs.Serial.{IsSerial, RepliesAreOfStart}
 use Rattle.hy_bank.specs.Bank.{IsOfBank, RunInTurn, all_money}
 use Rattle.hy_bank.specs.Outcomes.{made_setting, IsToldTheMoney, MadeAuditsTellTheMoney}
 use Rattle.hy_bank.proofs.Audits.{audits_tell}

@@ -23,7 +23,8 @@ use Rattle.hy_lawful.specs.Scripts.{Programs, numbered, txn_of, statements_in, s
 use Rattle.hy_lawful.specs.Outcomes.{EachFrom, is_label, outcome_at, committed_at}
 use Rattle.hy_lawful.specs.Endings.{MayEnd}
 use Rattle.hy_lawful.specs.Lawful.{Lawful}
-use Rattle.hy_lawful.specs.Serial.{IsSerial, ReplaysAt, database_at}
+use Rattle.hy_lawful.specs.Databases.{database_at}
+use Rattle.hy_lawful.specs.Serial.{IsSerial, ReplaysAt}
 use Rattle.hy_bank.specs.Bank.{IsOfBank, RunInTurn}
 use Rattle.hy_bank.specs.Outcomes.{made_setting, MadeOutcomesKeepTheMoney}
 use Rattle.hy_bank.proofs.Members.{made_of_bank}

@@ -36,3 +36,5 @@ pub mod RunVisits
 pub mod RunInserts
 pub mod RunTurns
 pub mod RunStates
+pub mod WroteSweeps
+pub mod WroteStates

@@ -5,6 +5,7 @@ pub mod Endings
 pub mod Lawful
 pub mod Cells
 pub mod Passing
+pub mod Written
 pub mod Serial
 pub mod Reached
 pub mod Laws

@@ -38,3 +38,5 @@ pub mod RunTurns
 pub mod RunStates
 pub mod WroteSweeps
 pub mod WroteStates
+pub mod WroteInserts
+pub mod WroteFollows

@@ -36,15 +36,15 @@ ran_one setting tables own number statement at given first e o =
     ∙ ap (λ (before : Ran). Some (with_answer before first)) same)
 
 -- what a statement and those behind it came to
-record Went (setting : Setting) (tables : Tables) (own : Own) (number : ℕ) (statement : Bound) (statements : List Bound) (at : Option ℕ)
+pub record Went (setting : Setting) (tables : Tables) (own : Own) (number : ℕ) (statement : Bound) (statements : List Bound) (at : Option ℕ)
     (took : List (Option ℕ)) (given : Ran) : Type 0 where
-  first : One
-  rest : Ran
-  first_is : one setting tables own number statement at ≡ Some first
-  rest_is : ran_from setting tables first.own (suc number) statements took ≡ Some rest
-  both : after_one first rest ≡ given
+  pub first : One
+  pub rest : Ran
+  pub first_is : one setting tables own number statement at ≡ Some first
+  pub rest_is : ran_from setting tables first.own (suc number) statements took ≡ Some rest
+  pub both : after_one first rest ≡ given
 
-went : (setting : Setting) (tables : Tables) (own : Own) (number : ℕ) (statement : Bound) (statements : List Bound) (at : Option ℕ)
+pub went : (setting : Setting) (tables : Tables) (own : Own) (number : ℕ) (statement : Bound) (statements : List Bound) (at : Option ℕ)
     (took : List (Option ℕ)) (given : Ran) → ran_from setting tables own number (statement ∷ statements) (at ∷ took) ≡ Some given
     → Went setting tables own number statement statements at took given
 went setting tables own number statement statements at took given e = by_first (one setting tables own number statement at) refl e

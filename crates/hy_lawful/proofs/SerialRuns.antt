@@ -50,6 +50,10 @@ use Rattle.hy_lawful.proofs.PassStates.{Passed, EndPasses, NamesFirstHit as HasF
 use Rattle.hy_lawful.proofs.PassSteps.{one_of, reached_passes}
 use Rattle.hy_lawful.proofs.MorePlaces.{pass_by, lies_in}
 use Rattle.hy_lawful.proofs.SerialTables.{opening_bags, opening_widths}
+use Rattle.std.specs.List.{list_any, range_with_len}
+use Rattle.hy_lawful.specs.Written.{is_change, inserted_in, ReadersWriteNothing, PlacesWhatItInserts}
+use Rattle.hy_lawful.proofs.WroteStates.{EndedAllWrote, ended_wrote}
+use Rattle.hy_lawful.proofs.WroteInserts.{readers_write_nothing, places_what_it_inserts}
 
 -- what is known of a state at its end
 record AtEnd (setting : Setting) (state : State) : Type 0 where
@@ -57,6 +61,7 @@ record AtEnd (setting : Setting) (state : State) : Type 0 where
   ran : AllHaveRun setting state
   unseen : AllPassedUnseen setting state
   passes : Passes setting state
+  wrote : EndedAllWrote setting state
   script : FitsScript setting.shapes (setting.chunks * setting.rows) setting.first setting.programs
 
 -- the laws of transactions over positions
@@ -317,6 +322,13 @@ end_serial laws setting state end = record {
   changes = changes_at setting state.order (order_of setting state end);
   history = λ rank below. bags_are setting state.order (order_of setting state end) rank
       ∙ bags_at laws setting state end rank (omega (arith, below, length-map state.order committed_of));
+  readers = each_outcome setting (ReadersWriteNothing setting) state (λ number before finished at r.
+      readers_write_nothing setting state.order (statements_at setting number before) finished (end.wrote number before finished at)
+      (ap (list_any is_change) (sym (statements_behind setting (record { session = number; txn = suc before }) before refl)) ∙ r));
+  inserted = each_outcome setting (PlacesWhatItInserts setting) state (λ number before finished at.
+      ap (λ (statements : List Bound). map (inserted_in statements finished.begun.replies) (range_with_len 0 (length setting.first)))
+      (statements_behind setting (record { session = number; txn = suc before }) before refl)
+      ∙ places_what_it_inserts setting state.order (statements_at setting number before) finished (end.wrote number before finished at));
 }
 
 -- ---- runs
@@ -332,5 +344,6 @@ serial_runs steps ends ran unseen again keeps alone logs setting schedule chunke
       ran = ran setting state chunked reached;
       unseen = unseen setting state reached;
       passes = reached_passes setting state reached;
+      wrote = ended_wrote setting state chunked reached;
       script = script;
     })

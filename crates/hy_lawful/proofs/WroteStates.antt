@@ -1,5 +1,5 @@
 -- In each state that the machine comes to it is known what its transactions had written by their end.
-use Rattle.std.proofs.Common.{◌≡◌, ℕ, suc, ◌<◌, ◌≤◌, List, [], ◌∷◌, ◌++◌, Option, None, Some, length, take, refl, ap, sym, ◌∙◌, subst, inl, inr}
+use Rattle.std.proofs.Common.{◌≡◌, ℕ, ◌<◌, ◌≤◌, List, [], ◌∷◌, ◌++◌, Option, None, Some, length, take, refl, ap, sym, ◌∙◌, subst, inl, inr}
 use Rattle.std.specs.Prelude.{slice_get}
 use Rattle.std.specs.Option.{option_map}
 use Rattle.std.proofs.lemmas.Option.{same_Some}
@@ -11,14 +11,12 @@ use Rattle.hy_machine.specs.declared.Setting.{Setting}
 use Rattle.hy_machine.specs.declared.State.{State}
 use Rattle.hy_machine.specs.declared.Session.{Session}
 use Rattle.hy_machine.specs.declared.Open.{Open}
-use Rattle.hy_machine.specs.declared.Begun.{Begun}
 use Rattle.hy_machine.specs.declared.Finished.{Finished}
 use Rattle.hy_machine.specs.declared.Entry.{Entry}
-use Rattle.hy_machine.specs.declared.Phase.{Phase}
-use Rattle.hy_machine.specs.declared.Phase.TheVariants.{Working, Stamping, Undoing}
+use Rattle.hy_machine.specs.declared.Phase.TheVariants.{Working, Stamping}
 use Rattle.hy_machine.specs.declared.Turn.{Turn}
 use Rattle.hy_machine.specs.declared.Turn.TheVariants.{Done, Waits, Begins, Visits, Answers, Enters, Ends}
-use Rattle.hy_machine.specs.Tables.{Tables, history, opening_tables}
+use Rattle.hy_machine.specs.Tables.{Tables}
 use Rattle.hy_machine.specs.Writes.{with_writes}
 use Rattle.hy_machine.specs.Sessions.{session_at, txn_at, blocker, entry_of}
 use Rattle.hy_machine.specs.Outcomes.{statements_in}
@@ -32,7 +30,7 @@ use Rattle.hy_lawful.proofs.Moves.{moved_to, sessions_moved}
 use Rattle.hy_lawful.proofs.Reached.{fresh_at, is_there, opening_fits, step_fits}
 use Rattle.hy_lawful.proofs.RunAnswers.{IsRun}
 use Rattle.hy_lawful.proofs.RunVisits.{Stands}
-use Rattle.hy_lawful.proofs.RunStates.{tables_at, EndedRun, OpenRun, NowRun, SessionRun, AllRun, statements_now, tables_kept, item_of_more, by_txn, opening_run}
+use Rattle.hy_lawful.proofs.RunStates.{tables_at, OpenRun, NowRun, SessionRun, AllRun, statements_now, tables_kept, item_of_more, by_txn, opening_run}
 use Rattle.hy_lawful.proofs.WroteSweeps.{HadWritten, WrotePhase, WroteTurn, phase_wrote}
 
 -- an ended transaction, by what its answered statements came to

@@ -1,7 +1,7 @@
 -- What a transaction had written by its end: what its answered statements wrote and, where an UPDATE or a DELETE was refused,
 -- what that one wrote in the chunks before.
 use Rattle.std.proofs.Common.{◌≡◌, ℕ, zero, suc, ◌+◌, ◌*◌, ◌<◌, ◌≤◌, List, [], ◌∷◌, Option, None, Some, Result, Ok, Err, Bool, true, false, length}
-use Rattle.std.proofs.Common.{cond, ltb, ◌-◌, map, drop, refl, ap, sym, ◌∙◌, subst, arith, inl, inr}
+use Rattle.std.proofs.Common.{cond, ltb, ◌-◌, map, drop, refl, sym, subst, arith, inl, inr}
 use Rattle.std.specs.Prelude.{slice_get}
 use Rattle.std.specs.List.{AllByRecursion, range_with_len}
 use Rattle.std.proofs.lemmas.Bool.{cases_Bool}
@@ -37,12 +37,12 @@ use Rattle.hy_machine.specs.Sessions.{snapshot, view, blocker}
 use Rattle.hy_machine.specs.Holding.{opponent}
 use Rattle.hy_machine.specs.Validation.{committed_of, first_hit}
 use Rattle.hy_machine.specs.Visits.{new_cell, judged, verdict, verdict_at, and_write, sweep, swept, sees_key, free_position, checks_of}
-use Rattle.hy_machine.specs.Turns.{read_turn, write_turn, check_turn, place_turn, insert_turn, statement_turn, ending_of, unless_blocked}
+use Rattle.hy_machine.specs.Turns.{read_turn, write_turn, check_turn, place_turn, statement_turn, ending_of, unless_blocked}
 use Rattle.hy_machine.specs.Turns.{undo_turn, stamp_turn, validated_turn, commit_turn, closing_turn, working_turn, phase_turn, rows_seen}
 use Rattle.hy_meaning.specs.Statement.{answer_of, grouped}
 use Rattle.hy_replay.specs.Ran.{Ran, writes_at}
 use Rattle.hy_lawful.proofs.Refusals.{first_hit_is}
-use Rattle.hy_lawful.proofs.RunVisits.{HasSwept, HasLooked, At, Stands}
+use Rattle.hy_lawful.proofs.RunVisits.{HasSwept, At, Stands}
 
 -- the statement that does this with the rows that it selects
 abbrev pub change_of : WriteKind → Condition → ℕ → Bound

@@ -20,6 +20,7 @@ use Rattle.hy_lawful.specs.Scripts.{statements_of}
 use Rattle.hy_lawful.specs.Outcomes.{EachFrom, committed_at}
 use Rattle.hy_lawful.specs.Cells.{bags_at, IsChangeAt}
 use Rattle.hy_lawful.specs.Passing.{PassesBy, ChangesLieIn}
+use Rattle.hy_lawful.specs.Written.{ReadersWriteNothing, PlacesWhatItInserts}
 
 -- the serial databases: the one after the first transactions of the commit order ran alone, one after another, from the
 -- first rows on
@@ -78,3 +79,7 @@ pub record IsSerial (setting : Setting) (outcome : Outcome) : Type 0 where
   pub changes : EachFrom 0 (λ (rank : ℕ) (entry : Entry). AllByRecursion (IsChangeAt setting outcome.order rank) entry.changes) outcome.order
   -- before and after every entry the rows that stand in the tables are those of the serial run
   pub history : (rank : ℕ) → rank ≤ length outcome.order → bags_at setting outcome.order rank ≡ database_at setting outcome.order rank
+  -- a transaction none of whose statements is an INSERT, an UPDATE or a DELETE has written nothing
+  pub readers : AllByRecursion (ReadersWriteNothing setting) outcome.txns
+  -- a transaction placed as many inserts in each table as were answered `inserted`
+  pub inserted : AllByRecursion (PlacesWhatItInserts setting) outcome.txns

@@ -40,3 +40,4 @@ pub mod WroteSweeps
 pub mod WroteStates
 pub mod WroteInserts
 pub mod WroteFollows
+pub mod WroteRows

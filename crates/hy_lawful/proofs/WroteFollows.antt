@@ -1,4 +1,4 @@
--- A row that stood at the start of a transaction, followed through its statements: what is written over it and when.
+-- What own writes hold at a position after a sweep of an UPDATE or a DELETE.
 use Rattle.std.proofs.Common.{◌≡◌, ℕ, zero, suc, ◌+◌, ◌<◌, ◌≤◌, List, [], ◌∷◌, ◌++◌, Option, None, Some, Result, Ok}
 use Rattle.std.proofs.Common.{get_or, refl, ap, sym, ◌∙◌, subst, arith, inl, inr}
 use Rattle.std.proofs.Math.ListN.{set}
@@ -68,7 +68,7 @@ put_other (items ∷ own) (suc written) at cell (suc table) pos n = put_other ow
 
 -- ---- sweeps
 
-sweep_other : (of : ℕ) (judge : ℕ → Result (Option Cell) Cause) (first many : ℕ) (writes : List Write) (own : Own) (table pos : ℕ)
+pub sweep_other : (of : ℕ) (judge : ℕ → Result (Option Cell) Cause) (first many : ℕ) (writes : List Write) (own : Own) (table pos : ℕ)
     → sweep of judge (range_with_len first many) ≡ Ok writes → (of ≡ table → ⊥) → item_at (with_writes own writes) table pos ≡ item_at own table pos
 sweep_other of judge first zero writes own table pos e n =
     ap (λ (all : List Write). item_at (with_writes own all) table pos) (let same : writes ≡ [] = cc in same)
@@ -83,7 +83,7 @@ sweep_other of judge first (suc many) writes own table pos e n =
     by_cell None others f = f own
     by_cell (Some cell) others f = f _ ∙ put_other own of first cell table pos n
 
-sweep_above : (of : ℕ) (judge : ℕ → Result (Option Cell) Cause) (first many : ℕ) (writes : List Write) (own : Own) (table pos : ℕ)
+pub sweep_above : (of : ℕ) (judge : ℕ → Result (Option Cell) Cause) (first many : ℕ) (writes : List Write) (own : Own) (table pos : ℕ)
     → sweep of judge (range_with_len first many) ≡ Ok writes → pos < first → item_at (with_writes own writes) table pos ≡ item_at own table pos
 sweep_above of judge first zero writes own table pos e below =
     ap (λ (all : List Write). item_at (with_writes own all) table pos) (let same : writes ≡ [] = cc in same)
@@ -99,16 +99,16 @@ sweep_above of judge first (suc many) writes own table pos e below =
     by_cell (Some cell) others f = f _ ∙ write_apart own of first cell table pos (λ e. absurd (omega (arith, below, e)))
 
 -- what a position holds after a verdict on it
-abbrev laid : Option Cell → Option Cell → Option Cell
+abbrev pub laid : Option Cell → Option Cell → Option Cell
 laid None item = item
 laid (Some cell) item = Some cell
 
-record SweptAt (judged : Result (Option Cell) Cause) (before after : Option Cell) : Type 0 where
-  cell : Option Cell
-  here : judged ≡ Ok cell
-  item : after ≡ laid cell before
+pub record SweptAt (judged : Result (Option Cell) Cause) (before after : Option Cell) : Type 0 where
+  pub cell : Option Cell
+  pub here : judged ≡ Ok cell
+  pub item : after ≡ laid cell before
 
-sweep_at : (table : ℕ) (judge : ℕ → Result (Option Cell) Cause) (first many : ℕ) (writes : List Write) (own : Own) (pos : ℕ)
+pub sweep_at : (table : ℕ) (judge : ℕ → Result (Option Cell) Cause) (first many : ℕ) (writes : List Write) (own : Own) (pos : ℕ)
     → sweep table judge (range_with_len first many) ≡ Ok writes → Room own table pos → first ≤ pos → pos < first + many
     → SweptAt (judge pos) (item_at own table pos) (item_at (with_writes own writes) table pos)
 sweep_at table judge first zero writes own pos e room from below = absurd (omega arith)

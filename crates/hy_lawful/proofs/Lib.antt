@@ -41,3 +41,4 @@ pub mod WroteStates
 pub mod WroteInserts
 pub mod WroteFollows
 pub mod WroteRows
+pub mod WroteEnds

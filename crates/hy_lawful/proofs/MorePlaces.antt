@@ -27,7 +27,7 @@ none_any p [] h = refl
 none_any p (x ∷ xs) h = or_from (p x) (list_any p xs) h.0 (none_any p xs h.1)
 
 -- where nothing was written there is no place
-place_missing : (own : Own) (table pos : ℕ) → item_at own table pos ≡ None → has_place (written own) table pos ≡ false
+pub place_missing : (own : Own) (table pos : ℕ) → item_at own table pos ≡ None → has_place (written own) table pos ≡ false
 place_missing own table pos none = none_any (λ (place : Place). place.table == table && place.pos == pos) (written own)
     (all_by_place (λ (place : Place). (place.table == table && place.pos == pos) ≡ false) place_at own (λ at other cell e. (elsewhere at other cell e, tt)))
   where
@@ -71,7 +71,7 @@ found_in_tables table pos first (cells ∷ own) (suc k) e h =
     (found_in_tables table pos (suc first) own k (let same : suc first + k ≡ table = omega (arith, e) in same) h)
 
 -- where something was written there is a place
-place_found : (own : Own) (table pos : ℕ) → is_some (item_at own table pos) ≡ true → has_place (written own) table pos ≡ true
+pub place_found : (own : Own) (table pos : ℕ) → is_some (item_at own table pos) ≡ true → has_place (written own) table pos ≡ true
 place_found own table pos h = found_in_tables table pos 0 own table (zero-add table) h
 
 -- ---- entries
@@ -82,7 +82,7 @@ mapped_if P f [] i h = tt
 mapped_if P f (x ∷ xs) zero h = h x refl
 mapped_if P f (x ∷ xs) (suc i) h = mapped_if P f xs i h
 
-mapped_and : {X Y : Type 0} (P : Y → Type 0) (f : X → Y) (xs : List X) (i : ℕ) → i < length xs → ((x : X) → slice_get xs i ≡ Some x → P (f x))
+pub mapped_and : {X Y : Type 0} (P : Y → Type 0) (f : X → Y) (xs : List X) (i : ℕ) → i < length xs → ((x : X) → slice_get xs i ≡ Some x → P (f x))
     → IsSomeAnd (slice_get (map f xs) i) P
 mapped_and P f [] i below h = absurd (omega (arith, below))
 mapped_and P f (x ∷ xs) zero below h = h x refl

@@ -89,12 +89,12 @@ laid_so row item cell left false true w c = (refl, refl)
 laid_so row item cell left false false w c = (w, c)
 
 -- which rows a change selects
-change_writes : (kind : WriteKind) (pred : Condition) (of table : ℕ) (cell : Cell)
+pub change_writes : (kind : WriteKind) (pred : Condition) (of table : ℕ) (cell : Cell)
     → writes table (change_of kind pred of) cell ≡ (of == table && truth_at pred cell)
 change_writes (kind.Set sets) pred of table cell = refl
 change_writes kind.Delete pred of table cell = refl
 
-or_false : (b : Bool) → b ≡ (b || false)
+pub or_false : (b : Bool) → b ≡ (b || false)
 or_false true = refl
 or_false false = refl
 

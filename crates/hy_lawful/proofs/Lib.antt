@@ -42,3 +42,4 @@ pub mod WroteInserts
 pub mod WroteFollows
 pub mod WroteRows
 pub mod WroteEnds
+pub mod WroteSerial

@@ -50,10 +50,10 @@ use Rattle.hy_lawful.proofs.PassStates.{Passed, EndPasses, NamesFirstHit as HasF
 use Rattle.hy_lawful.proofs.PassSteps.{one_of, reached_passes}
 use Rattle.hy_lawful.proofs.MorePlaces.{pass_by, lies_in}
 use Rattle.hy_lawful.proofs.SerialTables.{opening_bags, opening_widths}
-use Rattle.std.specs.List.{list_any, range_with_len}
-use Rattle.hy_lawful.specs.Written.{is_change, inserted_in, ReadersWriteNothing, PlacesWhatItInserts}
+use Rattle.std.specs.List.{AllByRecursion}
+use Rattle.hy_lawful.specs.Written.{ReadersWriteNothing, PlacesWhatItInserts, WritesWhatItSelects, LeavesWhatFollows}
 use Rattle.hy_lawful.proofs.WroteStates.{EndedAllWrote, ended_wrote}
-use Rattle.hy_lawful.proofs.WroteInserts.{readers_write_nothing, places_what_it_inserts}
+use Rattle.hy_lawful.proofs.WroteSerial.{IsEnded, reader_wrote, inserts_placed, selected_written, entry_leaves}
 
 -- what is known of a state at its end
 record AtEnd (setting : Setting) (state : State) : Type 0 where
@@ -299,6 +299,21 @@ names_hit laws setting state end number before finished at (Invalid table pos ot
 names_hit laws setting state end number before finished at (Range table pos) e = tt
 names_hit laws setting state end number before finished at (Full table) e = tt
 
+-- what is known of what an ended transaction wrote
+is_ended : (setting : Setting) (state : State) → AtEnd setting state → (number before : ℕ) (finished : Finished)
+    → slice_get (session_at state number).done before ≡ Some finished → IsEnded setting state.order number before finished
+is_ended setting state end number before finished at = record { is = order_of setting state end; wrote = end.wrote number before finished at }
+
+-- what its entry leaves, where it has committed
+entry_left : (setting : Setting) (state : State) → AtEnd setting state → (number before : ℕ) (finished : Finished)
+    → slice_get (session_at state number).done before ≡ Some finished → (rank : Option ℕ) → committed_at finished.ending ≡ rank
+    → IfSome rank (λ (rank : ℕ). IsSomeAnd (slice_get (map committed_of state.order) rank) (λ (entry : Committing).
+    AllByRecursion (LeavesWhatFollows setting (map committed_of state.order) (txn_outcome_of setting number before finished)) entry.changes))
+entry_left setting state end number before finished at None e = tt
+entry_left setting state end number before finished at (Some rank) e =
+    entry_leaves setting state.order number before finished (is_ended setting state end number before finished at) rank (ending_at finished.ending rank e)
+    (passed_at setting state end number before finished rank (record { at = at; ending = ending_at finished.ending rank e }))
+
 all_tables : Laws → (setting : Setting) (state : State) → AtEnd setting state
     → (outcome_of setting state).tables ≡ database_at setting (map committed_of state.order) (length (map committed_of state.order))
 all_tables laws setting state end =
@@ -322,13 +337,16 @@ end_serial laws setting state end = record {
   changes = changes_at setting state.order (order_of setting state end);
   history = λ rank below. bags_are setting state.order (order_of setting state end) rank
       ∙ bags_at laws setting state end rank (omega (arith, below, length-map state.order committed_of));
-  readers = each_outcome setting (ReadersWriteNothing setting) state (λ number before finished at r.
-      readers_write_nothing setting state.order (statements_at setting number before) finished (end.wrote number before finished at)
-      (ap (list_any is_change) (sym (statements_behind setting (record { session = number; txn = suc before }) before refl)) ∙ r));
+  readers = each_outcome setting (ReadersWriteNothing setting) state (λ number before finished at.
+      reader_wrote setting state.order number before finished (is_ended setting state end number before finished at));
   inserted = each_outcome setting (PlacesWhatItInserts setting) state (λ number before finished at.
-      ap (λ (statements : List Bound). map (inserted_in statements finished.begun.replies) (range_with_len 0 (length setting.first)))
-      (statements_behind setting (record { session = number; txn = suc before }) before refl)
-      ∙ places_what_it_inserts setting state.order (statements_at setting number before) finished (end.wrote number before finished at));
+      inserts_placed setting state.order number before finished (is_ended setting state end number before finished at));
+  leaves = each_outcome setting (λ (txn : TxnOutcome). IfSome (committed_at txn.ending)
+      (λ (rank : ℕ). IsSomeAnd (slice_get (map committed_of state.order) rank)
+      (λ (entry : Committing). AllByRecursion (LeavesWhatFollows setting (map committed_of state.order) txn) entry.changes))) state
+      (λ number before finished at. entry_left setting state end number before finished at (committed_at finished.ending) refl);
+  wrote = each_outcome setting (WritesWhatItSelects setting (map committed_of state.order)) state (λ number before finished at.
+      selected_written setting state.order number before finished (is_ended setting state end number before finished at));
 }
 
 -- ---- runs

@@ -1,20 +1,15 @@
 -- What a transaction wrote of the rows that stood at its start.
-use Rattle.std.proofs.Common.{◌≡◌, ℕ, zero, suc, ◌+◌, ◌*◌, ◌/◌, ◌<◌, ◌≤◌, List, [], ◌∷◌, ◌++◌, Option, None, Some, Result, Ok, Err, Bool, true, false, length}
-use Rattle.std.proofs.Common.{cond, ltb, not, is_some, get_or, map, take, refl, ap, sym, ◌∙◌, subst, arith, inl, inr, mul-le-mul_right}
-use Rattle.std.specs.Prelude.{slice_get, replicate, ◌||◌, ◌&&◌, ◌==◌, IfSome}
-use Rattle.std.specs.List.{AllByRecursion, range_with_len}
-use Rattle.std.specs.Option.{IsSomeAnd}
-use Rattle.std.proofs.lemmas.Bool.{cases_Bool, cases_lt, lt-ltb, le-ltb}
+use Rattle.std.proofs.Common.{◌≡◌, ℕ, zero, suc, ◌+◌, ◌*◌, ◌/◌, ◌<◌, ◌≤◌, List, [], ◌∷◌, Option, None, Some, Bool, true, false, length}
+use Rattle.std.proofs.Common.{cond, ltb, is_some, get_or, map, take, refl, ap, sym, ◌∙◌, subst, arith, inl, inr, mul-le-mul_right}
+use Rattle.std.specs.Prelude.{slice_get, replicate, ◌||◌, ◌&&◌, ◌==◌}
+use Rattle.std.specs.List.{AllByRecursion}
+use Rattle.std.proofs.lemmas.Bool.{cases_lt, lt-ltb, le-ltb}
 use Rattle.std.proofs.Math.Nat.{div-mul-le_self, lt-div-mul-add}
 use Rattle.hy_value.specs.declared.Value.{Value}
 use Rattle.hy_bound.specs.declared.Bound.{Bound}
-use Rattle.hy_bound.specs.declared.WriteKind.{WriteKind}
-use Rattle.hy_bound.specs.Condition.{Condition}
 use Rattle.hy_bound.specs.Predicate.{truth_at}
-use Rattle.hy_change.specs.declared.Change.{Change}
 use Rattle.hy_render.specs.declared.Ending.{Ending}
 use Rattle.hy_render.specs.declared.Ending.TheVariants.{Committed, Read, RolledBack, Conflict, Invalid, Range, Full}
-use Rattle.hy_render.specs.declared.Committed.{Committed as Committing}
 use Rattle.hy_machine.specs.declared.Setting.{Setting}
 use Rattle.hy_machine.specs.declared.Begun.{Begun}
 use Rattle.hy_machine.specs.declared.Pair.{Pair}
@@ -22,23 +17,19 @@ use Rattle.hy_machine.specs.declared.Entry.{Entry}
 use Rattle.hy_machine.specs.declared.Finished.{Finished}
 use Rattle.hy_machine.specs.Positions.{item_at}
 use Rattle.hy_machine.specs.Tables.{Cell, Tables, Own, capacity, covered, over}
-use Rattle.hy_machine.specs.Writes.{blank_own, with_writes, written}
+use Rattle.hy_machine.specs.Writes.{blank_own, written}
 use Rattle.hy_machine.specs.Visits.{verdict}
-use Rattle.hy_machine.specs.Validation.{committed_of}
 use Rattle.hy_replay.specs.Laws.{AreTables}
 use Rattle.hy_replay.specs.Ran.{Ran}
-use Rattle.hy_lawful.specs.Outcomes.{committed_at}
 use Rattle.hy_lawful.specs.Passing.{has_place}
-use Rattle.hy_lawful.specs.Written.{writes, followed, some_writes, would_write, refused_at, is_in_chunk_before}
+use Rattle.hy_lawful.specs.Written.{followed, some_writes, would_write, refused_at, is_in_chunk_before}
 use Rattle.hy_lawful.proofs.Fits.{FitsTables}
 use Rattle.hy_lawful.proofs.Tables.{blank_fits}
 use Rattle.hy_lawful.proofs.PassTables.{tables_at, pair_at, AllFit, covered_at, cell_next, tables_are}
 use Rattle.hy_lawful.proofs.PassStates.{Passed}
-use Rattle.hy_lawful.proofs.MoreChanges.{all_changes}
-use Rattle.hy_lawful.proofs.MoreTables.{pair_there}
-use Rattle.hy_lawful.proofs.MorePlaces.{place_missing, place_found, mapped_and}
+use Rattle.hy_lawful.proofs.MorePlaces.{place_missing, place_found}
 use Rattle.hy_lawful.proofs.RunSweeps.{writes_apart, sweep_below}
-use Rattle.hy_lawful.proofs.WroteSweeps.{change_of, HadSwept, HadWritten}
+use Rattle.hy_lawful.proofs.WroteSweeps.{HadSwept, HadWritten}
 use Rattle.hy_lawful.proofs.WroteStates.{EndedWrote}
 use Rattle.hy_lawful.proofs.WroteFollows.{RoomIn, Room}
 use Rattle.hy_lawful.proofs.WroteRows.{IsRowAt, StandsSo, change_writes, change_follows, all_follow, or_false}

@@ -1,10 +1,10 @@
 -- A row that stood at the start of a transaction, followed through its statements: what is written over it and when.
-use Rattle.std.proofs.Common.{◌≡◌, ℕ, zero, suc, ◌+◌, ◌*◌, ◌<◌, ◌≤◌, List, [], ◌∷◌, ◌++◌, Option, None, Some, Result, Ok, Err, Bool, true, false, length}
-use Rattle.std.proofs.Common.{cond, not, is_some, get_or, take, refl, ap, sym, ◌∙◌, subst, arith, inl, inr, ◌⊎◌}
-use Rattle.std.specs.Prelude.{slice_get, ◌||◌, ◌&&◌, ◌==◌, option_and_then}
+use Rattle.std.proofs.Common.{◌≡◌, ℕ, suc, ◌<◌, List, [], ◌∷◌, Option, None, Some, Result, Ok, Err, Bool, true, false}
+use Rattle.std.proofs.Common.{cond, not, is_some, refl, ap, sym, ◌∙◌, subst, arith, inl, inr}
+use Rattle.std.specs.Prelude.{◌||◌, ◌&&◌, ◌==◌}
 use Rattle.std.specs.List.{range_with_len}
 use Rattle.std.specs.Option.{option_map}
-use Rattle.std.proofs.lemmas.Bool.{cases_Bool, cases_lt, cases_eq, eq-eqb, eqb-true}
+use Rattle.std.proofs.lemmas.Bool.{cases_eq, eq-eqb, eqb-true}
 use Rattle.std.proofs.lemmas.Option.{same_Some}
 use Rattle.hy_value.specs.declared.Value.{Value}
 use Rattle.hy_bound.specs.declared.Assign.{Assign}
@@ -21,14 +21,12 @@ use Rattle.hy_machine.specs.declared.Write.{Write}
 use Rattle.hy_machine.specs.declared.Cause.{Cause}
 use Rattle.hy_machine.specs.Positions.{item_at}
 use Rattle.hy_machine.specs.Tables.{Cell, Tables, Own, capacity, covered, over}
-use Rattle.hy_machine.specs.Writes.{with_write, with_writes}
-use Rattle.hy_machine.specs.Visits.{new_cell, judged, verdict, sweep}
-use Rattle.hy_machine.specs.Turns.{told_by}
-use Rattle.hy_plan.specs.Reads.{records_of}
+use Rattle.hy_machine.specs.Writes.{with_writes}
+use Rattle.hy_machine.specs.Visits.{new_cell, judged, verdict}
 use Rattle.hy_replay.specs.Laws.{AreTables}
-use Rattle.hy_replay.specs.Ran.{One, Ran, has_key_at, placed_at, writes_at, changed_by, one, ran_from}
+use Rattle.hy_replay.specs.Ran.{One, Ran, placed_at, writes_at, changed_by, one, ran_from}
 use Rattle.hy_lawful.specs.Written.{writes, left_by, after_one, followed, some_writes}
-use Rattle.hy_lawful.proofs.Booleans.{and_left, and_right, not_true}
+use Rattle.hy_lawful.proofs.Booleans.{and_right}
 use Rattle.hy_lawful.proofs.Fits.{FitsTables}
 use Rattle.hy_lawful.proofs.Tables.{writes_fit}
 use Rattle.hy_lawful.proofs.PassTables.{covered_at}
@@ -180,8 +178,9 @@ insert_follows setting tables own of new records None first table pos row cell w
 insert_follows setting tables own of new records (Some at) first table pos row cell wrote is e s =
     let write : Write = record { table = of; pos = at; cell = Some new } in
     let c = chosen_so _ _ first e in
+    let unplaced : not (is_some (item_at tables of at)) ≡ true = and_right _ _ c.0 in
     let clear : item_at tables of at ≡ Some row → ⊥ =
-    λ h. absurd (let never : false ≡ true = ap (λ (item : Cell). not (is_some item)) (sym h) ∙ and_right _ _ c.0 in cc) in
+    λ h. absurd (let never : false ≡ true = ap (λ (item : Cell). not (is_some item)) (sym h) ∙ unplaced in cc) in
     subst (λ (other : Own). StandsAfter setting other table pos row cell wrote (Insert of new) false)
     (ap (λ (one : One). one.own) c.1)
     (stays_so setting own (with_writes own (write ∷ [])) table pos row cell wrote (Insert of new) (writes_fit setting own (write ∷ []) s.fits)

@@ -43,3 +43,5 @@ pub mod WroteFollows
 pub mod WroteRows
 pub mod WroteEnds
 pub mod WroteSerial
+pub mod WroteCounts
+pub mod WroteNew

@@ -51,9 +51,9 @@ use Rattle.hy_lawful.proofs.PassSteps.{one_of, reached_passes}
 use Rattle.hy_lawful.proofs.MorePlaces.{pass_by, lies_in}
 use Rattle.hy_lawful.proofs.SerialTables.{opening_bags, opening_widths}
 use Rattle.std.specs.List.{AllByRecursion}
-use Rattle.hy_lawful.specs.Written.{ReadersWriteNothing, PlacesWhatItInserts, WritesWhatItSelects, LeavesWhatFollows}
+use Rattle.hy_lawful.specs.Written.{ReadersWriteNothing, PlacesWhatItInserts, WritesWhatItPlaces, WritesWhatItSelects, LeavesWhatFollows}
 use Rattle.hy_lawful.proofs.WroteStates.{EndedAllWrote, ended_wrote}
-use Rattle.hy_lawful.proofs.WroteSerial.{IsEnded, reader_wrote, inserts_placed, selected_written, entry_leaves}
+use Rattle.hy_lawful.proofs.WroteSerial.{IsEnded, reader_wrote, inserts_placed, news_placed, selected_written, entry_leaves}
 
 -- what is known of a state at its end
 record AtEnd (setting : Setting) (state : State) : Type 0 where
@@ -341,6 +341,8 @@ end_serial laws setting state end = record {
       reader_wrote setting state.order number before finished (is_ended setting state end number before finished at));
   inserted = each_outcome setting (PlacesWhatItInserts setting) state (λ number before finished at.
       inserts_placed setting state.order number before finished (is_ended setting state end number before finished at));
+  placed = each_outcome setting (WritesWhatItPlaces setting (map committed_of state.order)) state (λ number before finished at.
+      news_placed setting state.order number before finished (is_ended setting state end number before finished at));
   leaves = each_outcome setting (λ (txn : TxnOutcome). IfSome (committed_at txn.ending)
       (λ (rank : ℕ). IsSomeAnd (slice_get (map committed_of state.order) rank)
       (λ (entry : Committing). AllByRecursion (LeavesWhatFollows setting (map committed_of state.order) txn) entry.changes))) state

@@ -59,7 +59,7 @@ blank_in zero pos h = absurd (omega arith)
 blank_in (suc n) zero h = tt
 blank_in (suc n) (suc pos) h = blank_in n pos (omega arith)
 
-blank_room : (n : ℕ) (rows : List (List (List Value))) (table pos : ℕ) → table < length rows → pos < n
+pub blank_room : (n : ℕ) (rows : List (List (List Value))) (table pos : ℕ) → table < length rows → pos < n
     → Room (map (λ (one : List (List Value)). replicate n None) rows) table pos
 blank_room n [] table pos t h = absurd (omega arith)
 blank_room n (one ∷ rows) zero pos t h = blank_in n pos h
@@ -150,7 +150,8 @@ swept_so setting tables statements begun given of at table pos row cell wrote is
     in_chunk (of == table) setting.rows at pos ∙ ap (λ (n : ℕ). of == table && ltb pos n) start in
     elim (cases_lt pos (h.visited * setting.rows)) [
       | inl short ↦
-          let after = change_follows setting tables given.own h.kind h.pred of (h.visited * setting.rows) h.writes table pos row cell wrote is short h.swept s in
+          let after = change_follows setting tables given.own h.kind h.pred of (h.visited * setting.rows) h.writes table pos row cell wrote is short
+          h.swept s in
           ap (λ (own : Own). is_some (item_at own table pos)) (sym h.own)
           ∙ (after.wrote_is
           ∙ ap (λ (b : Bool). wrote || b) (change_writes h.kind h.pred of table cell

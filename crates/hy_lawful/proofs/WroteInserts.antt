@@ -1,5 +1,5 @@
 -- A transaction none of whose statements changes rows has written nothing, and each places as many inserts as were answered so.
-use Rattle.std.proofs.Common.{◌≡◌, ℕ, zero, suc, ◌+◌, List, [], ◌∷◌, Option, None, Some, Bool, true, false, length, take, map}
+use Rattle.std.proofs.Common.{◌≡◌, ℕ, zero, suc, ◌+◌, ◌<◌, List, [], ◌∷◌, Option, None, Some, Bool, true, false, length, take, map}
 use Rattle.std.proofs.Common.{cond, is_some, refl, ap, sym, ◌∙◌, arith}
 use Rattle.std.specs.Prelude.{slice_get, replicate, ◌||◌, ◌&&◌, ◌==◌, zip}
 use Rattle.std.specs.List.{list_any, range_with_len}
@@ -72,7 +72,8 @@ blank_tables : (n : ℕ) (rows : List (List (List Value)))
     → list_any (list_any (λ (item : Option Cell). is_some item)) (map (λ (one : List (List Value)). replicate n None) rows) ≡ false
 blank_tables n [] = refl
 blank_tables n (one ∷ rows) =
-    ap (λ (b : Bool). b || list_any (list_any (λ (item : Option Cell). is_some item)) (map (λ (one : List (List Value)). replicate n None) rows)) (blank_cells n)
+    ap (λ (b : Bool). b || list_any (list_any (λ (item : Option Cell). is_some item)) (map (λ (one : List (List Value)). replicate n None) rows))
+    (blank_cells n)
     ∙ blank_tables n rows
 
 change_changes : (kind : WriteKind) (pred : Condition) (table : ℕ) → is_change (change_of kind pred table) ≡ true
@@ -154,15 +155,17 @@ inserts_counted setting tables own number table (statement ∷ statements) (answ
     ∙ ap (λ (n : ℕ). placed_by table statement at + n)
     (inserts_counted setting tables w.first.own (suc number) table statements replies took w.rest (omega (arith, l)) w.rest_is tail))
 
-pub placed_all : {A : Type 0} (statements : List Bound) (replies : List Reply) (took : List (Option ℕ)) (first : ℕ) (tables : List A)
-    → ((table : ℕ) → inserted_in statements replies table ≡ placed_in table statements took)
-    → map (inserted_in statements replies) (range_with_len first (length tables)) ≡ placed_from first statements took tables
-placed_all statements replies took first [] f = refl
-placed_all statements replies took first (one ∷ tables) f =
-    ap (λ (n : ℕ). n ∷ map (inserted_in statements replies) (range_with_len (first + 1) (length tables))) (f first)
-    ∙ (ap (λ (n : ℕ). placed_in first statements took ∷ map (inserted_in statements replies) (range_with_len n (length tables)))
+-- of each table
+pub placed_below : {A : Type 0} (count : ℕ → ℕ) (statements : List Bound) (took : List (Option ℕ)) (first end : ℕ) (tables : List A)
+    → first + length tables ≡ end → ((table : ℕ) → table < end → count table ≡ placed_in table statements took)
+    → map count (range_with_len first (length tables)) ≡ placed_from first statements took tables
+placed_below count statements took first end [] l f = refl
+placed_below count statements took first end (one ∷ tables) l f =
+    ap (λ (n : ℕ). n ∷ map count (range_with_len (first + 1) (length tables))) (f first (omega (arith, l)))
+    ∙ (ap (λ (n : ℕ). placed_in first statements took ∷ map count (range_with_len n (length tables)))
     (let same : first + 1 ≡ suc first = omega arith in same)
-    ∙ ap (λ (rest : List ℕ). placed_in first statements took ∷ rest) (placed_all statements replies took (suc first) tables f))
+    ∙ ap (λ (rest : List ℕ). placed_in first statements took ∷ rest)
+    (placed_below count statements took (suc first) end tables (omega (arith, l)) f))
 
 -- a transaction placed as many inserts as were answered so
 pub places_what_it_inserts : (setting : Setting) (order : List Entry) (statements : List Bound) (finished : Finished)
@@ -170,6 +173,6 @@ pub places_what_it_inserts : (setting : Setting) (order : List Entry) (statement
     → map (inserted_in statements finished.begun.replies) (range_with_len 0 (length setting.first))
     ≡ placed_from 0 statements finished.begun.took setting.first
 places_what_it_inserts setting order statements finished ended =
-    placed_all statements finished.begun.replies finished.begun.took 0 setting.first
-    (λ table. inserts_counted setting _ (blank_own setting) 1 table statements finished.begun.replies finished.begun.took ended.given
+    placed_below (inserted_in statements finished.begun.replies) statements finished.begun.took 0 (length setting.first) setting.first (omega arith)
+    (λ table below. inserts_counted setting _ (blank_own setting) 1 table statements finished.begun.replies finished.begun.took ended.given
     ended.run.took ended.run.came_to ended.run.replies)

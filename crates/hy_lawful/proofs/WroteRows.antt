@@ -11,6 +11,7 @@ use Rattle.hy_bound.specs.declared.Assign.{Assign}
 use Rattle.hy_bound.specs.declared.Bound.{Bound}
 use Rattle.hy_bound.specs.declared.Bound.TheVariants.{Select, Group, Insert, Update, Delete}
 use Rattle.hy_bound.specs.declared.Record.{Record}
+use Rattle.hy_bound.specs.declared.Reply.TheVariants as reply
 use Rattle.hy_bound.specs.declared.WriteKind.{WriteKind}
 use Rattle.hy_bound.specs.declared.WriteKind.TheVariants as kind
 use Rattle.hy_bound.specs.Condition.{Condition}
@@ -21,10 +22,10 @@ use Rattle.hy_machine.specs.declared.Write.{Write}
 use Rattle.hy_machine.specs.declared.Cause.{Cause}
 use Rattle.hy_machine.specs.Positions.{item_at}
 use Rattle.hy_machine.specs.Tables.{Cell, Tables, Own, capacity, covered, over}
-use Rattle.hy_machine.specs.Writes.{with_writes}
+use Rattle.hy_machine.specs.Writes.{with_write, with_writes}
 use Rattle.hy_machine.specs.Visits.{new_cell, judged, verdict}
 use Rattle.hy_replay.specs.Laws.{AreTables}
-use Rattle.hy_replay.specs.Ran.{One, Ran, placed_at, writes_at, changed_by, one, ran_from}
+use Rattle.hy_replay.specs.Ran.{One, Ran, has_key_at, placed_at, writes_at, changed_by, one, ran_from}
 use Rattle.hy_lawful.specs.Written.{writes, left_by, after_one, followed, some_writes}
 use Rattle.hy_lawful.proofs.Booleans.{and_right}
 use Rattle.hy_lawful.proofs.Fits.{FitsTables}
@@ -121,7 +122,8 @@ here_follows : (setting : Setting) (tables : Tables) (own : Own) (kind : WriteKi
     → writes_at kind pred (over tables own) table (range_with_len 0 many) ≡ Ok all → StandsSo setting own table pos row cell wrote
     → StandsAfter setting (with_writes own all) table pos row cell wrote (change_of kind pred table) (truth_at pred cell)
 here_follows setting tables own kind pred many all table pos row cell wrote is short e s =
-    let at : SweptAt (verdict kind pred table pos None (item_at (over tables own) table pos)) (item_at own table pos) (item_at (with_writes own all) table pos) =
+    let at : SweptAt (verdict kind pred table pos None (item_at (over tables own) table pos)) (item_at own table pos)
+    (item_at (with_writes own all) table pos) =
     sweep_at table (λ at. verdict kind pred table at None (item_at (over tables own) table at)) 0 many all own pos e s.room (omega arith) (omega arith) in
     let view : item_at (over tables own) table pos ≡ cell =
     covered_at setting (λ (item : Cell). item) tables own is.are s.fits table pos
@@ -163,7 +165,7 @@ change_follows setting tables own kind pred of many all table pos row cell wrote
 
 -- ---- statements
 
-chosen_so : {X : Type 0} (b : Bool) (x y : X) → cond b (Some x) None ≡ Some y → (b ≡ true) × (x ≡ y)
+pub chosen_so : {X : Type 0} (b : Bool) (x y : X) → cond b (Some x) None ≡ Some y → (b ≡ true) × (x ≡ y)
 chosen_so true x y e = (refl, same_Some x y e)
 chosen_so false x y e = absurd cc
 
@@ -177,8 +179,11 @@ insert_follows setting tables own of new records None first table pos row cell w
     (stays_so setting own own table pos row cell wrote (Insert of new) s.fits s.room refl s)
 insert_follows setting tables own of new records (Some at) first table pos row cell wrote is e s =
     let write : Write = record { table = of; pos = at; cell = Some new } in
-    let c = chosen_so _ _ first e in
-    let unplaced : not (is_some (item_at tables of at)) ≡ true = and_right _ _ c.0 in
+    let placed : One = record { own = with_write own write; reply = reply.Inserted; records = records } in
+    let c = chosen_so (not (has_key_at setting (over tables own) of new) && not (is_some (item_at own of at)) && not (is_some (item_at tables of at)))
+    placed first e in
+    let unplaced : not (is_some (item_at tables of at)) ≡ true =
+    and_right (not (has_key_at setting (over tables own) of new) && not (is_some (item_at own of at))) (not (is_some (item_at tables of at))) c.0 in
     let clear : item_at tables of at ≡ Some row → ⊥ =
     λ h. absurd (let never : false ≡ true = ap (λ (item : Cell). not (is_some item)) (sym h) ∙ unplaced in cc) in
     subst (λ (other : Own). StandsAfter setting other table pos row cell wrote (Insert of new) false)
@@ -192,12 +197,12 @@ insert_follows setting tables own of new records (Some at) first table pos row c
     ]) s)
 
 -- what an UPDATE or a DELETE that is answered wrote
-record IsChanged (own : Own) (result : Result (List Write) Cause) (first : One) : Type 0 where
-  all : List Write
-  swept : result ≡ Ok all
-  own_is : with_writes own all ≡ first.own
+pub record IsChanged (own : Own) (result : Result (List Write) Cause) (first : One) : Type 0 where
+  pub all : List Write
+  pub swept : result ≡ Ok all
+  pub own_is : with_writes own all ≡ first.own
 
-changed_so : (own : Own) (kind : WriteKind) (records : List Record) (result : Result (List Write) Cause) (first : One)
+pub changed_so : (own : Own) (kind : WriteKind) (records : List Record) (result : Result (List Write) Cause) (first : One)
     → changed_by own kind records result ≡ Some first → IsChanged own result first
 changed_so own kind records (Err cause) first e = absurd cc
 changed_so own kind records (Ok all) first e =

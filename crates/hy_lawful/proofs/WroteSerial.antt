@@ -1,6 +1,6 @@
 -- What the outcome of an ended transaction tells of what it wrote.
-use Rattle.std.proofs.Common.{◌≡◌, ℕ, suc, List, Some, length, take, map, refl, ap, sym, ◌∙◌, subst}
-use Rattle.std.specs.Prelude.{slice_get, ◌||◌, ◌&&◌}
+use Rattle.std.proofs.Common.{◌≡◌, ℕ, suc, ◌+◌, List, Some, length, take, map, refl, ap, sym, ◌∙◌, subst, arith}
+use Rattle.std.specs.Prelude.{slice_get, ◌==◌, is_none, ◌||◌, ◌&&◌}
 use Rattle.std.specs.List.{AllByRecursion, list_any, range_with_len}
 use Rattle.std.specs.Option.{IsSomeAnd}
 use Rattle.hy_value.specs.declared.Value.{Value}
@@ -11,6 +11,8 @@ use Rattle.hy_render.specs.declared.Committed.{Committed as Committing}
 use Rattle.hy_machine.specs.declared.Setting.{Setting}
 use Rattle.hy_machine.specs.declared.Entry.{Entry}
 use Rattle.hy_machine.specs.declared.Finished.{Finished}
+use Rattle.hy_render.specs.declared.Place.{Place}
+use Rattle.hy_machine.specs.Tables.{Cell, Tables}
 use Rattle.hy_machine.specs.Writes.{written}
 use Rattle.hy_machine.specs.Validation.{committed_of}
 use Rattle.hy_machine.specs.Outcomes.{txn_outcome_of}
@@ -19,7 +21,8 @@ use Rattle.hy_lawful.specs.Cells.{cell_at}
 use Rattle.hy_lawful.specs.Passing.{has_place}
 use Rattle.hy_lawful.specs.Reached.{statements_at}
 use Rattle.hy_lawful.specs.Written.{is_change, inserted_in, followed, some_writes, would_write, refused_at, is_in_chunk_before, has_written}
-use Rattle.hy_lawful.specs.Written.{answered_statements, ReadersWriteNothing, PlacesWhatItInserts, WritesWhatItSelects, LeavesWhatFollows}
+use Rattle.hy_lawful.specs.Written.{answered_statements, new_in}
+use Rattle.hy_lawful.specs.Written.{ReadersWriteNothing, PlacesWhatItInserts, WritesWhatItPlaces, WritesWhatItSelects, LeavesWhatFollows}
 use Rattle.hy_lawful.proofs.SerialScripts.{statements_behind}
 use Rattle.hy_lawful.proofs.MoreChanges.{all_changes}
 use Rattle.hy_lawful.proofs.MoreTables.{IsOrder, if_some, pair_there, printed_is}
@@ -28,7 +31,9 @@ use Rattle.hy_lawful.proofs.PassTables.{tables_at}
 use Rattle.hy_lawful.proofs.PassStates.{Passed}
 use Rattle.hy_lawful.proofs.WroteSweeps.{HadWritten}
 use Rattle.hy_lawful.proofs.WroteStates.{EndedWrote}
-use Rattle.hy_lawful.proofs.WroteInserts.{readers_write_nothing, places_what_it_inserts}
+use Rattle.hy_lawful.proofs.WroteInserts.{readers_write_nothing, placed_below, places_what_it_inserts}
+use Rattle.hy_lawful.proofs.WroteCounts.{count_from}
+use Rattle.hy_lawful.proofs.WroteNew.{is_new, news_are_placed}
 use Rattle.hy_lawful.proofs.WroteEnds.{writes_what_it_selects, leaves_what_follows}
 
 -- an ended transaction, with so many before it in its session, in the commit order
@@ -52,6 +57,21 @@ inserts_placed setting order number before finished end =
     ap (λ (statements : List Bound). map (inserted_in statements finished.begun.replies) (range_with_len 0 (length setting.first)))
     (same_statements setting number before)
     ∙ places_what_it_inserts setting order (statements_at setting number before) finished end.wrote
+
+pub news_placed : (setting : Setting) (order : List Entry) (number before : ℕ) (finished : Finished) → IsEnded setting order number before finished
+    → WritesWhatItPlaces setting (map committed_of order) (txn_outcome_of setting number before finished)
+news_placed setting order number before finished end =
+    let txn : TxnOutcome = txn_outcome_of setting number before finished in
+    let tables : Tables = tables_at setting order finished.begun.prefix in
+    placed_below (new_in setting (map committed_of order) txn) (statements_at setting number before) finished.begun.took 0 (length setting.first)
+    setting.first (omega arith)
+    (λ table below. count_from
+    (λ (place : Place). place.table == table && is_none (cell_at setting (map committed_of order) finished.begun.prefix place.table place.pos))
+    (is_new tables table) 0 finished.begun.own
+    (λ at pos. ap (λ (n : ℕ). n == table && is_none (cell_at setting (map committed_of order) finished.begun.prefix n pos))
+    (let same : 0 + at ≡ at = omega arith in same)
+    ∙ ap (λ (cell : Cell). at == table && is_none cell) (printed_is setting order end.is finished.begun.prefix at pos))
+    ∙ news_are_placed setting order (statements_at setting number before) finished end.wrote table below)
 
 pub selected_written : (setting : Setting) (order : List Entry) (number before : ℕ) (finished : Finished) → IsEnded setting order number before finished
     → WritesWhatItSelects setting (map committed_of order) (txn_outcome_of setting number before finished)

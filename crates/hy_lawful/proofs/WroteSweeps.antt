@@ -244,8 +244,8 @@ unless_wrote : (setting : Setting) (tables : Tables) (statements : List Bound) (
 unless_wrote setting tables statements begun given turn None h = h
 unless_wrote setting tables statements begun given turn (Some by) h = tt
 
-undo_wrote : (setting : Setting) (state : State) (tables : Tables) (statements : List Bound) (number : ℕ) (begun : Begun) (given : Ran) (visited : ℕ) (cause : Cause)
-    → HadWritten setting tables statements begun given (ending_of cause)
+undo_wrote : (setting : Setting) (state : State) (tables : Tables) (statements : List Bound) (number : ℕ) (begun : Begun) (given : Ran) (visited : ℕ)
+    (cause : Cause) → HadWritten setting tables statements begun given (ending_of cause)
     → WroteTurn setting tables statements begun given (undo_turn setting state number begun visited cause)
 undo_wrote setting state tables statements number begun given visited cause h =
     elim (cases_Bool (ltb visited (length (written_chunks setting begun.own)))) [

@@ -20,7 +20,7 @@ use Rattle.hy_lawful.specs.Scripts.{statements_of}
 use Rattle.hy_lawful.specs.Outcomes.{EachFrom, committed_at}
 use Rattle.hy_lawful.specs.Cells.{bags_at, IsChangeAt}
 use Rattle.hy_lawful.specs.Passing.{PassesBy, ChangesLieIn}
-use Rattle.hy_lawful.specs.Written.{ReadersWriteNothing, PlacesWhatItInserts, LeavesWhatFollows, WritesWhatItSelects}
+use Rattle.hy_lawful.specs.Written.{ReadersWriteNothing, PlacesWhatItInserts, WritesWhatItPlaces, LeavesWhatFollows, WritesWhatItSelects}
 
 -- the serial databases: the one after the first transactions of the commit order ran alone, one after another, from the
 -- first rows on
@@ -83,6 +83,8 @@ pub record IsSerial (setting : Setting) (outcome : Outcome) : Type 0 where
   pub readers : AllByRecursion (ReadersWriteNothing setting) outcome.txns
   -- a transaction placed as many inserts in each table as were answered `inserted`
   pub inserted : AllByRecursion (PlacesWhatItInserts setting) outcome.txns
+  -- as many positions of each table it wrote where no row stood at its start
+  pub placed : AllByRecursion (WritesWhatItPlaces setting outcome.order) outcome.txns
   -- where a row stood at the start of a committed transaction, its entry leaves that row as its statements make it
   pub leaves : AllByRecursion
       (λ (txn : TxnOutcome). IfSome (committed_at txn.ending) (λ (rank : ℕ). IsSomeAnd (slice_get outcome.order rank)

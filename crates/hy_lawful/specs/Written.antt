@@ -62,6 +62,10 @@ abbrev pub new_in : Setting → List Entry → TxnOutcome → ℕ → ℕ
 new_in setting order txn table =
     count_by (λ (place : Place). place.table == table && is_none (cell_at setting order txn.start place.table place.pos)) txn.wrote
 
+-- a transaction wrote as many such positions of each table as it placed inserts there
+abbrev pub WritesWhatItPlaces : Setting → List Entry → TxnOutcome → Type 0
+WritesWhatItPlaces setting order txn = map (new_in setting order txn) (range_with_len 0 (length setting.first)) ≡ txn.placed
+
 -- ---- rows that stood at the start
 
 -- whether a statement is an UPDATE or DELETE of a table that selects what stands in a cell of it

@@ -37,8 +37,16 @@ pub mod PassSteps
 pub mod RunSweeps
 pub mod RunFree
 pub mod RunAnswers
-pub mod RunPlacing
 pub mod RunVisits
 pub mod RunInserts
 pub mod RunTurns
 pub mod RunStates
+pub mod WroteSweeps
+pub mod WroteStates
+pub mod WroteInserts
+pub mod WroteFollows
+pub mod WroteRows
+pub mod WroteEnds
+pub mod WroteSerial
+pub mod WroteCounts
+pub mod WroteNew

@@ -35,6 +35,7 @@ use Rattle.hy_lawful.proofs.PassTables.{tables_are}
 use Rattle.hy_lawful.proofs.PassStates.{EndPasses, Passes}
 use Rattle.hy_lawful.proofs.Lists.{one_of}
 use Rattle.hy_lawful.proofs.SerialTables.{opening_bags, opening_widths}
+use Rattle.hy_lawful.proofs.WroteStates.{EndedAllWrote}
 
 -- what is known of a state at its end
 pub record AtEnd (setting : Setting) (state : State) : Type 0 where
@@ -42,6 +43,7 @@ pub record AtEnd (setting : Setting) (state : State) : Type 0 where
   pub ran : AllHaveRun setting state
   pub unseen : AllPassedUnseen setting state
   pub passes : Passes setting state
+  pub wrote : EndedAllWrote setting state
   pub script : FitsScript setting.shapes (setting.chunks * setting.rows) setting.first setting.programs
 
 -- the laws of transactions over positions

@@ -36,3 +36,4 @@ pub mod RunVisits
 pub mod RunInserts
 pub mod RunTurns
 pub mod RunStates
+pub mod FullStarts

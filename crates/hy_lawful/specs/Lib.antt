@@ -5,6 +5,7 @@ pub mod Endings
 pub mod Lawful
 pub mod Cells
 pub mod Passing
+pub mod Overlaps
 pub mod Serial
 pub mod Reached
 pub mod Laws

@@ -21,7 +21,7 @@ comes_later low [] c i finished e = absurd cc
 comes_later low (first ∷ done) c zero finished e = subst (λ (f : Finished). low ≤ f.begun.prefix) (same_Some first finished e) c.0
 comes_later low (first ∷ done) c (suc i) finished e = omega (arith, c.0, c.1, comes_later (reach_of first) done c.2 i finished e)
 
-comes_behind : (low : ℕ) (done : List Finished) → Climbs low done → (i j : ℕ) (finished later : Finished) → slice_get done i ≡ Some finished
+pub comes_behind : (low : ℕ) (done : List Finished) → Climbs low done → (i j : ℕ) (finished later : Finished) → slice_get done i ≡ Some finished
     → slice_get done j ≡ Some later → i < j → (finished.begun.prefix ≤ reach_of finished) × (reach_of finished ≤ later.begun.prefix)
 comes_behind low [] c i j finished later e f below = absurd cc
 comes_behind low (first ∷ done) c zero zero finished later e f below = absurd (omega arith)

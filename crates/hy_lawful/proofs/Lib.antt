@@ -37,3 +37,4 @@ pub mod RunInserts
 pub mod RunTurns
 pub mod RunStates
 pub mod FullStarts
+pub mod FullOverlaps

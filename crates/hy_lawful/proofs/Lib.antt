@@ -38,3 +38,5 @@ pub mod RunTurns
 pub mod RunStates
 pub mod FullStarts
 pub mod FullOverlaps
+pub mod FullCounts
+pub mod FullPlaced

@@ -62,7 +62,7 @@ blank_cells zero pos = refl
 blank_cells (suc n) zero = refl
 blank_cells (suc n) (suc pos) = blank_cells n pos
 
-blank_items : (n : ℕ) (rows : List (List (List Value))) (table pos : ℕ) → item_at (map (λ one. replicate {A = Option Cell} n None) rows) table pos ≡ None
+pub blank_items : (n : ℕ) (rows : List (List (List Value))) (table pos : ℕ) → item_at (map (λ one. replicate {A = Option Cell} n None) rows) table pos ≡ None
 blank_items n [] table pos = refl
 blank_items n (one ∷ rows) zero pos = blank_cells n pos
 blank_items n (one ∷ rows) (suc table) pos = blank_items n rows table pos

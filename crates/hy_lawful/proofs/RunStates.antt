@@ -186,7 +186,7 @@ enters setting state number current o same =
     (λ other apart. session_grows setting state.order more other (session_at state other) (o.all other))
 
 -- the ended transactions and one more
-item_of_more : {X : Type 0} (xs : List X) (last : X) (i : ℕ) (x : X) → slice_get (xs ++ last ∷ []) i ≡ Some x
+pub item_of_more : {X : Type 0} (xs : List X) (last : X) (i : ℕ) (x : X) → slice_get (xs ++ last ∷ []) i ≡ Some x
     → (slice_get xs i ≡ Some x) ⊎ ((i ≡ length xs) × (last ≡ x))
 item_of_more [] last zero x e = inr (refl, same_Some last x e)
 item_of_more [] last (suc i) x e = absurd cc

@@ -6,6 +6,7 @@ pub mod Lawful
 pub mod Cells
 pub mod Passing
 pub mod Overlaps
+pub mod Rooms
 pub mod Serial
 pub mod Reached
 pub mod Laws

@@ -256,11 +256,11 @@ item_label (entry ∷ order) zero = refl
 item_label (entry ∷ order) (suc rank) = item_label order rank
 
 -- an open transaction may have been open with another one, wherever this begun one stands
-record MeetsOne (state : State) (number : ℕ) (current : Open) (other : Label) : Type 0 where
-  after : ℕ
-  begin : ℕ
-  is : other.txn ≡ suc after
-  overlap : Overlap state number (length (session_at state number).done) current.begun.prefix other.session after begin
+pub record MeetsOne (state : State) (number : ℕ) (current : Open) (other : Label) : Type 0 where
+  pub after : ℕ
+  pub begin : ℕ
+  pub is : other.txn ≡ suc after
+  pub overlap : Overlap state number (length (session_at state number).done) current.begun.prefix other.session after begin
 
 meets_open : (setting : Setting) (state : State) → Fits setting state → (number : ℕ) (current : Open) → (session_at state number).now ≡ Some current
     → (other : Label) → (other.session ≡ number → ⊥) → (now : Option Open) → (session_at state other.session).now ≡ now → NowStamps now ⊎ (now ≡ None → ⊥)
@@ -276,7 +276,7 @@ meets_open setting state fits number current is other apart (Some rival) e open_
   overlap = open_overlap setting state fits number current is other.session rival apart e;
 }
 
-meets_ranked : (setting : Setting) (state : State) → Fits setting state → (number : ℕ) (current : Open) → (session_at state number).now ≡ Some current
+pub meets_ranked : (setting : Setting) (state : State) → Fits setting state → (number : ℕ) (current : Open) → (session_at state number).now ≡ Some current
     → (other : Label) → (other.session ≡ number → ⊥) → (rank : ℕ) → current.begun.prefix ≤ rank → Ranked state rank other
     → MeetsOne state number current other
 meets_ranked setting state fits number current is other apart rank since (ended after rival t at ends) = record {

@@ -152,7 +152,7 @@ never_begins : (setting : Setting) (state : State) (number : ℕ) (current : Ope
     → turn ≡ Begins → ⊥
 never_begins setting state number current turn h e = subst (FitsTurn setting state number current.begun) e h
 
-begins_fresh : (setting : Setting) (state : State) (number : ℕ) (txn : Txn) → Fits setting state → txn_at setting number (session_at state number) ≡ Some txn
+pub begins_fresh : (setting : Setting) (state : State) (number : ℕ) (txn : Txn) → Fits setting state → txn_at setting number (session_at state number) ≡ Some txn
     → (now : Option Open) → (session_at state number).now ≡ now → session_turn setting state number (Some txn) now ≡ Begins → now ≡ None
 begins_fresh setting state number txn fits e None is b = refl
 begins_fresh setting state number txn fits e (Some current) is b =

@@ -40,3 +40,5 @@ pub mod FullStarts
 pub mod FullOverlaps
 pub mod FullCounts
 pub mod FullPlaced
+pub mod FullKeeps
+pub mod FullRoom

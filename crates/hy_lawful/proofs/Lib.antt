@@ -42,3 +42,4 @@ pub mod FullCounts
 pub mod FullPlaced
 pub mod FullKeeps
 pub mod FullRoom
+pub mod FullPassed

@@ -19,14 +19,14 @@ use Rattle.hy_lawful.proofs.PassHolds.{write_cases, written_is}
 
 -- ---- counts
 
-abbrev one_if : Bool → ℕ
+abbrev pub one_if : Bool → ℕ
 one_if b = cond b 1 0
 
 if_less : (b c : Bool) → (b ≡ true → c ≡ true) → one_if b ≤ one_if c
 if_less true c h = rw (h refl) omega arith
 if_less false c h = omega arith
 
-if_most : (b : Bool) → one_if b ≤ 1
+pub if_most : (b : Bool) → one_if b ≤ 1
 if_most true = omega arith
 if_most false = omega arith
 

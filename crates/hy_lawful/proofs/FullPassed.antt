@@ -128,7 +128,7 @@ work_goes setting state later g number before prefix visited (Some (Insert table
 work_goes setting state later g number before prefix visited (Some (Update table sets pred)) h = tt
 work_goes setting state later g number before prefix visited (Some (Delete table pred)) h = tt
 
-phase_goes : (setting : Setting) (state later : State) → Goes state later → (number before prefix : ℕ) (statement : Option Bound) (phase : Phase)
+pub phase_goes : (setting : Setting) (state later : State) → Goes state later → (number before prefix : ℕ) (statement : Option Bound) (phase : Phase)
     → PhaseRoom setting state number before prefix statement phase → PhaseRoom setting later number before prefix statement phase
 phase_goes setting state later g number before prefix statement (Working visited count) h =
     work_goes setting state later g number before prefix visited statement h
@@ -136,13 +136,13 @@ phase_goes setting state later g number before prefix statement (Stamping visite
 phase_goes setting state later g number before prefix statement (Undoing visited cause) h =
     end_goes setting state later g number before prefix (ending_of cause) h
 
-now_goes : (setting : Setting) (state later : State) → Goes state later → (number before : ℕ) (statements : List Bound) (now : Option Open)
+pub now_goes : (setting : Setting) (state later : State) → Goes state later → (number before : ℕ) (statements : List Bound) (now : Option Open)
     → NowRoom setting state number before statements now → NowRoom setting later number before statements now
 now_goes setting state later g number before statements None h = tt
 now_goes setting state later g number before statements (Some current) h =
     phase_goes setting state later g number before current.begun.prefix (present_statement statements current.begun) current.phase h
 
-done_goes : (setting : Setting) (state later : State) → Goes state later → (number before : ℕ) (done : List Finished) (now new : Option Open)
+pub done_goes : (setting : Setting) (state later : State) → Goes state later → (number before : ℕ) (done : List Finished) (now new : Option Open)
     → ((at : ℕ) → at ≡ before + length done → NowRoom setting state number at (statements_at setting number at) now
     → NowRoom setting later number at (statements_at setting number at) new)
     → DoneRoom setting state number before done now → DoneRoom setting later number before done new
@@ -152,7 +152,7 @@ done_goes setting state later g number before (finished ∷ done) now new f h = 
   done_goes setting state later g number (suc before) done now new (λ at e k. f at (omega (arith, e)) k) h.1,
 )
 
-ended_goes : (setting : Setting) (state later : State) → Goes state later → (number before : ℕ) (done : List Finished) (now : Option Open)
+pub ended_goes : (setting : Setting) (state later : State) → Goes state later → (number before : ℕ) (done : List Finished) (now : Option Open)
     (finished : Finished) → ((at : ℕ) → at ≡ before + length done → EndRoom setting state number at finished.begun.prefix finished.ending)
     → DoneRoom setting state number before done now → DoneRoom setting later number before (done ++ finished ∷ []) None
 ended_goes setting state later g number before [] now finished f h =
@@ -163,7 +163,7 @@ ended_goes setting state later g number before (first ∷ done) now finished f h
 )
 
 -- what is kept of the open one
-open_room : (setting : Setting) (state : State) (number before : ℕ) (done : List Finished) (now : Option Open) → DoneRoom setting state number before done now
+pub open_room : (setting : Setting) (state : State) (number before : ℕ) (done : List Finished) (now : Option Open) → DoneRoom setting state number before done now
     → NowRoom setting state number (before + length done) (statements_at setting number (before + length done)) now
 open_room setting state number before [] now h =
     subst (λ (n : ℕ). NowRoom setting state number n (statements_at setting number n) now) (let e : before ≡ before + 0 = omega arith in e) h
@@ -313,7 +313,7 @@ unless_room : (setting : Setting) (state : State) (number before prefix : ℕ) (
 unless_room setting state number before prefix statement turn None h = h
 unless_room setting state number before prefix statement turn (Some by) h = tt
 
-undo_room : (setting : Setting) (state : State) (number before prefix : ℕ) (statement : Option Bound) (begun : Begun) (visited : ℕ) (cause : Cause)
+pub undo_room : (setting : Setting) (state : State) (number before prefix : ℕ) (statement : Option Bound) (begun : Begun) (visited : ℕ) (cause : Cause)
     → EndRoom setting state number before prefix (ending_of cause)
     → RoomTurn setting state number before prefix statement (undo_turn setting state number begun visited cause)
 undo_room setting state number before prefix statement begun visited cause h = elim (cases_Bool (ltb visited (length (written_chunks setting begun.own)))) [
@@ -321,7 +321,7 @@ undo_room setting state number before prefix statement begun visited cause h = e
   | inr f ↦ rw f (unless_room setting state number before prefix statement (Ends (ending_of cause)) (blocker state number) h)
 ]
 
-stamp_room : (setting : Setting) (state : State) (number before prefix : ℕ) (statement : Option Bound) (begun : Begun) (visited : ℕ)
+pub stamp_room : (setting : Setting) (state : State) (number before prefix : ℕ) (statement : Option Bound) (begun : Begun) (visited : ℕ)
     → RoomTurn setting state number before prefix statement (stamp_turn setting state begun visited)
 stamp_room setting state number before prefix statement begun visited = elim (cases_Bool (ltb visited (length (written_chunks setting begun.own)))) [
   | inl t ↦ rw t tt
@@ -350,7 +350,7 @@ closing_room setting state number before prefix statement begun records true = e
 closing_room setting state number before prefix statement begun records false =
     undo_room setting state number before prefix statement begun 0 RolledBack tt
 
-working_room : (setting : Setting) (state : State) (number : ℕ) (txn : Txn) (current : Open) → AtWork setting state number current
+pub working_room : (setting : Setting) (state : State) (number : ℕ) (txn : Txn) (current : Open) → AtWork setting state number current
     → AllByRecursion (λ (of : Record). IsNumbered (length current.begun.replies) of.statement) current.begun.records → (visited count : ℕ)
     → (statement : Option Bound) → WorkRoom setting state number (length (session_at state number).done) current.begun.prefix visited statement
     → RoomTurn setting state number (length (session_at state number).done) current.begun.prefix statement

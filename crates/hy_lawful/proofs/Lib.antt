@@ -43,3 +43,5 @@ pub mod FullPlaced
 pub mod FullKeeps
 pub mod FullRoom
 pub mod FullPassed
+pub mod FullSteps
+pub mod FullTables

@@ -243,7 +243,7 @@ steps_more : (setting : Setting) (state : State) (numbers : List ℕ) (number : 
 steps_more setting state [] number = refl
 steps_more setting state (one ∷ numbers) number = steps_more setting (step_of setting state one).0 numbers number
 
-reached_step : (setting : Setting) (state : State) (number : ℕ) → IsReached setting state → IsReached setting (step_of setting state number).0
+pub reached_step : (setting : Setting) (state : State) (number : ℕ) → IsReached setting state → IsReached setting (step_of setting state number).0
 reached_step setting state number r = (
   r.0 ++ number ∷ [],
   ap (λ (one : State). (step_of setting one number).0) r.1 ∙ sym (steps_more setting (opening_of setting) r.0 number),

@@ -1,14 +1,18 @@
 -- Which transactions may have been open at a time, and which may have taken room from another, as far as an outcome tells.
-use Rattle.std.specs.Prelude.{◌≡◌, ℕ, ◌≤◌, List, Bool, true, false, not, ◌&&◌, ◌||◌, ◌==◌, nat_lt, nat_le, IsTrue, Option, None, Some, slice_get}
+use Rattle.std.specs.Prelude.{◌≡◌, ℕ, ◌+◌, ◌≤◌, List, [], Bool, true, false, not, ◌&&◌, ◌||◌, ◌==◌, nat_lt, nat_le, IsTrue, Option, None, Some, slice_get, slice_index_or}
+use Rattle.std.specs.Prelude.{length, filter, sum_by}
 use Rattle.std.specs.List.{list_all}
 use Rattle.std.specs.Option.{IsSomeAnd, option_map}
 use Rattle.hy_stamp.specs.declared.Label.{Label}
+use Rattle.hy_render.specs.declared.Ending.{Ending}
+use Rattle.hy_render.specs.declared.Ending.TheVariants.{Committed, Read, RolledBack, Conflict, Invalid, Range, Full}
 use Rattle.hy_render.specs.declared.TxnOutcome.{TxnOutcome}
 use Rattle.hy_render.specs.declared.Outcome.{Outcome}
 use Rattle.hy_machine.specs.declared.Setting.{Setting}
 use Rattle.hy_machine.specs.declared.State.{State}
 use Rattle.hy_machine.specs.declared.Open.{Open}
 use Rattle.hy_machine.specs.declared.Entry.{Entry}
+use Rattle.hy_machine.specs.Tables.{capacity}
 use Rattle.hy_machine.specs.Sessions.{session_at, label_of}
 use Rattle.hy_machine.specs.Outcomes.{outcome_of}
 use Rattle.hy_machine.specs.Runs.{after_steps, IsReached, all_ended_from}
@@ -58,3 +62,22 @@ OpenOnesOverlap = (setting : Setting) (state : State) (numbers : List ℕ) → I
     → all_ended_from setting 0 (after_steps setting state numbers).sessions ≡ true → (number : ℕ) (current : Open)
     → (session_at state number).now ≡ Some current → (other : Label) → (other.session ≡ number → ⊥) → IsThereSince state current.begun.prefix other
     → MayOverlap (outcome_of setting (after_steps setting state numbers)) (label_of number (session_at state number)) other
+
+-- ---- full tables
+
+-- a table is full for a transaction: its first rows, and what was placed in it by those that may have taken room, are at
+-- least as many as its positions
+abbrev pub IsFull : Setting → Outcome → TxnOutcome → ℕ → Type 0
+IsFull setting outcome txn table =
+    capacity setting ≤ length (slice_index_or setting.first table [])
+    + sum_by (λ (other : TxnOutcome). slice_index_or other.placed table 0) (filter (may_take_room outcome txn) outcome.txns)
+
+-- where an ending says that a table is full, it is
+abbrev pub NamesFull : Setting → Outcome → TxnOutcome → Ending → Type 0
+NamesFull setting outcome txn (Committed rank) = Unit {0}
+NamesFull setting outcome txn Read = Unit {0}
+NamesFull setting outcome txn RolledBack = Unit {0}
+NamesFull setting outcome txn (Conflict table pos other) = Unit {0}
+NamesFull setting outcome txn (Invalid table pos other statement) = Unit {0}
+NamesFull setting outcome txn (Range table pos) = Unit {0}
+NamesFull setting outcome txn (Full table) = IsFull setting outcome txn table

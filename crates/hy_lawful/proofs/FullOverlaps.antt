@@ -28,7 +28,7 @@ use Rattle.hy_lawful.proofs.Booleans.{and_left, and_right, and_true}
 use Rattle.hy_lawful.proofs.Fits.{label_at, reach, reach_of, OpenFits, NowFits, Ranked, ended, entered, NowStamps, Fits}
 use Rattle.hy_lawful.proofs.Followers.{comes_behind}
 use Rattle.hy_lawful.proofs.Lists.{kept_in_front, last_item, all_kept}
-use Rattle.hy_lawful.proofs.Laws.{done_fits}
+use Rattle.hy_lawful.proofs.Followers.{done_fits}
 use Rattle.hy_lawful.proofs.Opponents.{reached}
 use Rattle.hy_lawful.proofs.Outcomes.{each_outcome}
 use Rattle.hy_lawful.proofs.Over.{IsOver, HasEnded, is_over, txn_ended, outcome_has}

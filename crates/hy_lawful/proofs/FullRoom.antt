@@ -30,7 +30,7 @@ use Rattle.hy_lawful.specs.Rooms.{has_placed}
 use Rattle.hy_lawful.proofs.Booleans.{and_left, and_right, and_true}
 use Rattle.hy_lawful.proofs.Fits.{label_at, EndsAs, OpenFits, NowFits, PhaseFits, Ranked, ended, entered, NowStamps, top_of, Fits}
 use Rattle.hy_lawful.proofs.Grows.{grows_by}
-use Rattle.hy_lawful.proofs.Laws.{done_fits}
+use Rattle.hy_lawful.proofs.Followers.{done_fits}
 use Rattle.hy_lawful.proofs.Opponents.{ranked_apart}
 use Rattle.hy_lawful.proofs.PassStates.{Passed, EndPasses, OpenPasses, NowPasses, PhasePasses, Passes}
 use Rattle.hy_lawful.proofs.PassSteps.{one_of}

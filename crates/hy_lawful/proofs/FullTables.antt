@@ -5,6 +5,7 @@ use Rattle.std.proofs.Math.ListN.{get_or-eq_default}
 use Rattle.std.specs.Prelude.{slice_get, filter, find, sum_by, ◌&&◌, ◌||◌, ◌==◌}
 use Rattle.std.specs.List.{AllByRecursion, list_any}
 use Rattle.std.proofs.lemmas.Bool.{cases_Bool, cases_lt, eq-eqb, lt-ltb, ltb-true}
+use Rattle.std.proofs.lemmas.List.Sums.{sum_by-cons}
 use Rattle.std.proofs.lemmas.Option.{same_Some}
 use Rattle.hy_bound.specs.declared.Bound.{Bound}
 use Rattle.hy_stamp.specs.declared.Label.{Label}
@@ -28,7 +29,7 @@ use Rattle.hy_lawful.specs.Reached.{statements_at}
 use Rattle.hy_lawful.specs.Rooms.{how_many, has_placed}
 use Rattle.hy_lawful.proofs.Booleans.{and_left, and_true, or_first, or_second}
 use Rattle.hy_lawful.proofs.Fits.{FitsTables, OpenFits, NowFits, Fits}
-use Rattle.hy_lawful.proofs.Laws.{done_fits}
+use Rattle.hy_lawful.proofs.Followers.{done_fits}
 use Rattle.hy_lawful.proofs.Lists.{all_kept, all_so}
 use Rattle.hy_lawful.proofs.Outcomes.{each_outcome, outcome_found}
 use Rattle.hy_lawful.proofs.Over.{IsOver, HasCommitted, entry_committed}
@@ -64,13 +65,13 @@ or_either false b e = inr e
 any_many : {X : Type 0} (test : X → ℕ → Bool) (xs : List X) (n : ℕ)
     → how_many (λ pos. list_any (λ x. test x pos) xs) n ≤ sum_by (λ x. how_many (test x) n) xs
 any_many test [] n = let none : how_many (λ (pos : ℕ). false) n ≡ 0 = none_pass (λ pos. false) n (λ pos e. absurd cc) in omega (arith, none)
-any_many test (x ∷ xs) n = omega (arith, any_many test xs n,
+any_many test (x ∷ xs) n = omega (arith, any_many test xs n, sum_by-cons (λ x. how_many (test x) n) x xs,
     either (λ pos. test x pos || list_any (λ x. test x pos) xs) (test x) (λ pos. list_any (λ x. test x pos) xs) n
     (λ pos below h. or_either (test x pos) (list_any (λ x. test x pos) xs) h))
 
 sum_less : {X : Type 0} (f g : X → ℕ) (xs : List X) → AllByRecursion (λ x. f x ≤ g x) xs → sum_by f xs ≤ sum_by g xs
 sum_less f g [] h = omega arith
-sum_less f g (x ∷ xs) h = omega (arith, h.0, sum_less f g xs h.1)
+sum_less f g (x ∷ xs) h = omega (arith, h.0, sum_less f g xs h.1, sum_by-cons f x xs, sum_by-cons g x xs)
 
 -- an item that is found is among those that are kept
 any_kept : {X : Type 0} (p keep q : X → Bool) (xs : List X) (x : X) → find p xs ≡ Some x → keep x ≡ true → q x ≡ true

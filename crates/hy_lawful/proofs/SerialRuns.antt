@@ -37,7 +37,7 @@ use Rattle.hy_lawful.specs.Endings.{AnswersAll}
 use Rattle.hy_lawful.specs.Passing.{PassesBy, ChangesLieIn}
 use Rattle.hy_lawful.specs.Laws.{SerialRuns}
 use Rattle.hy_lawful.proofs.Fits.{Ends, IsCommitted, IsInvalid}
-use Rattle.hy_lawful.proofs.Laws.{done_fits}
+use Rattle.hy_lawful.proofs.Followers.{done_fits}
 use Rattle.hy_lawful.proofs.Outcomes.{each_outcome}
 use Rattle.hy_lawful.proofs.Over.{IsOver, HasCommitted, is_over, entry_committed}
 use Rattle.hy_lawful.proofs.Reached.{reached_fits}

@@ -1,13 +1,13 @@
 -- Counting positions that pass a test, and what the INSERTs of a transaction took.
-use Rattle.std.proofs.Common.{◌≡◌, ℕ, zero, suc, ◌+◌, ◌<◌, ◌≤◌, List, [], ◌∷◌, ◌++◌, Option, None, Some, Bool, true, false, not, is_some, length, cond, refl, ap, sym, ◌∙◌, subst, arith}
+use Rattle.std.proofs.Common.{◌≡◌, ℕ, zero, suc, ◌+◌, ◌<◌, ◌≤◌, List, [], ◌∷◌, ◌++◌, Option, Some, Bool, true, false, not, is_some, length, cond, refl, ap, sym, ◌∙◌, arith}
 use Rattle.std.proofs.Common.{inl, inr, ◌⊎◌}
-use Rattle.std.specs.Prelude.{slice_get, ◌&&◌, ◌||◌, ◌==◌}
-use Rattle.std.specs.List.{AllByRecursion, sum_by}
-use Rattle.std.proofs.lemmas.Bool.{cases_Bool, cases_eq, cases_lt, eq-eqb}
+use Rattle.std.specs.Prelude.{slice_get, ◌&&◌}
+use Rattle.std.specs.List.{AllByRecursion}
+use Rattle.std.proofs.lemmas.Bool.{cases_Bool, cases_eq, eq-eqb}
 use Rattle.std.proofs.lemmas.Option.{same_Some}
 use Rattle.hy_value.specs.declared.Value.{Value}
 use Rattle.hy_bound.specs.declared.Bound.{Bound}
-use Rattle.hy_bound.specs.declared.Bound.TheVariants.{Select, Group, Insert, Update, Delete}
+use Rattle.hy_bound.specs.declared.Bound.TheVariants.{Insert}
 use Rattle.hy_machine.specs.declared.Write.{Write}
 use Rattle.hy_machine.specs.Positions.{item_at}
 use Rattle.hy_machine.specs.Tables.{Cell, Tables, Own}

@@ -1,9 +1,8 @@
 -- The positions that an INSERT has passed are accounted for, and where a table is full all of its positions are: kept along steps.
-use Rattle.std.proofs.Common.{◌≡◌, ℕ, zero, suc, ◌+◌, ◌-◌, ◌*◌, ◌<◌, ◌≤◌, List, [], ◌∷◌, ◌++◌, Option, None, Some, Bool, true, false, not, is_some, Result, Ok, Err}
-use Rattle.std.proofs.Common.{length, map, drop, ltb, cond, refl, ap, sym, ◌∙◌, subst, arith, inl, inr, ◌⊎◌, mul-le-mul_right}
+use Rattle.std.proofs.Common.{◌≡◌, ℕ, zero, suc, ◌+◌, ◌-◌, ◌*◌, ◌<◌, ◌≤◌, List, [], ◌∷◌, ◌++◌, Option, None, Some, Bool, true, false, Result, Ok, Err}
+use Rattle.std.proofs.Common.{length, map, drop, ltb, cond, refl, ap, sym, ◌∙◌, subst, arith, inl, inr, mul-le-mul_right}
 use Rattle.std.specs.Prelude.{slice_get, find}
 use Rattle.std.specs.List.{AllByRecursion, range_with_len}
-use Rattle.std.specs.Option.{option_map}
 use Rattle.std.proofs.lemmas.Bool.{cases_Bool, cases_lt, ltb-true, ltb-false}
 use Rattle.hy_value.specs.declared.Value.{Value}
 use Rattle.hy_bound.specs.declared.Txn.{Txn}
@@ -25,7 +24,6 @@ use Rattle.hy_machine.specs.declared.Session.{Session}
 use Rattle.hy_machine.specs.declared.Open.{Open}
 use Rattle.hy_machine.specs.declared.Begun.{Begun}
 use Rattle.hy_machine.specs.declared.Finished.{Finished}
-use Rattle.hy_machine.specs.declared.Entry.{Entry}
 use Rattle.hy_machine.specs.declared.Write.{Write}
 use Rattle.hy_machine.specs.declared.Cause.{Cause}
 use Rattle.hy_machine.specs.declared.Cause.TheVariants.{RolledBack, Conflict, Invalid, Range, Full}
@@ -36,17 +34,14 @@ use Rattle.hy_machine.specs.declared.Turn.TheVariants.{Done, Waits, Begins, Visi
 use Rattle.hy_machine.specs.Positions.{item_at}
 use Rattle.hy_machine.specs.Tables.{capacity, positions_in}
 use Rattle.hy_machine.specs.Writes.{wrote_nothing, written_chunks}
-use Rattle.hy_machine.specs.Sessions.{session_at, txn_at, blocker, view}
+use Rattle.hy_machine.specs.Sessions.{session_at, blocker, view}
 use Rattle.hy_machine.specs.Holding.{opponent, is_free}
 use Rattle.hy_machine.specs.Validation.{committed_of, first_hit}
 use Rattle.hy_machine.specs.Visits.{verdict_at, swept, sees_key, free_position, checks_of}
 use Rattle.hy_machine.specs.Turns.{rows_seen, read_turn, write_turn, check_turn, place_turn, insert_turn, statement_turn, ending_of, unless_blocked}
-use Rattle.hy_machine.specs.Turns.{undo_turn, stamp_turn, validated_turn, commit_turn, closing_turn, working_turn, phase_turn, session_turn}
-use Rattle.hy_machine.specs.Outcomes.{statements_in}
-use Rattle.hy_machine.specs.Steps.{with_open, beginning, with_changed, with_ended, after_visit, after_answer, order_with, after_turn, step_of}
-use Rattle.hy_machine.specs.Runs.{opening_of, after_steps, IsReached}
+use Rattle.hy_machine.specs.Turns.{undo_turn, stamp_turn, validated_turn, closing_turn, working_turn}
 use Rattle.hy_lawful.specs.Reached.{statements_at}
-use Rattle.hy_lawful.proofs.Fits.{IsNumbered, OpenFits, NowFits, NowStamps, Fits}
+use Rattle.hy_lawful.proofs.Fits.{IsNumbered}
 use Rattle.hy_lawful.proofs.Refusals.{Refuses, verdict_refuses, sweep_refuses, first_hit_is}
 use Rattle.hy_lawful.proofs.FullRoom.{Accounted, accounted_goes, AtWork, taken_accounted}
 use Rattle.hy_lawful.proofs.FullKeeps.{Goes}

@@ -1,6 +1,6 @@
 -- What transactions placed is no more than what their INSERTs took: kept along steps.
-use Rattle.std.proofs.Common.{◌≡◌, ℕ, zero, suc, ◌+◌, ◌-◌, ◌*◌, ◌<◌, ◌≤◌, List, [], ◌∷◌, ◌++◌, Option, None, Some, Bool, true, false, not, is_some, Result, Ok, Err}
-use Rattle.std.proofs.Common.{length, map, drop, ltb, cond, refl, ap, sym, ◌∙◌, subst, arith, inl, inr, ◌⊎◌}
+use Rattle.std.proofs.Common.{◌≡◌, ℕ, suc, ◌+◌, ◌-◌, ◌*◌, ◌<◌, ◌≤◌, List, [], ◌∷◌, ◌++◌, Option, None, Some, Bool, true, false, not, is_some, Result, Ok, Err}
+use Rattle.std.proofs.Common.{length, map, drop, ltb, refl, ap, sym, ◌∙◌, subst, arith, inl, inr, ◌⊎◌}
 use Rattle.std.specs.Prelude.{slice_get}
 use Rattle.std.specs.Option.{option_map}
 use Rattle.std.proofs.lemmas.Bool.{cases_Bool}
@@ -34,7 +34,7 @@ use Rattle.hy_machine.specs.declared.Phase.TheVariants.{Working, Stamping, Undoi
 use Rattle.hy_machine.specs.declared.Turn.{Turn}
 use Rattle.hy_machine.specs.declared.Turn.TheVariants.{Done, Waits, Begins, Visits, Answers, Enters, Ends}
 use Rattle.hy_machine.specs.Positions.{item_at}
-use Rattle.hy_machine.specs.Tables.{Cell, Tables, Own, capacity, positions_in, covered}
+use Rattle.hy_machine.specs.Tables.{Cell, Tables, capacity, positions_in, covered}
 use Rattle.hy_machine.specs.Writes.{with_writes, wrote_nothing, written_chunks, blank_own}
 use Rattle.hy_machine.specs.Sessions.{session_at, txn_at, blocker, view, entry_of}
 use Rattle.hy_machine.specs.Holding.{opponent}

@@ -1,11 +1,10 @@
 -- A position that isn't free for an INSERT is accounted for: it is a first row's, or was placed by the transaction itself, by
 -- one that stands before its start, or by one that may have been open with it.
-use Rattle.std.proofs.Common.{◌≡◌, ℕ, zero, suc, ◌+◌, ◌-◌, ◌<◌, ◌≤◌, List, [], ◌∷◌, ◌++◌, Option, None, Some, Bool, true, false, not, is_some, get_or, length, map, drop, refl, ap, sym, ◌∙◌}
-use Rattle.std.proofs.Common.{subst, arith, inl, inr, ◌⊎◌, zero-add}
+use Rattle.std.proofs.Common.{◌≡◌, ℕ, zero, suc, ◌+◌, ◌-◌, ◌<◌, ◌≤◌, List, [], ◌∷◌, Option, None, Some, Bool, true, false, not, is_some, get_or, length, map, drop, refl, ap, sym, ◌∙◌}
+use Rattle.std.proofs.Common.{subst, arith, inl, inr, ◌⊎◌}
 use Rattle.std.specs.Prelude.{slice_get, IfSome, ◌&&◌, ◌||◌}
 use Rattle.std.specs.List.{list_any, range_with_len}
-use Rattle.std.proofs.lemmas.Bool.{cases_Bool, cases_lt, cases_eq}
-use Rattle.std.proofs.lemmas.List.{length-append}
+use Rattle.std.proofs.lemmas.Bool.{cases_lt, cases_eq}
 use Rattle.hy_value.specs.declared.Value.{Value}
 use Rattle.hy_stamp.specs.declared.Label.{Label}
 use Rattle.hy_render.specs.declared.Ending.{Ending}
@@ -15,26 +14,24 @@ use Rattle.hy_machine.specs.declared.State.{State}
 use Rattle.hy_machine.specs.declared.Session.{Session}
 use Rattle.hy_machine.specs.declared.Open.{Open}
 use Rattle.hy_machine.specs.declared.Begun.{Begun}
-use Rattle.hy_machine.specs.declared.Finished.{Finished}
 use Rattle.hy_machine.specs.declared.Entry.{Entry}
 use Rattle.hy_machine.specs.declared.Pair.{Pair}
 use Rattle.hy_machine.specs.declared.Phase.{Phase}
 use Rattle.hy_machine.specs.declared.Phase.TheVariants.{Working, Stamping, Undoing}
 use Rattle.hy_machine.specs.Positions.{item_at}
-use Rattle.hy_machine.specs.Tables.{Cell, Tables, chunk_of, covered, laid_out, opening_tables, capacity}
+use Rattle.hy_machine.specs.Tables.{Cell, Tables, chunk_of, laid_out, capacity}
 use Rattle.hy_machine.specs.Writes.{written_chunks, is_among}
 use Rattle.hy_machine.specs.Sessions.{fresh, session_at, snapshot}
 use Rattle.hy_machine.specs.Holding.{undone, holds, is_held, has_pair, is_free}
 use Rattle.hy_lawful.specs.Outcomes.{committed_at}
-use Rattle.hy_lawful.specs.Rooms.{has_placed}
-use Rattle.hy_lawful.proofs.Booleans.{and_left, and_right, and_true}
+use Rattle.hy_lawful.proofs.Booleans.{and_left}
 use Rattle.hy_lawful.proofs.Fits.{label_at, EndsAs, OpenFits, NowFits, PhaseFits, Ranked, ended, entered, NowStamps, top_of, Fits}
 use Rattle.hy_lawful.proofs.Grows.{grows_by}
 use Rattle.hy_lawful.proofs.Followers.{done_fits}
 use Rattle.hy_lawful.proofs.Opponents.{ranked_apart}
 use Rattle.hy_lawful.proofs.PassStates.{Passed, EndPasses, OpenPasses, NowPasses, PhasePasses, Passes}
 use Rattle.hy_lawful.proofs.PassSteps.{one_of}
-use Rattle.hy_lawful.proofs.PassTables.{tables_at, cell_at, pair_at, cell_next, tables_grow}
+use Rattle.hy_lawful.proofs.PassTables.{cell_at, pair_at, cell_next, tables_grow}
 use Rattle.hy_lawful.proofs.FullKeeps.{beguns_from, beguns_of, HasBegun, ended_begun, open_begun, StillHas, Goes}
 use Rattle.hy_lawful.proofs.FullOverlaps.{Overlap, overlap_later, open_overlap, MeetsOne, meets_ranked}
 

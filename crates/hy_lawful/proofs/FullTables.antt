@@ -1,14 +1,13 @@
 -- Where a transaction was told that a table is full, the first rows and what may have taken room are at least as many as its positions.
-use Rattle.std.proofs.Common.{◌≡◌, ℕ, zero, suc, ◌+◌, ◌-◌, ◌*◌, ◌<◌, ◌≤◌, List, [], ◌∷◌, ◌++◌, Option, None, Some, Bool, true, false, not, is_some, ltb, cond, get_or, length, refl, ap, sym, ◌∙◌, subst, arith}
+use Rattle.std.proofs.Common.{◌≡◌, ℕ, zero, suc, ◌+◌, ◌<◌, ◌≤◌, List, [], ◌∷◌, Option, None, Some, Bool, true, false, not, is_some, ltb, cond, get_or, length, refl, ap, sym, ◌∙◌, subst, arith}
 use Rattle.std.proofs.Common.{inl, inr, ◌⊎◌}
 use Rattle.std.proofs.Math.ListN.{get_or-eq_default}
-use Rattle.std.specs.Prelude.{slice_get, filter, find, sum_by, ◌&&◌, ◌||◌, ◌==◌}
+use Rattle.std.specs.Prelude.{slice_get, filter, find, sum_by, ◌||◌, ◌==◌}
 use Rattle.std.specs.List.{AllByRecursion, list_any}
 use Rattle.std.proofs.lemmas.Bool.{cases_Bool, cases_lt, eq-eqb, lt-ltb, ltb-true}
 use Rattle.std.proofs.lemmas.List.Sums.{sum_by-cons}
 use Rattle.std.proofs.lemmas.Option.{same_Some}
 use Rattle.hy_bound.specs.declared.Bound.{Bound}
-use Rattle.hy_stamp.specs.declared.Label.{Label}
 use Rattle.hy_render.specs.declared.Ending.{Ending}
 use Rattle.hy_render.specs.declared.Ending.TheVariants.{Committed, Read, RolledBack, Conflict, Invalid, Range, Full}
 use Rattle.hy_render.specs.declared.TxnOutcome.{TxnOutcome}
@@ -19,12 +18,12 @@ use Rattle.hy_machine.specs.declared.Open.{Open}
 use Rattle.hy_machine.specs.declared.Begun.{Begun}
 use Rattle.hy_machine.specs.declared.Finished.{Finished}
 use Rattle.hy_machine.specs.Positions.{item_at}
-use Rattle.hy_machine.specs.Tables.{Cell, Own, capacity}
+use Rattle.hy_machine.specs.Tables.{Cell, capacity}
 use Rattle.hy_machine.specs.Sessions.{session_at, snapshot}
 use Rattle.hy_machine.specs.Outcomes.{placed_in, placed_from, txn_outcome_of, outcome_of}
 use Rattle.hy_machine.specs.Runs.{IsReached}
-use Rattle.hy_lawful.specs.Outcomes.{is_label, outcome_at, committed_at}
-use Rattle.hy_lawful.specs.Overlaps.{is_below, stands_before, may_overlap, may_take_room, IsFull, NamesFull}
+use Rattle.hy_lawful.specs.Outcomes.{is_label, committed_at}
+use Rattle.hy_lawful.specs.Overlaps.{is_below, may_take_room, IsFull, NamesFull}
 use Rattle.hy_lawful.specs.Reached.{statements_at}
 use Rattle.hy_lawful.specs.Rooms.{how_many, has_placed}
 use Rattle.hy_lawful.proofs.Booleans.{and_left, and_true, or_first, or_second}
@@ -33,8 +32,8 @@ use Rattle.hy_lawful.proofs.Followers.{done_fits}
 use Rattle.hy_lawful.proofs.Lists.{all_kept, all_so}
 use Rattle.hy_lawful.proofs.Outcomes.{each_outcome, outcome_found}
 use Rattle.hy_lawful.proofs.Over.{IsOver, HasCommitted, entry_committed}
-use Rattle.hy_lawful.proofs.FullCounts.{one_if, if_most, fewer, either, none_pass}
-use Rattle.hy_lawful.proofs.FullKeeps.{beguns_from, HasBegun}
+use Rattle.hy_lawful.proofs.FullCounts.{one_if, if_most, either, none_pass}
+use Rattle.hy_lawful.proofs.FullKeeps.{beguns_from}
 use Rattle.hy_lawful.proofs.FullOverlaps.{Overlap, overlap_told}
 use Rattle.hy_lawful.proofs.FullPlaced.{reached_placed}
 use Rattle.hy_lawful.proofs.FullRoom.{Placed, Accounted, of_first, of_own, of_earlier, of_rival}

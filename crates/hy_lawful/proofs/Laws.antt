@@ -13,9 +13,7 @@ use Rattle.hy_render.specs.declared.Committed.{Committed as Committing}
 use Rattle.hy_render.specs.declared.Outcome.{Outcome}
 use Rattle.hy_machine.specs.declared.Setting.{Setting}
 use Rattle.hy_machine.specs.declared.State.{State}
-use Rattle.hy_machine.specs.declared.Finished.{Finished}
 use Rattle.hy_machine.specs.declared.Entry.{Entry}
-use Rattle.hy_machine.specs.Sessions.{session_at}
 use Rattle.hy_machine.specs.Validation.{committed_of}
 use Rattle.hy_machine.specs.Outcomes.{txn_outcome_of, outcome_of}
 use Rattle.hy_machine.specs.Runs.{IsReached, all_ended_from}
@@ -24,8 +22,7 @@ use Rattle.hy_lawful.specs.Positions.{ArePositions, places_of}
 use Rattle.hy_lawful.specs.Endings.{MayEnd}
 use Rattle.hy_lawful.specs.Lawful.{StandsAt, Follows, Lawful}
 use Rattle.hy_lawful.proofs.Lists.{all_so, all_mapped, all_kept, item_at_number}
-use Rattle.hy_lawful.proofs.Fits.{label_at, FitsTables, DoneFits}
-use Rattle.hy_lawful.proofs.Fits.{Fits}
+use Rattle.hy_lawful.proofs.Fits.{label_at, FitsTables}
 use Rattle.hy_lawful.proofs.Places.{written_positions, changed_positions}
 use Rattle.hy_lawful.proofs.Reached.{reached_fits}
 use Rattle.hy_lawful.proofs.Outcomes.{each_outcome, each_entry, labels_all}

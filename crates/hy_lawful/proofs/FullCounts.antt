@@ -1,5 +1,6 @@
 -- Counting positions that pass a test, and what the INSERTs of a transaction took.
-use Rattle.std.proofs.Common.{◌≡◌, ℕ, zero, suc, ◌+◌, ◌<◌, ◌≤◌, List, [], ◌∷◌, ◌++◌, Option, Some, Bool, true, false, not, is_some, length, cond, refl, ap, sym, ◌∙◌, arith}
+use Rattle.std.proofs.Common.{◌≡◌, ℕ, zero, suc, ◌+◌, ◌<◌, ◌≤◌, List, [], ◌∷◌, ◌++◌, Option, Some, Bool, true, false, not, is_some, length, cond}
+use Rattle.std.proofs.Common.{refl, ap, sym, ◌∙◌, arith}
 use Rattle.std.proofs.Common.{inl, inr, ◌⊎◌}
 use Rattle.std.specs.Prelude.{slice_get, ◌&&◌}
 use Rattle.std.specs.List.{AllByRecursion}
@@ -76,7 +77,8 @@ pub took_more : (table : ℕ) (statements : List Bound) (took : List (Option ℕ
     → placed_in table statements (took ++ at ∷ []) ≡ placed_in table statements took + placed_by table statement at
 took_more table [] took at statement e = absurd cc
 took_more table (first ∷ statements) [] at statement e =
-    ap (λ (one : Bound). placed_by table one at + placed_in table statements []) (same_Some first statement e) ∙ rest (placed_by table statement at) statements
+    ap (λ (one : Bound). placed_by table one at + placed_in table statements []) (same_Some first statement e)
+    ∙ rest (placed_by table statement at) statements
   where
     none_left : (statements : List Bound) → placed_in table statements [] ≡ 0
     none_left [] = refl
@@ -125,10 +127,17 @@ pub insert_count : (tables : Tables) (own : Own) (of at : ℕ) (row : List Value
 insert_count tables own of at row table n = elim (cases_eq table of) [
   | inl same ↦
       let taken : placed_by table (Insert of row) (Some at) ≡ 1 = ap one_if (eq-eqb of table (sym same)) in
-      omega (arith, taken, one_more (has_placed tables (with_write own write) table) (has_placed tables own table) at n
-      (λ pos away h. kept pos h (λ e. away e.1)))
-  | inr apart ↦ omega (arith, fewer (has_placed tables (with_write own write) table) (has_placed tables own table) n
-      (λ pos below h. kept pos h (λ e. apart e.0)))
+      omega (
+        arith,
+        taken,
+        one_more (has_placed tables (with_write own write) table) (has_placed tables own table) at n
+            (λ pos away h. kept pos h (λ e. away e.1)),
+      )
+  | inr apart ↦ omega (
+    arith,
+    fewer (has_placed tables (with_write own write) table) (has_placed tables own table) n
+        (λ pos below h. kept pos h (λ e. apart e.0)),
+  )
 ]
   where
     write : Write

@@ -1,5 +1,6 @@
 -- A begun transaction stays begun along steps, with its start, and what it wrote stays written.
-use Rattle.std.proofs.Common.{◌≡◌, ℕ, zero, suc, ◌<◌, List, [], ◌∷◌, ◌++◌, Option, None, Some, true, is_some, get_or, length, refl, ap, sym, ◌∙◌, subst, arith}
+use Rattle.std.proofs.Common.{◌≡◌, ℕ, zero, suc, ◌<◌, List, [], ◌∷◌, ◌++◌, Option, None, Some, true, is_some, get_or, length, refl, ap, sym, ◌∙◌}
+use Rattle.std.proofs.Common.{subst, arith}
 use Rattle.std.proofs.Common.{inl, inr}
 use Rattle.std.proofs.Math.ListN.{set}
 use Rattle.std.specs.Prelude.{slice_get}
@@ -113,8 +114,11 @@ changed_still : (change : Open → Open) → ((current : Open) → GoneOn curren
     → StillHas (beguns_from done (option_map change now)) before begun
 changed_still change gone [] None before begun e = absurd cc
 changed_still change gone [] (Some current) zero begun e =
-    record { later = (change current).begun; has = refl;
-    gone = subst (λ (b : Begun). GoneOn b (change current).begun) (same_Some current.begun begun e) (gone current) }
+    record {
+      later = (change current).begun;
+      has = refl;
+      gone = subst (λ (b : Begun). GoneOn b (change current).begun) (same_Some current.begun begun e) (gone current);
+    }
 changed_still change gone [] (Some current) (suc before) begun e = absurd cc
 changed_still change gone (finished ∷ done) now zero begun e =
     record { later = finished.begun; has = refl; gone = gone_none begun finished.begun (sym (same_Some finished.begun begun e)) }

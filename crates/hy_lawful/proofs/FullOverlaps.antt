@@ -1,5 +1,6 @@
 -- Transactions that are open at a time may have been so, as far as the outcome tells in the end.
-use Rattle.std.proofs.Common.{◌≡◌, ℕ, zero, suc, ◌+◌, ◌<◌, ◌≤◌, List, [], ◌∷◌, ◌++◌, Option, None, Some, Bool, true, not, get_or, length, map, refl, ap, sym, ◌∙◌, subst, arith}
+use Rattle.std.proofs.Common.{◌≡◌, ℕ, zero, suc, ◌+◌, ◌<◌, ◌≤◌, List, [], ◌∷◌, ◌++◌, Option, None, Some, Bool, true, not, get_or, length, map, refl}
+use Rattle.std.proofs.Common.{ap, sym, ◌∙◌, subst, arith}
 use Rattle.std.proofs.Common.{inl, inr, ◌⊎◌}
 use Rattle.std.specs.Prelude.{slice_get, nat_lt, nat_le, ◌==◌, IsTrue, ◌&&◌}
 use Rattle.std.specs.Option.{option_map, IsSomeAnd}
@@ -126,7 +127,8 @@ starts_behind setting state fits number before finished at after start below e =
       | inl front ↦ behind start (sym (in_front front) ∙ e)
       | inr past ↦ absurd (let within : after < length (starts_of session) = slice_get_within (starts_of session) after start e in
           let long : length (starts_of session) ≡ length (ended_starts session) + 0 =
-          length-append (ended_starts session) (now_starts session.now) ∙ ap (λ (now : Option Open). length (ended_starts session) + length (now_starts now)) is in
+          length-append (ended_starts session) (now_starts session.now)
+          ∙ ap (λ (now : Option Open). length (ended_starts session) + length (now_starts now)) is in
           omega (arith, within, long, past))
     ]
     by_now (Some current) is = elim (cases_lt after (length (ended_starts session))) [
@@ -134,7 +136,8 @@ starts_behind setting state fits number before finished at after start below e =
       | inr past ↦
           let within : after < length (starts_of session) = slice_get_within (starts_of session) after start e in
           let long : length (starts_of session) ≡ length (ended_starts session) + 1 =
-          length-append (ended_starts session) (now_starts session.now) ∙ ap (λ (now : Option Open). length (ended_starts session) + length (now_starts now)) is in
+          length-append (ended_starts session) (now_starts session.now)
+          ∙ ap (λ (now : Option Open). length (ended_starts session) + length (now_starts now)) is in
           let last : length session.done ≡ after = omega (arith, within, long, past, ended_long session) in
           let same : current.begun.prefix ≡ start = same_Some current.begun.prefix start
           (sym (open_starts_at session current is) ∙ (ap (slice_get (starts_of session)) last ∙ e)) in

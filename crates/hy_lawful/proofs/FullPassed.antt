@@ -158,7 +158,8 @@ ended_goes setting state later g number before (first ∷ done) now finished f h
 )
 
 -- what is kept of the open one
-pub open_room : (setting : Setting) (state : State) (number before : ℕ) (done : List Finished) (now : Option Open) → DoneRoom setting state number before done now
+pub open_room : (setting : Setting) (state : State) (number before : ℕ) (done : List Finished) (now : Option Open)
+    → DoneRoom setting state number before done now
     → NowRoom setting state number (before + length done) (statements_at setting number (before + length done)) now
 open_room setting state number before [] now h =
     subst (λ (n : ℕ). NowRoom setting state number n (statements_at setting number n) now) (let e : before ≡ before + 0 = omega arith in e) h

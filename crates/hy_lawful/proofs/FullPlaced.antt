@@ -1,5 +1,6 @@
 -- What transactions placed is no more than what their INSERTs took: kept along steps.
-use Rattle.std.proofs.Common.{◌≡◌, ℕ, suc, ◌+◌, ◌-◌, ◌*◌, ◌<◌, ◌≤◌, List, [], ◌∷◌, ◌++◌, Option, None, Some, Bool, true, false, not, is_some, Result, Ok, Err}
+use Rattle.std.proofs.Common.{◌≡◌, ℕ, suc, ◌+◌, ◌-◌, ◌*◌, ◌<◌, ◌≤◌, List, [], ◌∷◌, ◌++◌, Option, None, Some, Bool, true, false, not, is_some, Result}
+use Rattle.std.proofs.Common.{Ok, Err}
 use Rattle.std.proofs.Common.{length, map, drop, ltb, refl, ap, sym, ◌∙◌, subst, arith, inl, inr, ◌⊎◌}
 use Rattle.std.specs.Prelude.{slice_get}
 use Rattle.std.specs.Option.{option_map}
@@ -283,8 +284,12 @@ answer_counted setting order statements current writes reply took records h c = 
   start = c.start;
   long = omega (arith, c.long, length-append current.begun.took (took ∷ []), length-append current.begun.replies (reply ∷ []));
   few = λ table. elim h [
-    | inl rowed ↦ omega (arith, c.few table, rowed_count tables current.begun.own writes rowed table (capacity setting),
-        took_least table statements current.begun.took took)
+    | inl rowed ↦ omega (
+      arith,
+      c.few table,
+      rowed_count tables current.begun.own writes rowed table (capacity setting),
+      took_least table statements current.begun.took took,
+    )
     | inr takes ↦ by_takes table takes
   ];
 }

@@ -1,6 +1,7 @@
 -- A position that isn't free for an INSERT is accounted for: it is a first row's, or was placed by the transaction itself, by
 -- one that stands before its start, or by one that may have been open with it.
-use Rattle.std.proofs.Common.{◌≡◌, ℕ, zero, suc, ◌+◌, ◌-◌, ◌<◌, ◌≤◌, List, [], ◌∷◌, Option, None, Some, Bool, true, false, not, is_some, get_or, length, map, drop, refl, ap, sym, ◌∙◌}
+use Rattle.std.proofs.Common.{◌≡◌, ℕ, zero, suc, ◌+◌, ◌-◌, ◌<◌, ◌≤◌, List, [], ◌∷◌, Option, None, Some, Bool, true, false, not, is_some, get_or}
+use Rattle.std.proofs.Common.{length, map, drop, refl, ap, sym, ◌∙◌}
 use Rattle.std.proofs.Common.{subst, arith, inl, inr, ◌⊎◌}
 use Rattle.std.specs.Prelude.{slice_get, IfSome, ◌&&◌, ◌||◌}
 use Rattle.std.specs.List.{list_any, range_with_len}
@@ -122,7 +123,9 @@ entered_open setting state fits passes rank label r t (Some current) e s = by_ph
               (length (session_at state label.session).done)) e
               ∙ open_begun (session_at state label.session).done current;
           passed = subst (Passed setting state.order current.begun) last (subst (PhasePasses setting state.order current.begun) p passing.phase);
-          later = let ends = subst (PhaseFits setting state.order state.mark label.session (length (session_at state label.session).done) current.begun) p present.phase in
+          later =
+              let ends = subst (PhaseFits setting state.order state.mark label.session (length (session_at state label.session).done) current.begun)
+              p present.phase in
               let from : current.begun.prefix ≤ length state.order - 1 = ends.1.later in omega (arith, from, last);
         }
 

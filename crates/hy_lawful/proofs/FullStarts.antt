@@ -1,5 +1,6 @@
 -- The starts of a session's transactions: steps add none but those at the end of the commit order.
-use Rattle.std.proofs.Common.{◌≡◌, ℕ, zero, suc, ◌+◌, ◌-◌, ◌<◌, ◌≤◌, List, [], ◌∷◌, ◌++◌, Option, None, Some, get_or, length, map, refl, ap, sym, ◌∙◌, subst, arith}
+use Rattle.std.proofs.Common.{◌≡◌, ℕ, zero, suc, ◌+◌, ◌-◌, ◌<◌, ◌≤◌, List, [], ◌∷◌, ◌++◌, Option, None, Some, get_or, length, map, refl, ap, sym, ◌∙◌}
+use Rattle.std.proofs.Common.{subst, arith}
 use Rattle.std.proofs.Common.{inl, inr, ◌⊎◌}
 use Rattle.std.specs.Prelude.{slice_get}
 use Rattle.std.specs.Option.{option_map}
@@ -152,7 +153,8 @@ never_begins : (setting : Setting) (state : State) (number : ℕ) (current : Ope
     → turn ≡ Begins → ⊥
 never_begins setting state number current turn h e = subst (FitsTurn setting state number current.begun) e h
 
-pub begins_fresh : (setting : Setting) (state : State) (number : ℕ) (txn : Txn) → Fits setting state → txn_at setting number (session_at state number) ≡ Some txn
+pub begins_fresh : (setting : Setting) (state : State) (number : ℕ) (txn : Txn) → Fits setting state
+    → txn_at setting number (session_at state number) ≡ Some txn
     → (now : Option Open) → (session_at state number).now ≡ now → session_turn setting state number (Some txn) now ≡ Begins → now ≡ None
 begins_fresh setting state number txn fits e None is b = refl
 begins_fresh setting state number txn fits e (Some current) is b =

@@ -1,5 +1,6 @@
 -- In each state that the machine comes to, a table that was full for a transaction has all of its positions accounted for.
-use Rattle.std.proofs.Common.{◌≡◌, ℕ, zero, suc, ◌+◌, ◌-◌, ◌*◌, ◌<◌, List, [], ◌∷◌, ◌++◌, Option, None, Some, length, refl, ap, sym, ◌∙◌, subst, arith}
+use Rattle.std.proofs.Common.{◌≡◌, ℕ, zero, suc, ◌+◌, ◌-◌, ◌*◌, ◌<◌, List, [], ◌∷◌, ◌++◌, Option, None, Some, length, refl, ap, sym, ◌∙◌, subst}
+use Rattle.std.proofs.Common.{arith}
 use Rattle.std.specs.Prelude.{slice_get}
 use Rattle.std.specs.List.{AllByRecursion}
 use Rattle.std.specs.Option.{option_map}
@@ -34,10 +35,12 @@ use Rattle.hy_lawful.proofs.PassSteps.{reached_passes, reached_step}
 use Rattle.hy_lawful.proofs.Reached.{fresh_at, is_there, reached_fits}
 use Rattle.hy_lawful.proofs.Turns.{FitsTurn, phase_fits}
 use Rattle.hy_lawful.proofs.FullKeeps.{Goes, step_goes}
-use Rattle.hy_lawful.proofs.FullPassed.{WorkRoom, PhaseRoom, NowRoom, DoneRoom, SessionRoom, AllRoom, EndRoom, RoomTurn, present_statement, now_goes, done_goes, ended_goes}
+use Rattle.hy_lawful.proofs.FullPassed.{WorkRoom, PhaseRoom, NowRoom, DoneRoom, SessionRoom, AllRoom, EndRoom, RoomTurn, present_statement, now_goes}
+use Rattle.hy_lawful.proofs.FullPassed.{done_goes, ended_goes}
 use Rattle.hy_lawful.proofs.FullPassed.{phase_goes, open_room, working_room, undo_room, stamp_room}
 
-work_zero : (setting : Setting) (state : State) (number before prefix : ℕ) (statement : Option Bound) → WorkRoom setting state number before prefix 0 statement
+work_zero : (setting : Setting) (state : State) (number before prefix : ℕ) (statement : Option Bound)
+    → WorkRoom setting state number before prefix 0 statement
 work_zero setting state number before prefix None = tt
 work_zero setting state number before prefix (Some (Select tables ons pred items)) = tt
 work_zero setting state number before prefix (Some (Group table pred key aggregate)) = tt
@@ -144,7 +147,8 @@ turn_room setting state number current there all is (Ends ending) f h g =
 
 begins_unless : (setting : Setting) (state : State) (number : ℕ) (by : Option Label) → AllRoom setting state
     → (Goes state (after_turn setting state number Begins).0 → AllRoom setting (after_turn setting state number Begins).0)
-    → Goes state (after_turn setting state number (unless_blocked by Begins)).0 → AllRoom setting (after_turn setting state number (unless_blocked by Begins)).0
+    → Goes state (after_turn setting state number (unless_blocked by Begins)).0
+    → AllRoom setting (after_turn setting state number (unless_blocked by Begins)).0
 begins_unless setting state number None all h g = h g
 begins_unless setting state number (Some by) all h g = all
 

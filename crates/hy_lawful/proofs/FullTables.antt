@@ -1,5 +1,6 @@
 -- Where a transaction was told that a table is full, the first rows and what may have taken room are at least as many as its positions.
-use Rattle.std.proofs.Common.{◌≡◌, ℕ, zero, suc, ◌+◌, ◌<◌, ◌≤◌, List, [], ◌∷◌, Option, None, Some, Bool, true, false, not, is_some, ltb, cond, get_or, length, refl, ap, sym, ◌∙◌, subst, arith}
+use Rattle.std.proofs.Common.{◌≡◌, ℕ, zero, suc, ◌+◌, ◌<◌, ◌≤◌, List, [], ◌∷◌, Option, None, Some, Bool, true, false, not, is_some, ltb, cond, get_or}
+use Rattle.std.proofs.Common.{length, refl, ap, sym, ◌∙◌, subst, arith}
 use Rattle.std.proofs.Common.{inl, inr, ◌⊎◌}
 use Rattle.std.proofs.Math.ListN.{get_or-eq_default}
 use Rattle.std.specs.Prelude.{slice_get, filter, find, sum_by, ◌||◌, ◌==◌}
@@ -64,9 +65,13 @@ or_either false b e = inr e
 any_many : {X : Type 0} (test : X → ℕ → Bool) (xs : List X) (n : ℕ)
     → how_many (λ pos. list_any (λ x. test x pos) xs) n ≤ sum_by (λ x. how_many (test x) n) xs
 any_many test [] n = let none : how_many (λ (pos : ℕ). false) n ≡ 0 = none_pass (λ pos. false) n (λ pos e. absurd cc) in omega (arith, none)
-any_many test (x ∷ xs) n = omega (arith, any_many test xs n, sum_by-cons (λ x. how_many (test x) n) x xs,
-    either (λ pos. test x pos || list_any (λ x. test x pos) xs) (test x) (λ pos. list_any (λ x. test x pos) xs) n
-    (λ pos below h. or_either (test x pos) (list_any (λ x. test x pos) xs) h))
+any_many test (x ∷ xs) n = omega (
+  arith,
+  any_many test xs n,
+  sum_by-cons (λ x. how_many (test x) n) x xs,
+  either (λ pos. test x pos || list_any (λ x. test x pos) xs) (test x) (λ pos. list_any (λ x. test x pos) xs) n
+      (λ pos below h. or_either (test x pos) (list_any (λ x. test x pos) xs) h),
+)
 
 sum_less : {X : Type 0} (f g : X → ℕ) (xs : List X) → AllByRecursion (λ x. f x ≤ g x) xs → sum_by f xs ≤ sum_by g xs
 sum_less f g [] h = omega arith
@@ -246,19 +251,22 @@ is_full setting state r over number before finished e table all =
     let outcome : Outcome = outcome_of setting state in
     let kept : List TxnOutcome = filter (may_take_room outcome (txn_outcome_of setting number before finished)) outcome.txns in
     let first : ℕ = length (get_or setting.first table []) in
-    omega (arith, all_pass (capacity setting),
-    either (λ pos. true) (λ pos. ltb pos first) (λ pos. list_any (λ (txn : TxnOutcome). places setting state table txn pos) kept) (capacity setting)
-    (λ pos below h. accounted_room setting state over number before finished e table pos (all pos below)),
-    below_many first (capacity setting),
-    any_many (places setting state table) kept (capacity setting),
-    sum_less (λ (txn : TxnOutcome). how_many (places setting state table txn) (capacity setting)) (λ (txn : TxnOutcome). get_or txn.placed table 0) kept
-    (all_kept (λ (txn : TxnOutcome). how_many (places setting state table txn) (capacity setting) ≤ get_or txn.placed table 0)
-    (may_take_room outcome (txn_outcome_of setting number before finished)) outcome.txns
-    (all_so (λ (txn : TxnOutcome). how_many (places setting state table txn) (capacity setting) ≤ get_or txn.placed table 0)
-    (λ (txn : TxnOutcome). may_take_room outcome (txn_outcome_of setting number before finished) txn ≡ true
-    → how_many (places setting state table txn) (capacity setting) ≤ get_or txn.placed table 0) outcome.txns (λ txn h k. h)
-    (each_outcome setting (λ (txn : TxnOutcome). how_many (places setting state table txn) (capacity setting) ≤ get_or txn.placed table 0) state
-    (λ number before finished e. places_few setting state r over.fits number before finished e table)))))
+    omega (
+      arith,
+      all_pass (capacity setting),
+      either (λ pos. true) (λ pos. ltb pos first) (λ pos. list_any (λ (txn : TxnOutcome). places setting state table txn pos) kept) (capacity setting)
+          (λ pos below h. accounted_room setting state over number before finished e table pos (all pos below)),
+      below_many first (capacity setting),
+      any_many (places setting state table) kept (capacity setting),
+      sum_less (λ (txn : TxnOutcome). how_many (places setting state table txn) (capacity setting)) (λ (txn : TxnOutcome). get_or txn.placed table 0) kept
+          (all_kept (λ (txn : TxnOutcome). how_many (places setting state table txn) (capacity setting) ≤ get_or txn.placed table 0)
+          (may_take_room outcome (txn_outcome_of setting number before finished)) outcome.txns
+          (all_so (λ (txn : TxnOutcome). how_many (places setting state table txn) (capacity setting) ≤ get_or txn.placed table 0)
+          (λ (txn : TxnOutcome). may_take_room outcome (txn_outcome_of setting number before finished) txn ≡ true
+          → how_many (places setting state table txn) (capacity setting) ≤ get_or txn.placed table 0) outcome.txns (λ txn h k. h)
+          (each_outcome setting (λ (txn : TxnOutcome). how_many (places setting state table txn) (capacity setting) ≤ get_or txn.placed table 0) state
+          (λ number before finished e. places_few setting state r over.fits number before finished e table)))),
+    )
 
 by_ending : (setting : Setting) (state : State) → IsReached setting state → IsOver setting state → (number before : ℕ) (finished : Finished)
     → slice_get (session_at state number).done before ≡ Some finished → (ending : Ending)

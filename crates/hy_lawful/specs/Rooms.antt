@@ -1,4 +1,4 @@
--- How many positions of a table a transaction placed: wrote, where no row was at its start.
+-- How many positions of a table a transaction placed: it wrote them where no row was at its start.
 use Rattle.std.specs.Prelude.{◌≡◌, ℕ, zero, suc, ◌+◌, ◌≤◌, Bool, not, ◌&&◌, if◌then◌else◌, is_some, Some, slice_get}
 use Rattle.hy_machine.specs.declared.Setting.{Setting}
 use Rattle.hy_machine.specs.declared.State.{State}

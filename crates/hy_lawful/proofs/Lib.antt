@@ -50,3 +50,12 @@ pub mod WroteEnds
 pub mod WroteSerial
 pub mod WroteCounts
 pub mod WroteNew
+pub mod FullStarts
+pub mod FullOverlaps
+pub mod FullCounts
+pub mod FullPlaced
+pub mod FullKeeps
+pub mod FullRoom
+pub mod FullPassed
+pub mod FullSteps
+pub mod FullTables

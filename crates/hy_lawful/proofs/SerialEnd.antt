@@ -26,7 +26,7 @@ use Rattle.hy_lawful.specs.Reached.{AllHaveRun, AllPassedUnseen, EndedHasRun, Pa
 use Rattle.hy_lawful.specs.Databases.{database_at, logged_by}
 use Rattle.hy_lawful.specs.Endings.{AnswersAll}
 use Rattle.hy_lawful.proofs.Fits.{Ends, IsCommitted}
-use Rattle.hy_lawful.proofs.Laws.{done_fits}
+use Rattle.hy_lawful.proofs.Followers.{done_fits}
 use Rattle.hy_lawful.proofs.Over.{IsOver, HasCommitted, entry_committed}
 use Rattle.hy_lawful.proofs.SerialHistory.{RanAt, History, serial_to}
 use Rattle.hy_lawful.proofs.SerialScripts.{statements_behind, transactions_of, transaction_at, has_label, statements_stand}

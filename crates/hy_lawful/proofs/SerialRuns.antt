@@ -34,7 +34,7 @@ use Rattle.hy_lawful.specs.Serial.{AreFirstOf, IsSerial, RepliesAreOfStart, Repl
 use Rattle.hy_lawful.specs.Passing.{PassesBy, ChangesLieIn}
 use Rattle.hy_lawful.specs.Written.{ReadersWriteNothing, PlacesWhatItInserts, WritesWhatItPlaces, WritesWhatItSelects, LeavesWhatFollows}
 use Rattle.hy_lawful.specs.Laws.{SerialRuns}
-use Rattle.hy_lawful.proofs.Laws.{done_fits}
+use Rattle.hy_lawful.proofs.Followers.{done_fits}
 use Rattle.hy_lawful.proofs.Outcomes.{each_outcome}
 use Rattle.hy_lawful.proofs.Over.{is_over}
 use Rattle.hy_lawful.proofs.Reached.{reached_fits}

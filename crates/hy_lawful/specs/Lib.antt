@@ -8,6 +8,8 @@ pub mod Databases
 pub mod Passing
 pub mod Refusing
 pub mod Written
+pub mod Overlaps
+pub mod Rooms
 pub mod Serial
 pub mod Reached
 pub mod Laws

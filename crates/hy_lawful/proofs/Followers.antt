@@ -11,7 +11,8 @@ use Rattle.hy_machine.specs.Sessions.{session_at}
 use Rattle.hy_machine.specs.Outcomes.{txn_outcome_of}
 use Rattle.hy_lawful.specs.Outcomes.{committed_at, is_later}
 use Rattle.hy_lawful.specs.Lawful.{Follows}
-use Rattle.hy_lawful.proofs.Fits.{reach, reach_of, Climbs}
+use Rattle.hy_lawful.proofs.Fits.{reach, reach_of, Climbs, DoneFits}
+use Rattle.hy_lawful.proofs.Lists.{item_at_number}
 use Rattle.hy_lawful.proofs.Fits.{Fits}
 use Rattle.hy_lawful.proofs.Booleans.{and_left, and_right}
 
@@ -21,7 +22,7 @@ comes_later low [] c i finished e = absurd cc
 comes_later low (first ∷ done) c zero finished e = subst (λ (f : Finished). low ≤ f.begun.prefix) (same_Some first finished e) c.0
 comes_later low (first ∷ done) c (suc i) finished e = omega (arith, c.0, c.1, comes_later (reach_of first) done c.2 i finished e)
 
-comes_behind : (low : ℕ) (done : List Finished) → Climbs low done → (i j : ℕ) (finished later : Finished) → slice_get done i ≡ Some finished
+pub comes_behind : (low : ℕ) (done : List Finished) → Climbs low done → (i j : ℕ) (finished later : Finished) → slice_get done i ≡ Some finished
     → slice_get done j ≡ Some later → i < j → (finished.begun.prefix ≤ reach_of finished) × (reach_of finished ≤ later.begun.prefix)
 comes_behind low [] c i j finished later e f below = absurd cc
 comes_behind low (first ∷ done) c zero zero finished later e f below = absurd (omega arith)
@@ -50,3 +51,9 @@ follows setting state fits number before finished e other after later f is =
       start = omega (arith, both.0, both.1);
       behind = behind finished.begun.prefix later.begun.prefix (committed_at finished.ending) both.1;
     }
+
+-- an ended transaction fits
+pub done_fits : (setting : Setting) (state : State) → Fits setting state → (number before : ℕ) (finished : Finished)
+    → slice_get (session_at state number).done before ≡ Some finished → DoneFits setting state.order number before finished
+done_fits setting state fits number before finished e =
+    item_at_number (DoneFits setting state.order number) (session_at state number).done (fits.sessions number).done before finished e

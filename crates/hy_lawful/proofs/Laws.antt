@@ -13,9 +13,7 @@ use Rattle.hy_render.specs.declared.Committed.{Committed as Committing}
 use Rattle.hy_render.specs.declared.Outcome.{Outcome}
 use Rattle.hy_machine.specs.declared.Setting.{Setting}
 use Rattle.hy_machine.specs.declared.State.{State}
-use Rattle.hy_machine.specs.declared.Finished.{Finished}
 use Rattle.hy_machine.specs.declared.Entry.{Entry}
-use Rattle.hy_machine.specs.Sessions.{session_at}
 use Rattle.hy_machine.specs.Validation.{committed_of}
 use Rattle.hy_machine.specs.Outcomes.{txn_outcome_of, outcome_of}
 use Rattle.hy_machine.specs.Runs.{IsReached, all_ended_from}
@@ -24,19 +22,14 @@ use Rattle.hy_lawful.specs.Positions.{ArePositions, places_of}
 use Rattle.hy_lawful.specs.Endings.{MayEnd}
 use Rattle.hy_lawful.specs.Lawful.{StandsAt, Follows, Lawful}
 use Rattle.hy_lawful.proofs.Lists.{all_so, all_mapped, all_kept, item_at_number}
-use Rattle.hy_lawful.proofs.Fits.{label_at, FitsTables, DoneFits}
-use Rattle.hy_lawful.proofs.Fits.{Fits}
+use Rattle.hy_lawful.proofs.Fits.{label_at, FitsTables}
 use Rattle.hy_lawful.proofs.Places.{written_positions, changed_positions}
 use Rattle.hy_lawful.proofs.Reached.{reached_fits}
 use Rattle.hy_lawful.proofs.Outcomes.{each_outcome, each_entry, labels_all}
 use Rattle.hy_lawful.proofs.Over.{IsOver, HasCommitted, is_over, entry_committed, outcome_has}
 use Rattle.hy_lawful.proofs.Endings.{stands_at, may_end}
-use Rattle.hy_lawful.proofs.Followers.{follows}
-
-pub done_fits : (setting : Setting) (state : State) → Fits setting state → (number before : ℕ) (finished : Finished)
-    → slice_get (session_at state number).done before ≡ Some finished → DoneFits setting state.order number before finished
-done_fits setting state fits number before finished e =
-    item_at_number (DoneFits setting state.order number) (session_at state number).done (fits.sessions number).done before finished e
+use Rattle.hy_lawful.proofs.Followers.{follows, done_fits}
+use Rattle.hy_lawful.proofs.FullTables.{full_tables}
 
 order_clause : (setting : Setting) (state : State) → IsOver setting state → (rank : ℕ) (label : Label) → label_at state.order rank ≡ Some label
     → option_map (λ (txn : TxnOutcome). txn.ending) (outcome_at (outcome_of setting state) label) ≡ Some (Committed rank)
@@ -44,8 +37,8 @@ order_clause setting state over rank label e =
     let committed : HasCommitted state label rank = entry_committed setting state over rank label (over.fits.ranked rank label e) in
     ap (option_map (λ (txn : TxnOutcome). txn.ending)) (outcome_has setting state label committed.has) ∙ ap Some committed.ending
 
-over_lawful : (setting : Setting) (state : State) → IsOver setting state → Lawful setting (outcome_of setting state)
-over_lawful setting state over = record {
+over_lawful : (setting : Setting) (state : State) → IsReached setting state → IsOver setting state → Lawful setting (outcome_of setting state)
+over_lawful setting state reached over = record {
   transactions = labels_all setting 0 state.sessions setting.programs over.fits.count over.all;
   places = each_outcome setting (λ (txn : TxnOutcome). ArePositions setting txn.wrote) state
       (λ number before finished e. written_positions setting finished.begun.own (done_fits setting state over.fits number before finished e).own);
@@ -70,12 +63,13 @@ over_lawful setting state over = record {
   endings = each_outcome setting (λ (txn : TxnOutcome). MayEnd setting.programs (outcome_of setting state) txn txn.ending) state
       (λ number before finished e. may_end setting state over (txn_outcome_of setting number before finished) finished.ending
       (done_fits setting state over.fits number before finished e).ends);
+  full = full_tables setting state reached over;
 }
 
 -- a state that the machine comes to, and in which every session has ended, has a lawful outcome
 pub lawful : (setting : Setting) (state : State) → IsReached setting state → all_ended_from setting 0 state.sessions ≡ true
     → Lawful setting (outcome_of setting state)
-lawful setting state reached over = over_lawful setting state (is_over setting state (reached_fits setting state reached) over)
+lawful setting state reached over = over_lawful setting state reached (is_over setting state (reached_fits setting state reached) over)
 
 -- the rank that an ending names
 rank_of : Option Ending → ℕ

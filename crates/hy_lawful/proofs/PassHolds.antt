@@ -105,7 +105,7 @@ fewer_among (suc n) (one ∷ chunks) table chunk e = fewer_among n chunks table 
 
 -- ---- one's own positions after more writes
 
-write_cases : (own : Own) (write : Write) (table pos : ℕ)
+pub write_cases : (own : Own) (write : Write) (table pos : ℕ)
     → (item_at (with_write own write) table pos ≡ item_at own table pos) ⊎ ((table ≡ write.table) × (pos ≡ write.pos))
 write_cases own write table pos = elim (cases_eq table write.table) [
   | inr apart ↦ inl (ap (λ (items : List (Option Cell)). get_or items pos None)

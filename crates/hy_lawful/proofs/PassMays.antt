@@ -112,7 +112,7 @@ seen_may setting state number begun table pos row w free e = by_own (item_at beg
         (tables_are setting state.order begun.prefix) w.own table pos
         ∙ ap (covered (λ (own : Cell). own) (item_at (snapshot setting state begun.prefix) table pos)) o) ∙ e)
 
-verdict_is : (kind : WriteKind) (pred : Condition) (table pos : ℕ) (other : Option Label) (cell : Cell) (new : Cell)
+pub verdict_is : (kind : WriteKind) (pred : Condition) (table pos : ℕ) (other : Option Label) (cell : Cell) (new : Cell)
     → verdict kind pred table pos other cell ≡ Ok (Some new) → (row : List Value) × ((cell ≡ Some row) × (other ≡ None))
 verdict_is kind pred table pos other None new e = absurd cc
 verdict_is kind pred table pos other (Some row) new e = (row, (refl, by_truth (truth_of pred row) e))
@@ -135,7 +135,7 @@ same_ok {A = A} x y e = ap (ok_or x) e
     ok_or d (Ok a) = a
     ok_or d (Err cause) = d
 
-sweep_all : (P : Write → Type 0) (table : ℕ) (judge : ℕ → Result (Option Cell) Cause)
+pub sweep_all : (P : Write → Type 0) (table : ℕ) (judge : ℕ → Result (Option Cell) Cause)
     → ((pos : ℕ) (cell : Cell) → judge pos ≡ Ok (Some cell) → P (record { table = table; pos = pos; cell = cell }))
     → (positions : List ℕ) (writes : List Write) → sweep table judge positions ≡ Ok writes → AllByRecursion P writes
 sweep_all P table judge each [] writes e = subst (AllByRecursion P) (same_ok [] writes e) tt

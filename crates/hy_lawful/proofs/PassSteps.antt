@@ -62,7 +62,7 @@ blank_cells zero pos = refl
 blank_cells (suc n) zero = refl
 blank_cells (suc n) (suc pos) = blank_cells n pos
 
-blank_items : (n : ℕ) (rows : List (List (List Value))) (table pos : ℕ) → item_at (map (λ one. replicate {A = Option Cell} n None) rows) table pos ≡ None
+pub blank_items : (n : ℕ) (rows : List (List (List Value))) (table pos : ℕ) → item_at (map (λ one. replicate {A = Option Cell} n None) rows) table pos ≡ None
 blank_items n [] table pos = refl
 blank_items n (one ∷ rows) zero pos = blank_cells n pos
 blank_items n (one ∷ rows) (suc table) pos = blank_items n rows table pos
@@ -256,7 +256,7 @@ steps_more : (setting : Setting) (state : State) (numbers : List ℕ) (number : 
 steps_more setting state [] number = refl
 steps_more setting state (one ∷ numbers) number = steps_more setting (step_of setting state one).0 numbers number
 
-reached_step : (setting : Setting) (state : State) (number : ℕ) → IsReached setting state → IsReached setting (step_of setting state number).0
+pub reached_step : (setting : Setting) (state : State) (number : ℕ) → IsReached setting state → IsReached setting (step_of setting state number).0
 reached_step setting state number r = (
   r.0 ++ number ∷ [],
   ap (λ (one : State). (step_of setting one number).0) r.1 ∙ sym (steps_more setting (opening_of setting) r.0 number),

@@ -83,7 +83,7 @@ mapped_if P f [] i h = tt
 mapped_if P f (x ∷ xs) zero h = h x refl
 mapped_if P f (x ∷ xs) (suc i) h = mapped_if P f xs i h
 
-mapped_and : {X Y : Type 0} (P : Y → Type 0) (f : X → Y) (xs : List X) (i : ℕ) → i < length xs → ((x : X) → slice_get xs i ≡ Some x → P (f x))
+pub mapped_and : {X Y : Type 0} (P : Y → Type 0) (f : X → Y) (xs : List X) (i : ℕ) → i < length xs → ((x : X) → slice_get xs i ≡ Some x → P (f x))
     → IsSomeAnd (slice_get (map f xs) i) P
 mapped_and P f [] i below h = absurd (omega (arith, below))
 mapped_and P f (x ∷ xs) zero below h = h x refl

@@ -53,7 +53,7 @@ first_item n (shape ∷ shapes) (rows ∷ first) fit (suc table) pos = first_ite
 
 -- ---- cells
 
-if_some : {X : Type 0} (P : X → Type 0) (item : Option X) → ((x : X) → item ≡ Some x → P x) → IfSome item P
+pub if_some : {X : Type 0} (P : X → Type 0) (item : Option X) → ((x : X) → item ≡ Some x → P x) → IfSome item P
 if_some P None h = tt
 if_some P (Some x) h = h x refl
 

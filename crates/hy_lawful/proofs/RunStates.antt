@@ -44,45 +44,45 @@ use Rattle.hy_lawful.proofs.RunTurns.{phase_run}
 -- ---- transactions
 
 -- the tables after the first entries of a commit order
-abbrev tables_at : Setting → List Entry → ℕ → Tables
+abbrev pub tables_at : Setting → List Entry → ℕ → Tables
 tables_at setting order prefix = history (opening_tables setting) (take prefix order)
 
 -- an ended transaction has run
-record EndedRun (setting : Setting) (order : List Entry) (statements : List Bound) (finished : Finished) : Type 0 where
-  given : Ran
-  run : IsRun setting (tables_at setting order finished.begun.prefix) statements finished.begun given
-  wrote : IfSome (committed_at finished.ending) (λ (rank : ℕ). given.own ≡ finished.begun.own)
-  start : finished.begun.prefix ≤ length order
-  refused : WasRefused (over (tables_at setting order finished.begun.prefix) finished.begun.own)
+pub record EndedRun (setting : Setting) (order : List Entry) (statements : List Bound) (finished : Finished) : Type 0 where
+  pub given : Ran
+  pub run : IsRun setting (tables_at setting order finished.begun.prefix) statements finished.begun given
+  pub wrote : IfSome (committed_at finished.ending) (λ (rank : ℕ). given.own ≡ finished.begun.own)
+  pub start : finished.begun.prefix ≤ length order
+  pub refused : WasRefused (over (tables_at setting order finished.begun.prefix) finished.begun.own)
       (over (tables_at setting order finished.begun.prefix) given.own) (slice_get statements (length finished.begun.replies)) finished.ending
 
 -- an open transaction has run so far
-record OpenRun (setting : Setting) (order : List Entry) (statements : List Bound) (current : Open) : Type 0 where
-  given : Ran
-  run : IsRun setting (tables_at setting order current.begun.prefix) statements current.begun given
-  stands : Stands setting (tables_at setting order current.begun.prefix) statements current.begun given current.phase
-  low : current.begun.low ≤ current.begun.prefix
-  start : current.begun.prefix ≤ length order
+pub record OpenRun (setting : Setting) (order : List Entry) (statements : List Bound) (current : Open) : Type 0 where
+  pub given : Ran
+  pub run : IsRun setting (tables_at setting order current.begun.prefix) statements current.begun given
+  pub stands : Stands setting (tables_at setting order current.begun.prefix) statements current.begun given current.phase
+  pub low : current.begun.low ≤ current.begun.prefix
+  pub start : current.begun.prefix ≤ length order
 
-abbrev NowRun : Setting → List Entry → List Bound → Option Open → Type 0
+abbrev pub NowRun : Setting → List Entry → List Bound → Option Open → Type 0
 NowRun setting order statements None = Unit {0}
 NowRun setting order statements (Some current) = OpenRun setting order statements current
 
-record SessionRun (setting : Setting) (order : List Entry) (number : ℕ) (session : Session) : Type 0 where
-  done : (before : ℕ) (finished : Finished) → slice_get session.done before ≡ Some finished
+pub record SessionRun (setting : Setting) (order : List Entry) (number : ℕ) (session : Session) : Type 0 where
+  pub done : (before : ℕ) (finished : Finished) → slice_get session.done before ≡ Some finished
       → EndedRun setting order (statements_at setting number before) finished
-  now : NowRun setting order (statements_at setting number (length session.done)) session.now
+  pub now : NowRun setting order (statements_at setting number (length session.done)) session.now
 
 -- the statements of a session's transaction that is open or comes next
-abbrev statements_now : Setting → State → ℕ → List Bound
+abbrev pub statements_now : Setting → State → ℕ → List Bound
 statements_now setting state number = statements_at setting number (length (session_at state number).done)
 
-abbrev AllRun : Setting → State → Type 0
+abbrev pub AllRun : Setting → State → Type 0
 AllRun setting state = (number : ℕ) → SessionRun setting state.order number (session_at state number)
 
 -- ---- the commit order grows
 
-tables_kept : (setting : Setting) (order more : List Entry) (prefix : ℕ) → prefix ≤ length order
+pub tables_kept : (setting : Setting) (order more : List Entry) (prefix : ℕ) → prefix ≤ length order
     → tables_at setting (order ++ more) prefix ≡ tables_at setting order prefix
 tables_kept setting order more prefix l = ap (history (opening_tables setting)) (take-append-le prefix order more l)
 
@@ -192,7 +192,7 @@ enters setting state number current o same =
     (λ other apart. session_grows setting state.order more other (session_at state other) (o.all other))
 
 -- the ended transactions and one more
-item_of_more : {X : Type 0} (xs : List X) (last : X) (i : ℕ) (x : X) → slice_get (xs ++ last ∷ []) i ≡ Some x
+pub item_of_more : {X : Type 0} (xs : List X) (last : X) (i : ℕ) (x : X) → slice_get (xs ++ last ∷ []) i ≡ Some x
     → (slice_get xs i ≡ Some x) ⊎ ((i ≡ length xs) × (last ≡ x))
 item_of_more [] last zero x e = inr (refl, same_Some last x e)
 item_of_more [] last (suc i) x e = absurd cc
@@ -309,7 +309,7 @@ session_runs setting state number txn chunks fits all e (Some current) is =
     (subst (λ (of : List Bound). Stands setting (tables_at setting state.order current.begun.prefix) of current.begun present.given current.phase) same
     present.stands)))
 
-by_txn : (setting : Setting) (state : State) (number : ℕ) → 0 < setting.chunks → Fits setting state → AllRun setting state
+pub by_txn : (setting : Setting) (state : State) (number : ℕ) → 0 < setting.chunks → Fits setting state → AllRun setting state
     → (txn : Option Txn) → txn_at setting number (session_at state number) ≡ txn
     → AllRun setting (after_turn setting state number (session_turn setting state number txn (session_at state number).now)).0
 by_txn setting state number chunks fits all None e = all
@@ -322,7 +322,7 @@ steps_run setting state (number ∷ numbers) chunks fits all =
     steps_run setting (step_of setting state number).0 numbers chunks (step_fits setting state number fits)
     (by_txn setting state number chunks fits all (txn_at setting number (session_at state number)) refl)
 
-opening_run : (setting : Setting) → AllRun setting (opening_of setting)
+pub opening_run : (setting : Setting) → AllRun setting (opening_of setting)
 opening_run setting number = subst (SessionRun setting [] number) (sym (fresh_at setting number))
     (record { done = λ before finished e. absurd cc; now = tt })
 

@@ -51,7 +51,7 @@ alike_over (cells ∷ tables) (items ∷ own) (others ∷ other) (suc table) pos
 
 -- ---- writes
 
-write_apart : (own : Own) (written at : ℕ) (cell : Cell) (table pos : ℕ) → (pos ≡ at → ⊥)
+pub write_apart : (own : Own) (written at : ℕ) (cell : Cell) (table pos : ℕ) → (pos ≡ at → ⊥)
     → item_at (set own written (set (get_or own written []) at (Some cell))) table pos ≡ item_at own table pos
 write_apart [] written at cell table pos n = refl
 write_apart (items ∷ own) zero at cell zero pos n = get_or-set_other items at pos (Some cell) None n
@@ -83,14 +83,14 @@ range_joined first (suc many) more end e =
 
 -- ---- sweeps
 
-record AndWritten (table pos : ℕ) (first : Result (Option Cell) Cause) (rest : Result (List Write) Cause) (writes : List Write) : Type 0 where
-  cell : Option Cell
-  others : List Write
-  here : first ≡ Ok cell
-  there : rest ≡ Ok others
-  both : write_of table pos cell ++ others ≡ writes
+pub record AndWritten (table pos : ℕ) (first : Result (Option Cell) Cause) (rest : Result (List Write) Cause) (writes : List Write) : Type 0 where
+  pub cell : Option Cell
+  pub others : List Write
+  pub here : first ≡ Ok cell
+  pub there : rest ≡ Ok others
+  pub both : write_of table pos cell ++ others ≡ writes
 
-and_written : (table pos : ℕ) (first : Result (Option Cell) Cause) (rest : Result (List Write) Cause) (writes : List Write)
+pub and_written : (table pos : ℕ) (first : Result (Option Cell) Cause) (rest : Result (List Write) Cause) (writes : List Write)
     → and_write table pos first rest ≡ Ok writes → AndWritten table pos first rest writes
 and_written table pos (Err cause) rest writes e = absurd cc
 and_written table pos (Ok cell) (Err cause) writes e = absurd cc

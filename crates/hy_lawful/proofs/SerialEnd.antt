@@ -26,7 +26,7 @@ use Rattle.hy_lawful.specs.Reached.{AllHaveRun, AllPassedUnseen, EndedHasRun, Pa
 use Rattle.hy_lawful.specs.Databases.{database_at, logged_by}
 use Rattle.hy_lawful.specs.Endings.{AnswersAll}
 use Rattle.hy_lawful.proofs.Fits.{Ends, IsCommitted}
-use Rattle.hy_lawful.proofs.Laws.{done_fits}
+use Rattle.hy_lawful.proofs.Followers.{done_fits}
 use Rattle.hy_lawful.proofs.Over.{IsOver, HasCommitted, entry_committed}
 use Rattle.hy_lawful.proofs.SerialHistory.{RanAt, History, serial_to}
 use Rattle.hy_lawful.proofs.SerialScripts.{statements_behind, transactions_of, transaction_at, has_label, statements_stand}
@@ -35,6 +35,7 @@ use Rattle.hy_lawful.proofs.PassTables.{tables_are}
 use Rattle.hy_lawful.proofs.PassStates.{EndPasses, Passes}
 use Rattle.hy_lawful.proofs.Lists.{one_of}
 use Rattle.hy_lawful.proofs.SerialTables.{opening_bags, opening_widths}
+use Rattle.hy_lawful.proofs.WroteStates.{EndedAllWrote}
 
 -- what is known of a state at its end
 pub record AtEnd (setting : Setting) (state : State) : Type 0 where
@@ -42,6 +43,7 @@ pub record AtEnd (setting : Setting) (state : State) : Type 0 where
   pub ran : AllHaveRun setting state
   pub unseen : AllPassedUnseen setting state
   pub passes : Passes setting state
+  pub wrote : EndedAllWrote setting state
   pub script : FitsScript setting.shapes (setting.chunks * setting.rows) setting.first setting.programs
 
 -- the laws of transactions over positions

@@ -32,7 +32,7 @@ use Rattle.hy_lawful.specs.Databases.{database_at}
 use Rattle.hy_lawful.specs.Refusing.{IsRefusedBy, WasRefused, selects, goes_out, goes_out_at}
 use Rattle.hy_lawful.specs.Passing.{has_place}
 use Rattle.hy_lawful.proofs.Fits.{Ends, IsInvalid, OpenFits, NowFits}
-use Rattle.hy_lawful.proofs.Laws.{done_fits}
+use Rattle.hy_lawful.proofs.Followers.{done_fits}
 use Rattle.hy_lawful.proofs.Outcomes.{outcome_found}
 use Rattle.hy_lawful.proofs.SerialScripts.{statements_behind}
 use Rattle.hy_lawful.proofs.PrintedTables.{printed_is}

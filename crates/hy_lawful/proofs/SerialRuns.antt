@@ -1,7 +1,7 @@
 -- What the machine comes to is serializable, in the order of its commits.
 use Rattle.std.proofs.Common.{◌≡◌, ℕ, suc, ◌<◌, ◌≤◌, List, Option, None, Some, length, map, take, refl, ap, sym, ◌∙◌, subst, arith}
 use Rattle.std.specs.Prelude.{IfSome, slice_get}
-use Rattle.std.specs.List.{range_with_len}
+use Rattle.std.specs.List.{AllByRecursion}
 use Rattle.std.specs.Option.{IsSomeAnd}
 use Rattle.std.proofs.lemmas.List.{length-map, take_all}
 use Rattle.std.proofs.lemmas.Option.{IfSome_then}
@@ -12,13 +12,14 @@ use Rattle.hy_meaning.specs.Statement.{Database}
 use Rattle.hy_meaning.specs.Serial.{Alone, alone_of}
 use Rattle.hy_render.specs.declared.Ending.{Ending}
 use Rattle.hy_render.specs.declared.TxnOutcome.{TxnOutcome}
+use Rattle.hy_render.specs.declared.Committed.{Committed as Committing}
 use Rattle.hy_machine.specs.declared.Setting.{Setting}
 use Rattle.hy_machine.specs.declared.State.{State}
 use Rattle.hy_machine.specs.declared.Finished.{Finished}
 use Rattle.hy_machine.specs.declared.Entry.{Entry}
 use Rattle.hy_machine.specs.Tables.{Tables, history, opening_tables}
 use Rattle.hy_machine.specs.Sessions.{session_at, snapshot}
-use Rattle.hy_machine.specs.Writes.{blank_own, written}
+use Rattle.hy_machine.specs.Writes.{written}
 use Rattle.hy_machine.specs.Validation.{committed_of}
 use Rattle.hy_machine.specs.Outcomes.{txn_outcome_of, outcome_of}
 use Rattle.hy_machine.specs.Runs.{IsReached, RunsAreSteps, RunsEnd, run_of}
@@ -31,9 +32,9 @@ use Rattle.hy_lawful.specs.Databases.{alone_at, database_at}
 use Rattle.hy_lawful.specs.Refusing.{IsRefusedBy}
 use Rattle.hy_lawful.specs.Serial.{AreFirstOf, IsSerial, RepliesAreOfStart, ReplaysAt}
 use Rattle.hy_lawful.specs.Passing.{PassesBy, ChangesLieIn}
-use Rattle.hy_lawful.specs.Placing.{PlacesWhatItInserts, inserted_in}
+use Rattle.hy_lawful.specs.Written.{ReadersWriteNothing, PlacesWhatItInserts, WritesWhatItPlaces, WritesWhatItSelects, LeavesWhatFollows}
 use Rattle.hy_lawful.specs.Laws.{SerialRuns}
-use Rattle.hy_lawful.proofs.Laws.{done_fits}
+use Rattle.hy_lawful.proofs.Followers.{done_fits}
 use Rattle.hy_lawful.proofs.Outcomes.{each_outcome}
 use Rattle.hy_lawful.proofs.Over.{is_over}
 use Rattle.hy_lawful.proofs.Reached.{reached_fits}
@@ -45,10 +46,11 @@ use Rattle.hy_lawful.proofs.PassTables.{tables_are}
 use Rattle.hy_lawful.proofs.PassStates.{Passed}
 use Rattle.hy_lawful.proofs.PassSteps.{reached_passes}
 use Rattle.hy_lawful.proofs.PrintedPlaces.{pass_by, lies_in}
-use Rattle.hy_lawful.proofs.RunPlacing.{placed_is}
 use Rattle.hy_lawful.proofs.SerialEnd.{ending_at, transactions_length, stands_committed, all_answered, ran_at}
 use Rattle.hy_lawful.proofs.SerialEnd.{history_of, bags_at, order_of, end_passes, logs_alone, AtEnd, Laws, Commits}
 use Rattle.hy_lawful.proofs.SerialRefusals.{refused_by}
+use Rattle.hy_lawful.proofs.WroteStates.{ended_wrote}
+use Rattle.hy_lawful.proofs.WroteSerial.{IsEnded, reader_wrote, inserts_placed, news_placed, selected_written, entry_leaves}
 
 -- ---- the clauses
 
@@ -127,18 +129,20 @@ entry_there setting state end number before finished at =
     IfSome_then (committed_at finished.ending) (end_passes setting state end number before finished at).0
     (λ rank p. lies_in setting state.order finished.begun rank p)
 
--- what it took is what it inserted
-places_all : (setting : Setting) (state : State) → AtEnd setting state → (number before : ℕ) (finished : Finished)
-    → slice_get (session_at state number).done before ≡ Some finished → PlacesWhatItInserts setting (txn_outcome_of setting number before finished)
-places_all setting state end number before finished at =
-    let has : EndedHasRun setting state number before finished = end.ran number before finished at in
-    let statements : List Bound = statements_at setting number before in
-    let indices : List ℕ = range_with_len 0 (length setting.first) in
-    placed_is setting (snapshot setting state finished.begun.prefix) (blank_own setting) 1 (length finished.begun.replies) statements finished.begun.took
-    has.given (has.has_run.took ∙ ap length (sym has.has_run.replies)) has.has_run.came_to setting.first
-    ∙ (ap (λ (replies : List Reply). map (inserted_in statements replies) indices) has.has_run.replies
-    ∙ ap (λ (some : List Bound). map (inserted_in some finished.begun.replies) indices)
-    (sym (statements_behind setting (record { session = number; txn = suc before }) before refl)))
+-- what is known of what an ended transaction wrote
+is_ended : (setting : Setting) (state : State) → AtEnd setting state → (number before : ℕ) (finished : Finished)
+    → slice_get (session_at state number).done before ≡ Some finished → IsEnded setting state.order number before finished
+is_ended setting state end number before finished at = record { is = order_of setting state end; wrote = end.wrote number before finished at }
+
+-- what its entry leaves, where it has committed
+entry_left : (setting : Setting) (state : State) → AtEnd setting state → (number before : ℕ) (finished : Finished)
+    → slice_get (session_at state number).done before ≡ Some finished → (rank : Option ℕ) → committed_at finished.ending ≡ rank
+    → IfSome rank (λ (rank : ℕ). IsSomeAnd (slice_get (map committed_of state.order) rank) (λ (entry : Committing).
+    AllByRecursion (LeavesWhatFollows setting (map committed_of state.order) (txn_outcome_of setting number before finished)) entry.changes))
+entry_left setting state end number before finished at None e = tt
+entry_left setting state end number before finished at (Some rank) e =
+    entry_leaves setting state.order number before finished (is_ended setting state end number before finished at) rank (ending_at finished.ending rank e)
+    (passed_at setting state end number before finished rank (record { at = at; ending = ending_at finished.ending rank e }))
 
 all_tables : Laws → (setting : Setting) (state : State) → AtEnd setting state
     → (outcome_of setting state).tables ≡ database_at setting (map committed_of state.order) (length (map committed_of state.order))
@@ -158,12 +162,23 @@ end_serial laws setting state end = record {
       (λ (txn : TxnOutcome). IfSome (committed_at txn.ending)
       (λ (rank : ℕ). IsSomeAnd (slice_get (map committed_of state.order) rank) (ChangesLieIn txn.wrote)))
       state (entry_there setting state end);
-  placed = each_outcome setting (PlacesWhatItInserts setting) state (places_all setting state end);
   refusals = each_outcome setting (λ (txn : TxnOutcome). IsRefusedBy setting (outcome_of setting state) txn txn.ending) state
       (λ number before finished at. refused_by laws setting state end number before finished at finished.ending refl);
   changes = changes_at setting state.order (order_of setting state end);
   history = λ rank below. bags_are setting state.order (order_of setting state end) rank
       ∙ bags_at laws setting state end rank (omega (arith, below, length-map state.order committed_of));
+  readers = each_outcome setting (ReadersWriteNothing setting) state (λ number before finished at.
+      reader_wrote setting state.order number before finished (is_ended setting state end number before finished at));
+  inserted = each_outcome setting (PlacesWhatItInserts setting) state (λ number before finished at.
+      inserts_placed setting state.order number before finished (is_ended setting state end number before finished at));
+  placed = each_outcome setting (WritesWhatItPlaces setting (map committed_of state.order)) state (λ number before finished at.
+      news_placed setting state.order number before finished (is_ended setting state end number before finished at));
+  leaves = each_outcome setting (λ (txn : TxnOutcome). IfSome (committed_at txn.ending)
+      (λ (rank : ℕ). IsSomeAnd (slice_get (map committed_of state.order) rank)
+      (λ (entry : Committing). AllByRecursion (LeavesWhatFollows setting (map committed_of state.order) txn) entry.changes))) state
+      (λ number before finished at. entry_left setting state end number before finished at (committed_at finished.ending) refl);
+  wrote = each_outcome setting (WritesWhatItSelects setting (map committed_of state.order)) state (λ number before finished at.
+      selected_written setting state.order number before finished (is_ended setting state end number before finished at));
 }
 
 -- ---- runs
@@ -179,5 +194,6 @@ serial_runs steps ends ran unseen again keeps alone logs setting schedule chunke
       ran = ran setting state chunked reached;
       unseen = unseen setting state reached;
       passes = reached_passes setting state reached;
+      wrote = ended_wrote setting state chunked reached;
       script = script;
     })

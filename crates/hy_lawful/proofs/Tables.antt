@@ -97,7 +97,7 @@ some_places table pos [] h = absurd cc
 some_places table pos (None ∷ cells) h = some_places table (suc pos) cells h
 some_places table pos (Some cell ∷ cells) h = omega arith
 
-none_from : (table : ℕ) (own : Own) → list_any (list_any is_some) own ≡ false → by_table place_at table own ≡ []
+pub none_from : (table : ℕ) (own : Own) → list_any (list_any is_some) own ≡ false → by_table place_at table own ≡ []
 none_from table [] h = refl
 none_from table (cells ∷ own) h =
     ap (λ (places : List Place). places ++ by_table place_at (suc table) own)

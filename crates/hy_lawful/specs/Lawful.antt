@@ -11,6 +11,7 @@ use Rattle.hy_lawful.specs.Scripts.{labels_from}
 use Rattle.hy_lawful.specs.Outcomes.{EachFrom, outcome_at, committed_at, later_than}
 use Rattle.hy_lawful.specs.Positions.{ArePositions, places_of}
 use Rattle.hy_lawful.specs.Endings.{MayEnd}
+use Rattle.hy_lawful.specs.Overlaps.{NamesFull}
 
 -- a transaction stands at this rank of the commit order, behind its start
 pub record StandsAt (order : List Entry) (txn : TxnOutcome) (rank : ℕ) : Type 0 where
@@ -40,3 +41,6 @@ pub record Lawful (setting : Setting) (outcome : Outcome) : Type 0 where
   pub sessions : AllByRecursion (λ (txn : TxnOutcome). AllByRecursion (Follows txn) (later_than outcome txn)) outcome.txns
   -- every ending is one that may come
   pub endings : AllByRecursion (λ (txn : TxnOutcome). MayEnd setting.programs outcome txn txn.ending) outcome.txns
+  -- where a transaction is told that a table is full, the first rows of the table, and what was placed in it by those that
+  -- may have taken room, are at least as many as its positions
+  pub full : AllByRecursion (λ (txn : TxnOutcome). NamesFull setting outcome txn txn.ending) outcome.txns

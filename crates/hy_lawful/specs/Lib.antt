@@ -7,7 +7,9 @@ pub mod Cells
 pub mod Databases
 pub mod Passing
 pub mod Refusing
-pub mod Placing
+pub mod Written
+pub mod Overlaps
+pub mod Rooms
 pub mod Serial
 pub mod Reached
 pub mod Laws

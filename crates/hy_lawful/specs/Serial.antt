@@ -12,8 +12,8 @@ use Rattle.hy_lawful.specs.Outcomes.{EachFrom, committed_at}
 use Rattle.hy_lawful.specs.Cells.{bags_at, IsChangeAt}
 use Rattle.hy_lawful.specs.Databases.{database_at, alone_at, logged_by}
 use Rattle.hy_lawful.specs.Passing.{PassesBy, ChangesLieIn}
-use Rattle.hy_lawful.specs.Placing.{PlacesWhatItInserts}
 use Rattle.hy_lawful.specs.Refusing.{IsRefusedBy}
+use Rattle.hy_lawful.specs.Written.{ReadersWriteNothing, PlacesWhatItInserts, WritesWhatItPlaces, LeavesWhatFollows, WritesWhatItSelects}
 
 -- some replies are the first of others
 abbrev pub AreFirstOf : List Reply → List Reply → Type 0
@@ -41,11 +41,21 @@ pub record IsSerial (setting : Setting) (outcome : Outcome) : Type 0 where
   -- at the rank of a committed transaction stands its entry: what this changes the transaction wrote
   pub entries : AllByRecursion
       (λ (txn : TxnOutcome). IfSome (committed_at txn.ending) (λ (rank : ℕ). IsSomeAnd (slice_get outcome.order rank) (ChangesLieIn txn.wrote))) outcome.txns
-  -- a transaction took as many positions of each table as it was answered `inserted`
-  pub placed : AllByRecursion (PlacesWhatItInserts setting) outcome.txns
   -- a transaction that was refused was so for a cause
   pub refusals : AllByRecursion (λ (txn : TxnOutcome). IsRefusedBy setting outcome txn txn.ending) outcome.txns
   -- every change starts from what stands at its position
   pub changes : EachFrom 0 (λ (rank : ℕ) (entry : Entry). AllByRecursion (IsChangeAt setting outcome.order rank) entry.changes) outcome.order
   -- before and after every entry the rows that stand in the tables are those of the serial run
   pub history : (rank : ℕ) → rank ≤ length outcome.order → bags_at setting outcome.order rank ≡ database_at setting outcome.order rank
+  -- a transaction none of whose statements is an INSERT, an UPDATE or a DELETE has written nothing
+  pub readers : AllByRecursion (ReadersWriteNothing setting) outcome.txns
+  -- a transaction placed as many inserts in each table as were answered `inserted`
+  pub inserted : AllByRecursion (PlacesWhatItInserts setting) outcome.txns
+  -- as many positions of each table it wrote where no row stood at its start
+  pub placed : AllByRecursion (WritesWhatItPlaces setting outcome.order) outcome.txns
+  -- where a row stood at the start of a committed transaction, its entry leaves that row as its statements make it
+  pub leaves : AllByRecursion
+      (λ (txn : TxnOutcome). IfSome (committed_at txn.ending) (λ (rank : ℕ). IsSomeAnd (slice_get outcome.order rank)
+      (λ (entry : Entry). AllByRecursion (LeavesWhatFollows setting outcome.order txn) entry.changes))) outcome.txns
+  -- of the rows that stood at its start a transaction wrote exactly those that its statements select
+  pub wrote : AllByRecursion (WritesWhatItSelects setting outcome.order) outcome.txns

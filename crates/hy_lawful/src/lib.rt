@@ -13,7 +13,10 @@ mod states;
 
 use hy_machine::runs_are_steps;
 use hy_replay::{a_run_keeps_widths, a_run_over_cells_is_alone, what_is_unseen_leaves_a_run};
-pub use states::{the_committed_passed_unseen, transactions_have_run};
+pub use states::{
+    inserts_take_what_is_placed, open_ones_may_overlap, the_committed_passed_unseen,
+    transactions_have_run,
+};
 
 /// Whatever the script and the schedule, what the machine makes of them is lawful. Where the script fits, it is also
 /// serializable in the order of its commits: the replies of every transaction are the first of those that it gets

@@ -1,6 +1,8 @@
 //! What holds of every state that the machine comes to.
 
 ghost use Rattle.hy_lawful.specs.Reached.{ReachedHaveRun, ReachedPassUnseen};
+ghost use Rattle.hy_lawful.specs.Overlaps.{OpenOnesOverlap};
+ghost use Rattle.hy_lawful.specs.Rooms.{ReachedPlaced};
 
 /// What a transaction did until it ended is what its answered statements come to over the tables of its start, each
 /// INSERT at the position that it took: its replies, its records, and where it committed its writes.
@@ -12,4 +14,15 @@ pub fn transactions_have_run()
 /// changed no position that the transaction wrote, and hit nothing that it read.
 pub fn the_committed_passed_unseen()
     ensures { ReachedPassUnseen }
+{}
+
+/// While a transaction is open, one of another session that is open too, or has come into the commit order since its
+/// start, is one that may have been open with it, as the outcome tells in the end.
+pub fn open_ones_may_overlap()
+    ensures { OpenOnesOverlap }
+{}
+
+/// A transaction that has ended placed no more positions of a table than its INSERTs took.
+pub fn inserts_take_what_is_placed()
+    ensures { ReachedPlaced }
 {}

@@ -1,0 +1,357 @@
+-- The positions that an INSERT has passed are accounted for, and where a table is full all of its positions are: kept along steps.
+use Rattle.std.proofs.Common.{◌≡◌, ℕ, zero, suc, ◌+◌, ◌-◌, ◌*◌, ◌<◌, ◌≤◌, List, [], ◌∷◌, ◌++◌, Option, None, Some, Bool, true, false, Result, Ok, Err}
+use Rattle.std.proofs.Common.{length, map, drop, ltb, cond, refl, ap, sym, ◌∙◌, subst, arith, inl, inr, mul-le-mul_right}
+use Rattle.std.specs.Prelude.{slice_get, find}
+use Rattle.std.specs.List.{AllByRecursion, range_with_len}
+use Rattle.std.proofs.lemmas.Bool.{cases_Bool, cases_lt, ltb-true, ltb-false}
+use Rattle.hy_value.specs.declared.Value.{Value}
+use Rattle.hy_bound.specs.declared.Txn.{Txn}
+use Rattle.hy_bound.specs.declared.Bound.{Bound}
+use Rattle.hy_bound.specs.declared.Bound.TheVariants.{Select, Group, Insert, Update, Delete}
+use Rattle.hy_bound.specs.declared.Reply.{Reply}
+use Rattle.hy_bound.specs.declared.Record.{Record}
+use Rattle.hy_bound.specs.declared.WriteKind.{WriteKind}
+use Rattle.hy_bound.specs.declared.WriteKind.TheVariants as kind
+use Rattle.hy_bound.specs.Condition.{Condition}
+use Rattle.hy_bound.specs.Records.{shape_of}
+use Rattle.hy_meaning.specs.Statement.{answer_of, grouped}
+use Rattle.hy_stamp.specs.declared.Label.{Label}
+use Rattle.hy_render.specs.declared.Ending.{Ending}
+use Rattle.hy_render.specs.declared.Ending.TheVariants as ways
+use Rattle.hy_machine.specs.declared.Setting.{Setting}
+use Rattle.hy_machine.specs.declared.State.{State}
+use Rattle.hy_machine.specs.declared.Session.{Session}
+use Rattle.hy_machine.specs.declared.Open.{Open}
+use Rattle.hy_machine.specs.declared.Begun.{Begun}
+use Rattle.hy_machine.specs.declared.Finished.{Finished}
+use Rattle.hy_machine.specs.declared.Write.{Write}
+use Rattle.hy_machine.specs.declared.Cause.{Cause}
+use Rattle.hy_machine.specs.declared.Cause.TheVariants.{RolledBack, Conflict, Invalid, Range, Full}
+use Rattle.hy_machine.specs.declared.Phase.{Phase}
+use Rattle.hy_machine.specs.declared.Phase.TheVariants.{Working, Stamping, Undoing}
+use Rattle.hy_machine.specs.declared.Turn.{Turn}
+use Rattle.hy_machine.specs.declared.Turn.TheVariants.{Done, Waits, Begins, Visits, Answers, Enters, Ends}
+use Rattle.hy_machine.specs.Positions.{item_at}
+use Rattle.hy_machine.specs.Tables.{capacity, positions_in}
+use Rattle.hy_machine.specs.Writes.{wrote_nothing, written_chunks}
+use Rattle.hy_machine.specs.Sessions.{session_at, blocker, view}
+use Rattle.hy_machine.specs.Holding.{opponent, is_free}
+use Rattle.hy_machine.specs.Validation.{committed_of, first_hit}
+use Rattle.hy_machine.specs.Visits.{verdict_at, swept, sees_key, free_position, checks_of}
+use Rattle.hy_machine.specs.Turns.{rows_seen, read_turn, write_turn, check_turn, place_turn, insert_turn, statement_turn, ending_of, unless_blocked}
+use Rattle.hy_machine.specs.Turns.{undo_turn, stamp_turn, validated_turn, closing_turn, working_turn}
+use Rattle.hy_lawful.specs.Reached.{statements_at}
+use Rattle.hy_lawful.proofs.Fits.{IsNumbered}
+use Rattle.hy_lawful.proofs.Refusals.{Refuses, verdict_refuses, sweep_refuses, first_hit_is}
+use Rattle.hy_lawful.proofs.FullRoom.{Accounted, accounted_goes, AtWork, taken_accounted}
+use Rattle.hy_lawful.proofs.FullKeeps.{Goes}
+
+-- ---- what is passed
+
+-- all positions below a bound are accounted for
+abbrev pub RoomBelow : Setting → State → ℕ → ℕ → ℕ → ℕ → ℕ → Type 0
+RoomBelow setting state number before prefix table end = (pos : ℕ) → pos < end → Accounted setting state number before prefix table pos
+
+-- where a table is full, all of its positions
+abbrev pub EndRoom : Setting → State → ℕ → ℕ → ℕ → Ending → Type 0
+EndRoom setting state number before prefix (ways.Committed rank) = Unit {0}
+EndRoom setting state number before prefix ways.Read = Unit {0}
+EndRoom setting state number before prefix ways.RolledBack = Unit {0}
+EndRoom setting state number before prefix (ways.Conflict table pos other) = Unit {0}
+EndRoom setting state number before prefix (ways.Invalid table pos other statement) = Unit {0}
+EndRoom setting state number before prefix (ways.Range table pos) = Unit {0}
+EndRoom setting state number before prefix (ways.Full table) = RoomBelow setting state number before prefix table (capacity setting)
+
+abbrev key_of : Setting → ℕ → Option ℕ
+key_of setting table = (shape_of setting.shapes table).key
+
+-- so many visits of a statement are done
+abbrev pub WorkRoom : Setting → State → ℕ → ℕ → ℕ → ℕ → Option Bound → Type 0
+WorkRoom setting state number before prefix visited None = Unit {0}
+WorkRoom setting state number before prefix visited (Some (Select tables ons pred items)) = Unit {0}
+WorkRoom setting state number before prefix visited (Some (Group table pred key aggregate)) = Unit {0}
+WorkRoom setting state number before prefix visited (Some (Insert table row)) =
+    RoomBelow setting state number before prefix table ((visited - checks_of setting (key_of setting table)) * setting.rows)
+WorkRoom setting state number before prefix visited (Some (Update table sets pred)) = Unit {0}
+WorkRoom setting state number before prefix visited (Some (Delete table pred)) = Unit {0}
+
+abbrev pub PhaseRoom : Setting → State → ℕ → ℕ → ℕ → Option Bound → Phase → Type 0
+PhaseRoom setting state number before prefix statement (Working visited count) = WorkRoom setting state number before prefix visited statement
+PhaseRoom setting state number before prefix statement (Stamping visited) = Unit {0}
+PhaseRoom setting state number before prefix statement (Undoing visited cause) = EndRoom setting state number before prefix (ending_of cause)
+
+abbrev pub present_statement : List Bound → Begun → Option Bound
+present_statement statements begun = slice_get statements (length begun.replies)
+
+abbrev pub NowRoom : Setting → State → ℕ → ℕ → List Bound → Option Open → Type 0
+NowRoom setting state number before statements None = Unit {0}
+NowRoom setting state number before statements (Some current) =
+    PhaseRoom setting state number before current.begun.prefix (present_statement statements current.begun) current.phase
+
+-- the ended transactions of a session, the first of them with so many before it, and the open one
+abbrev pub DoneRoom : Setting → State → ℕ → ℕ → List Finished → Option Open → Type 0
+DoneRoom setting state number before [] now = NowRoom setting state number before (statements_at setting number before) now
+DoneRoom setting state number before (finished ∷ done) now =
+    EndRoom setting state number before finished.begun.prefix finished.ending × DoneRoom setting state number (suc before) done now
+
+abbrev pub SessionRoom : Setting → State → ℕ → Session → Type 0
+SessionRoom setting state number session = DoneRoom setting state number 0 session.done session.now
+
+abbrev pub AllRoom : Setting → State → Type 0
+AllRoom setting state = (number : ℕ) → SessionRoom setting state number (session_at state number)
+
+-- ---- it stays so
+
+end_goes : (setting : Setting) (state later : State) → Goes state later → (number before prefix : ℕ) (ending : Ending)
+    → EndRoom setting state number before prefix ending → EndRoom setting later number before prefix ending
+end_goes setting state later g number before prefix (ways.Committed rank) h = tt
+end_goes setting state later g number before prefix ways.Read h = tt
+end_goes setting state later g number before prefix ways.RolledBack h = tt
+end_goes setting state later g number before prefix (ways.Conflict table pos other) h = tt
+end_goes setting state later g number before prefix (ways.Invalid table pos other statement) h = tt
+end_goes setting state later g number before prefix (ways.Range table pos) h = tt
+end_goes setting state later g number before prefix (ways.Full table) h =
+    λ pos below. accounted_goes setting state later g number before prefix table pos (h pos below)
+
+work_goes : (setting : Setting) (state later : State) → Goes state later → (number before prefix visited : ℕ) (statement : Option Bound)
+    → WorkRoom setting state number before prefix visited statement → WorkRoom setting later number before prefix visited statement
+work_goes setting state later g number before prefix visited None h = tt
+work_goes setting state later g number before prefix visited (Some (Select tables ons pred items)) h = tt
+work_goes setting state later g number before prefix visited (Some (Group table pred key aggregate)) h = tt
+work_goes setting state later g number before prefix visited (Some (Insert table row)) h =
+    λ pos below. accounted_goes setting state later g number before prefix table pos (h pos below)
+work_goes setting state later g number before prefix visited (Some (Update table sets pred)) h = tt
+work_goes setting state later g number before prefix visited (Some (Delete table pred)) h = tt
+
+pub phase_goes : (setting : Setting) (state later : State) → Goes state later → (number before prefix : ℕ) (statement : Option Bound) (phase : Phase)
+    → PhaseRoom setting state number before prefix statement phase → PhaseRoom setting later number before prefix statement phase
+phase_goes setting state later g number before prefix statement (Working visited count) h =
+    work_goes setting state later g number before prefix visited statement h
+phase_goes setting state later g number before prefix statement (Stamping visited) h = tt
+phase_goes setting state later g number before prefix statement (Undoing visited cause) h =
+    end_goes setting state later g number before prefix (ending_of cause) h
+
+pub now_goes : (setting : Setting) (state later : State) → Goes state later → (number before : ℕ) (statements : List Bound) (now : Option Open)
+    → NowRoom setting state number before statements now → NowRoom setting later number before statements now
+now_goes setting state later g number before statements None h = tt
+now_goes setting state later g number before statements (Some current) h =
+    phase_goes setting state later g number before current.begun.prefix (present_statement statements current.begun) current.phase h
+
+pub done_goes : (setting : Setting) (state later : State) → Goes state later → (number before : ℕ) (done : List Finished) (now new : Option Open)
+    → ((at : ℕ) → at ≡ before + length done → NowRoom setting state number at (statements_at setting number at) now
+    → NowRoom setting later number at (statements_at setting number at) new)
+    → DoneRoom setting state number before done now → DoneRoom setting later number before done new
+done_goes setting state later g number before [] now new f h = f before (omega arith) h
+done_goes setting state later g number before (finished ∷ done) now new f h = (
+  end_goes setting state later g number before finished.begun.prefix finished.ending h.0,
+  done_goes setting state later g number (suc before) done now new (λ at e k. f at (omega (arith, e)) k) h.1,
+)
+
+pub ended_goes : (setting : Setting) (state later : State) → Goes state later → (number before : ℕ) (done : List Finished) (now : Option Open)
+    (finished : Finished) → ((at : ℕ) → at ≡ before + length done → EndRoom setting state number at finished.begun.prefix finished.ending)
+    → DoneRoom setting state number before done now → DoneRoom setting later number before (done ++ finished ∷ []) None
+ended_goes setting state later g number before [] now finished f h =
+    (end_goes setting state later g number before finished.begun.prefix finished.ending (f before (omega arith)), tt)
+ended_goes setting state later g number before (first ∷ done) now finished f h = (
+  end_goes setting state later g number before first.begun.prefix first.ending h.0,
+  ended_goes setting state later g number (suc before) done now finished (λ at e. f at (omega (arith, e))) h.1,
+)
+
+-- what is kept of the open one
+pub open_room : (setting : Setting) (state : State) (number before : ℕ) (done : List Finished) (now : Option Open)
+    → DoneRoom setting state number before done now
+    → NowRoom setting state number (before + length done) (statements_at setting number (before + length done)) now
+open_room setting state number before [] now h =
+    subst (λ (n : ℕ). NowRoom setting state number n (statements_at setting number n) now) (let e : before ≡ before + 0 = omega arith in e) h
+open_room setting state number before (finished ∷ done) now h =
+    subst (λ (n : ℕ). NowRoom setting state number n (statements_at setting number n) now)
+    (let e : suc before + length done ≡ before + suc (length done) = omega arith in e) (open_room setting state number (suc before) done now h.1)
+
+-- ---- turns
+
+abbrev pub RoomTurn : Setting → State → ℕ → ℕ → ℕ → Option Bound → Turn → Type 0
+RoomTurn setting state number before prefix statement Done = Unit {0}
+RoomTurn setting state number before prefix statement (Waits by) = Unit {0}
+RoomTurn setting state number before prefix statement Begins = Unit {0}
+RoomTurn setting state number before prefix statement (Visits writes phase) = PhaseRoom setting state number before prefix statement phase
+RoomTurn setting state number before prefix statement (Answers writes reply took records) = Unit {0}
+RoomTurn setting state number before prefix statement Enters = Unit {0}
+RoomTurn setting state number before prefix statement (Ends ending) = EndRoom setting state number before prefix ending
+
+none_found : (test : ℕ → Bool) (first many : ℕ) → find test (range_with_len first many) ≡ None → (pos : ℕ) → first ≤ pos → pos < first + many
+    → test pos ≡ false
+none_found test first zero e pos from below = absurd (omega (arith, from, below))
+none_found test first (suc many) e pos from below = elim (cases_Bool (test first)) [
+  | inl t ↦ absurd (let never : Some first ≡ None = ap (λ (b : Bool). cond b (Some first) (find test (range_with_len (first + 1) many))) (sym t) ∙ e in cc)
+  | inr f ↦ elim (cases_lt first pos) [
+    | inl above ↦ none_found test (first + 1) many
+        (ap (λ (b : Bool). cond b (Some first) (find test (range_with_len (first + 1) many))) (sym f) ∙ e) pos (omega (arith, above)) (omega (arith, below))
+    | inr here ↦ ap test (let same : pos ≡ first = omega (arith, here, from) in same) ∙ f
+  ]
+]
+
+-- a chunk more is passed
+chunk_room : (setting : Setting) (state : State) (number : ℕ) (current : Open) → AtWork setting state number current → (table chunk : ℕ)
+    → RoomBelow setting state number (length (session_at state number).done) current.begun.prefix table (chunk * setting.rows)
+    → free_position setting state current.begun table chunk ≡ None
+    → RoomBelow setting state number (length (session_at state number).done) current.begun.prefix table (chunk * setting.rows + setting.rows)
+chunk_room setting state number current w table chunk h e pos below = elim (cases_lt pos (chunk * setting.rows)) [
+  | inl front ↦ h pos front
+  | inr here ↦ taken_accounted setting state number current w table pos
+      (none_found (is_free setting state current.begun table) (chunk * setting.rows) setting.rows e pos here below)
+]
+
+place_room : (setting : Setting) (state : State) (number : ℕ) (current : Open) → AtWork setting state number current → (visited table : ℕ)
+    (row : List Value) → checks_of setting (key_of setting table) ≤ visited
+    → WorkRoom setting state number (length (session_at state number).done) current.begun.prefix visited (Some (Insert table row))
+    → (pos : Option ℕ) → free_position setting state current.begun table (visited - checks_of setting (key_of setting table)) ≡ pos
+    → RoomTurn setting state number (length (session_at state number).done) current.begun.prefix (Some (Insert table row))
+    (place_turn setting current.begun visited (visited - checks_of setting (key_of setting table)) (Insert table row) table row pos)
+place_room setting state number current w visited table row past h (Some pos) e = tt
+place_room setting state number current w visited table row past h None e = elim (cases_Bool (ltb (suc chunk) setting.chunks)) [
+  | inl t ↦ rw t (λ pos below. all pos (let same : (suc visited - checks) * setting.rows ≡ chunk * setting.rows + setting.rows =
+      ap (λ (n : ℕ). n * setting.rows) (let s : suc visited - checks ≡ suc chunk = omega (arith, past) in s) ∙ next in omega (arith, below, same)))
+  | inr f ↦ rw f (λ pos below. all pos
+      (let most : setting.chunks * setting.rows ≤ suc chunk * setting.rows = mul-le-mul_right setting.rows (ltb-false (suc chunk) setting.chunks f) in
+      omega (arith, below, most, next)))
+]
+  where
+    checks : ℕ
+    checks = checks_of setting (key_of setting table)
+
+    chunk : ℕ
+    chunk = visited - checks_of setting (key_of setting table)
+
+    next : suc chunk * setting.rows ≡ chunk * setting.rows + setting.rows
+    next = omega arith
+
+    all : RoomBelow setting state number (length (session_at state number).done) current.begun.prefix table (chunk * setting.rows + setting.rows)
+    all = chunk_room setting state number current w table chunk h e
+
+check_room : (setting : Setting) (state : State) (number before prefix : ℕ) (begun : Begun) (visited table : ℕ) (row : List Value) (found : Bool)
+    → visited < checks_of setting (key_of setting table)
+    → RoomTurn setting state number before prefix (Some (Insert table row)) (check_turn setting begun visited (Insert table row) found)
+check_room setting state number before prefix begun visited table row true few = tt
+check_room setting state number before prefix begun visited table row false few =
+    λ pos below. absurd (let none : (suc visited - checks_of setting (key_of setting table)) * setting.rows ≡ 0 =
+    ap (λ (n : ℕ). n * setting.rows) (let s : suc visited - checks_of setting (key_of setting table) ≡ 0 = omega (arith, few) in s)
+    ∙ (let z : 0 * setting.rows ≡ 0 = omega arith in z) in omega (arith, below, none))
+
+insert_room : (setting : Setting) (state : State) (number : ℕ) (current : Open) → AtWork setting state number current → (visited table : ℕ)
+    (row : List Value) → WorkRoom setting state number (length (session_at state number).done) current.begun.prefix visited (Some (Insert table row))
+    → RoomTurn setting state number (length (session_at state number).done) current.begun.prefix (Some (Insert table row))
+    (insert_turn setting state current.begun visited (Insert table row) table row (key_of setting table))
+insert_room setting state number current w visited table row h = elim (cases_Bool (ltb visited (checks_of setting (key_of setting table)))) [
+  | inl t ↦ rw t (check_room setting state number (length (session_at state number).done) current.begun.prefix current.begun visited table row
+      (sees_key setting state current.begun table row (key_of setting table) visited) (ltb-true visited (checks_of setting (key_of setting table)) t))
+  | inr f ↦ rw f (place_room setting state number current w visited table row (ltb-false visited (checks_of setting (key_of setting table)) f) h
+      (free_position setting state current.begun table (visited - checks_of setting (key_of setting table))) refl)
+]
+
+refusal_room : (setting : Setting) (state : State) (number before prefix : ℕ) (kind : WriteKind) (table pos : ℕ) (opponent : Option Label) (cause : Cause)
+    → Refuses kind table pos opponent cause → EndRoom setting state number before prefix (ending_of cause)
+refusal_room setting state number before prefix kind table pos opponent RolledBack r = tt
+refusal_room setting state number before prefix kind table pos opponent (Conflict of at other) r = tt
+refusal_room setting state number before prefix kind table pos opponent (Invalid of at other statement) r = tt
+refusal_room setting state number before prefix kind table pos opponent (Range of at) r = tt
+refusal_room setting state number before prefix kind table pos opponent (Full of) r = absurd r
+
+-- statements that take no room
+abbrev Roomless : Setting → State → ℕ → ℕ → ℕ → Option Bound → Type 0
+Roomless setting state number before prefix statement = (visited : ℕ) → WorkRoom setting state number before prefix visited statement
+
+read_room : (setting : Setting) (state : State) (number before prefix : ℕ) (begun : Begun) (visited from : ℕ) (statement : Bound)
+    (gathered : List (List (List Value))) (reply : Reply) → Roomless setting state number before prefix (Some statement)
+    → RoomTurn setting state number before prefix (Some statement) (read_turn setting begun visited from statement gathered reply)
+read_room setting state number before prefix begun visited from statement gathered reply h =
+    elim (cases_Bool (ltb (suc visited) (setting.chunks * from))) [
+      | inl t ↦ rw t (h (suc visited))
+      | inr f ↦ rw f tt
+    ]
+
+write_room : (setting : Setting) (state : State) (number before prefix : ℕ) (begun : Begun) (visited count : ℕ) (statement : Bound) (kind : WriteKind)
+    (pred : Condition) (table : ℕ) → Roomless setting state number before prefix (Some statement)
+    → (result : Result (List Write) Cause) → swept setting state number begun kind pred table visited ≡ result
+    → RoomTurn setting state number before prefix (Some statement) (write_turn setting begun visited count statement kind result)
+write_room setting state number before prefix begun visited count statement kind pred table h (Err cause) e =
+    sweep_refuses (λ (one : Cause). EndRoom setting state number before prefix (ending_of one)) table (verdict_at setting state number begun kind pred table)
+    (positions_in setting visited) cause
+    (λ pos one v. refusal_room setting state number before prefix kind table pos (opponent setting state number begun.prefix table pos) one
+    (verdict_refuses kind pred table pos (opponent setting state number begun.prefix table pos) (item_at (view setting state begun) table pos) one v))
+    e
+write_room setting state number before prefix begun visited count statement kind pred table h (Ok writes) e =
+    elim (cases_Bool (ltb (suc visited) setting.chunks)) [
+      | inl t ↦ rw t (h (suc visited))
+      | inr f ↦ rw f tt
+    ]
+
+statement_room : (setting : Setting) (state : State) (number : ℕ) (current : Open) → AtWork setting state number current → (visited count : ℕ)
+    → (statement : Bound) → WorkRoom setting state number (length (session_at state number).done) current.begun.prefix visited (Some statement)
+    → RoomTurn setting state number (length (session_at state number).done) current.begun.prefix (Some statement)
+    (statement_turn setting state number current.begun visited count statement)
+statement_room setting state number current w visited count (Select tables ons pred items) h =
+    read_room setting state number (length (session_at state number).done) current.begun.prefix current.begun visited (length tables)
+    (Select tables ons pred items) (map (rows_seen (view setting state current.begun)) tables)
+    (answer_of ons pred items (map (rows_seen (view setting state current.begun)) tables)) (λ visited. tt)
+statement_room setting state number current w visited count (Group table pred key aggregate) h =
+    read_room setting state number (length (session_at state number).done) current.begun.prefix current.begun visited 1 (Group table pred key aggregate)
+    [] (grouped pred key aggregate (rows_seen (view setting state current.begun) table)) (λ visited. tt)
+statement_room setting state number current w visited count (Insert table row) h = insert_room setting state number current w visited table row h
+statement_room setting state number current w visited count (Update table sets pred) h =
+    write_room setting state number (length (session_at state number).done) current.begun.prefix current.begun visited count (Update table sets pred)
+    (kind.Set sets) pred table (λ visited. tt) (swept setting state number current.begun (kind.Set sets) pred table visited) refl
+statement_room setting state number current w visited count (Delete table pred) h =
+    write_room setting state number (length (session_at state number).done) current.begun.prefix current.begun visited count (Delete table pred)
+    kind.Delete pred table (λ visited. tt) (swept setting state number current.begun kind.Delete pred table visited) refl
+
+unless_room : (setting : Setting) (state : State) (number before prefix : ℕ) (statement : Option Bound) (turn : Turn) (by : Option Label)
+    → RoomTurn setting state number before prefix statement turn → RoomTurn setting state number before prefix statement (unless_blocked by turn)
+unless_room setting state number before prefix statement turn None h = h
+unless_room setting state number before prefix statement turn (Some by) h = tt
+
+pub undo_room : (setting : Setting) (state : State) (number before prefix : ℕ) (statement : Option Bound) (begun : Begun) (visited : ℕ) (cause : Cause)
+    → EndRoom setting state number before prefix (ending_of cause)
+    → RoomTurn setting state number before prefix statement (undo_turn setting state number begun visited cause)
+undo_room setting state number before prefix statement begun visited cause h = elim (cases_Bool (ltb visited (length (written_chunks setting begun.own)))) [
+  | inl t ↦ rw t h
+  | inr f ↦ rw f (unless_room setting state number before prefix statement (Ends (ending_of cause)) (blocker state number) h)
+]
+
+pub stamp_room : (setting : Setting) (state : State) (number before prefix : ℕ) (statement : Option Bound) (begun : Begun) (visited : ℕ)
+    → RoomTurn setting state number before prefix statement (stamp_turn setting state begun visited)
+stamp_room setting state number before prefix statement begun visited = elim (cases_Bool (ltb visited (length (written_chunks setting begun.own)))) [
+  | inl t ↦ rw t tt
+  | inr f ↦ rw f tt
+]
+
+validated_room : (setting : Setting) (state : State) (number before prefix : ℕ) (statement : Option Bound) (begun : Begun)
+    → AllByRecursion (λ (of : Record). IsNumbered (length begun.replies) of.statement) begun.records → (hit : Option Cause)
+    → first_hit begun.records (map committed_of (drop begun.prefix state.order)) ≡ hit
+    → RoomTurn setting state number before prefix statement (validated_turn hit)
+validated_room setting state number before prefix statement begun records None e = tt
+validated_room setting state number before prefix statement begun records (Some cause) e =
+    first_hit_is (λ (one : Cause). EndRoom setting state number before prefix (ending_of one)) (IsNumbered (length begun.replies)) begun.records
+    (drop begun.prefix state.order) cause records (λ i label at table pos number q. tt) e
+
+closing_room : (setting : Setting) (state : State) (number before prefix : ℕ) (statement : Option Bound) (begun : Begun)
+    → AllByRecursion (λ (of : Record). IsNumbered (length begun.replies) of.statement) begun.records → (commits : Bool)
+    → RoomTurn setting state number before prefix statement (closing_turn setting state number begun commits)
+closing_room setting state number before prefix statement begun records true = elim (cases_Bool (wrote_nothing begun.own)) [
+  | inl t ↦ rw t (unless_room setting state number before prefix statement (Ends ways.Read) (blocker state number) tt)
+  | inr f ↦ rw f (unless_room setting state number before prefix statement
+      (validated_turn (first_hit begun.records (map committed_of (drop begun.prefix state.order)))) (blocker state number)
+      (validated_room setting state number before prefix statement begun records
+      (first_hit begun.records (map committed_of (drop begun.prefix state.order))) refl))
+]
+closing_room setting state number before prefix statement begun records false =
+    undo_room setting state number before prefix statement begun 0 RolledBack tt
+
+pub working_room : (setting : Setting) (state : State) (number : ℕ) (txn : Txn) (current : Open) → AtWork setting state number current
+    → AllByRecursion (λ (of : Record). IsNumbered (length current.begun.replies) of.statement) current.begun.records → (visited count : ℕ)
+    → (statement : Option Bound) → WorkRoom setting state number (length (session_at state number).done) current.begun.prefix visited statement
+    → RoomTurn setting state number (length (session_at state number).done) current.begun.prefix statement
+    (working_turn setting state number txn current.begun visited count statement)
+working_room setting state number txn current w records visited count None h =
+    closing_room setting state number (length (session_at state number).done) current.begun.prefix None current.begun records txn.commits
+working_room setting state number txn current w records visited count (Some statement) h =
+    statement_room setting state number current w visited count statement h

@@ -56,8 +56,8 @@ abbrev pub AllPassedUnseen : Setting → State → Type 0
 AllPassedUnseen setting state = (number before : ℕ) (finished : Finished) → slice_get (session_at state number).done before ≡ Some finished
     → IfSome (committed_at finished.ending) (PassedUnseen setting state finished.begun)
 
--- these hold of every state that the machine comes to; tables without chunks have no positions, yet an INSERT looks
--- through a first chunk before it is refused, so there is to be one
+-- these hold of every state that the machine comes to; there is to be a chunk, since an INSERT looks for a free position
+-- in a first one, and in tables without chunks, which have no positions, would be answered that it took one
 abbrev pub ReachedHaveRun : Type 0
 ReachedHaveRun = (setting : Setting) (state : State) → 0 < setting.chunks → IsReached setting state → AllHaveRun setting state
 

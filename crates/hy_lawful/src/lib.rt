@@ -19,11 +19,15 @@ pub use states::{
 };
 
 /// Whatever the script and the schedule, what the machine makes of them is lawful: every transaction has its outcome
-/// once, the order has exactly the committed ones, and every ending is one that may come. Where the script fits, it is
-/// also serializable in the order of its commits: the replies of every transaction are the first of those that it gets
-/// alone over the rows that the commits before its start leave, those of a committed one are all that it gets alone
-/// over the rows that the commits before its own leave, the printed changes and the final tables are those of the
-/// whole order, a transaction wrote what its statements select, and who only reads writes nothing.
+/// once, the order has exactly the committed ones, every ending is one that may come, and a table is full only where
+/// there was no room. Where the script fits, it is also serializable in the order of its commits: the replies of every
+/// transaction are the first of those that it gets alone over the rows that the commits before its start leave, those
+/// of a committed one are all that it gets alone over the rows that the commits before its own leave, and the final
+/// tables are those of the whole order. The printed changes tell the rows at every rank, each change starting from what
+/// stands at its position. What committed between the start of a committed transaction and its own commit passes by
+/// what it wrote and by what it logs alone. What was refused was so for a cause: the first hit of what it logs alone, a
+/// row that it selects at a position that the transaction which is named has written, or a value out of range. Whatever
+/// a transaction wrote is what its statements select and place, and who only reads writes nothing.
 pub fn runs_are_lawful()
     ensures lawful { (setting : Setting) (schedule : List Item) → Lawful setting (outcome_of setting (run_of setting schedule)) }
     ensures serial { SerialRuns }

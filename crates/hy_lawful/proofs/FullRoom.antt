@@ -34,6 +34,7 @@ use Rattle.hy_lawful.proofs.PassStates.{Passed, EndPasses, OpenPasses, NowPasses
 use Rattle.hy_lawful.proofs.Lists.{one_of, or_some}
 use Rattle.hy_lawful.proofs.PassTables.{cell_at, pair_at, cell_next, tables_grow}
 use Rattle.hy_lawful.proofs.FullKeeps.{beguns_from, beguns_of, HasBegun, ended_begun, open_begun, StillHas, Goes}
+use Rattle.hy_lawful.proofs.FullMarks.{AllBefore}
 use Rattle.hy_lawful.proofs.FullOverlaps.{Overlap, overlap_later, open_overlap, MeetsOne, meets_ranked, meets_open}
 
 -- ---- what is accounted for
@@ -186,6 +187,7 @@ pub record AtWork (setting : Setting) (state : State) (number : ℕ) (current : 
   pub passes : Passes setting state
   pub is : (session_at state number).now ≡ Some current
   pub free : state.mark ≡ Some number → ⊥
+  pub before : AllBefore state
 
 abbrev pub IsAccounted : Setting → State → ℕ → Open → ℕ → ℕ → Type 0
 IsAccounted setting state number current table pos =

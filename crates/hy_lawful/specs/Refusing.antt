@@ -22,7 +22,7 @@ use Rattle.hy_lawful.specs.Outcomes.{outcome_at, committed_at, refused_statement
 use Rattle.hy_lawful.specs.Cells.{cell_at}
 use Rattle.hy_lawful.specs.Databases.{logged_by, rows_left}
 use Rattle.hy_lawful.specs.Passing.{has_place}
-use Rattle.hy_lawful.specs.Overlaps.{reaches, may_overlap}
+use Rattle.hy_lawful.specs.Overlaps.{reaches, may_overlap, stands_before}
 
 -- whether a statement, if it is there, is an UPDATE or a DELETE of a table that selects what stands in a cell of it
 abbrev pub selects : ℕ → Option Bound → Cell → Bool
@@ -59,12 +59,13 @@ WasRefused seen left statement (Range table pos) =
 WasRefused seen left statement (Full table) = Unit {0}
 
 -- conflict: the refused statement selects the row of the start at this position, which the transaction has not written,
--- and the one that is named has; that one may have been open with it
+-- and the one that is named has; that one may have been open with it, and does not stand in the order before its start
 pub record IsInConflictAt (setting : Setting) (outcome : Outcome) (txn : TxnOutcome) (table pos : ℕ) (other : Label) : Type 0 where
   pub selects : IsTrue (selects table (refused_statement setting.programs txn) (cell_at setting outcome.order txn.start table pos))
   pub not_own : IsFalse (has_place txn.wrote table pos)
   pub wrote : IsSomeAnd (outcome_at outcome other) (λ (rival : TxnOutcome). IsTrue (has_place rival.wrote table pos))
   pub overlaps : IsSomeAnd (outcome_at outcome other) (λ (rival : TxnOutcome). IsTrue (may_overlap outcome rival txn))
+  pub not_before : IsSomeAnd (outcome_at outcome other) (λ (rival : TxnOutcome). IsFalse (stands_before txn.start rival))
 
 -- what has committed at a rank did so before a transaction ended, as far as starts tell
 abbrev pub IsMetBy : Outcome → TxnOutcome → TxnOutcome → Type 0

@@ -170,6 +170,18 @@ overlap_later state later h number before start other after begin o = record {
   back = reaches_later state later h other after start o.within o.back;
 }
 
+pub swapped : (state : State) (number before start other after begin : ℕ) → Overlap state number before start other after begin
+    → Overlap state other after begin number before start
+swapped state number before start other after begin o = record {
+  apart = λ e. o.apart (sym e);
+  starts = o.begins;
+  begins = o.starts;
+  within = o.inside;
+  inside = o.within;
+  reaches = o.back;
+  back = o.reaches;
+}
+
 -- an open transaction, and one of another session that is open too
 pub open_overlap : (setting : Setting) (state : State) → Fits setting state → (number : ℕ) (current : Open) → (session_at state number).now ≡ Some current
     → (other : ℕ) (rival : Open) → (other ≡ number → ⊥) → (session_at state other).now ≡ Some rival
@@ -258,14 +270,17 @@ item_label [] rank = refl
 item_label (entry ∷ order) zero = refl
 item_label (entry ∷ order) (suc rank) = item_label order rank
 
--- an open transaction may have been open with another one, wherever this begun one stands
-pub record MeetsOne (state : State) (number : ℕ) (current : Open) (other : Label) : Type 0 where
+-- a begun transaction may have been open with another one, wherever this begun one stands
+pub record Meets (state : State) (number before prefix : ℕ) (other : Label) : Type 0 where
   pub after : ℕ
   pub begin : ℕ
   pub is : other.txn ≡ suc after
-  pub overlap : Overlap state number (length (session_at state number).done) current.begun.prefix other.session after begin
+  pub overlap : Overlap state number before prefix other.session after begin
 
-meets_open : (setting : Setting) (state : State) → Fits setting state → (number : ℕ) (current : Open) → (session_at state number).now ≡ Some current
+abbrev pub MeetsOne : State → ℕ → Open → Label → Type 0
+MeetsOne state number current other = Meets state number (length (session_at state number).done) current.begun.prefix other
+
+pub meets_open : (setting : Setting) (state : State) → Fits setting state → (number : ℕ) (current : Open) → (session_at state number).now ≡ Some current
     → (other : Label) → (other.session ≡ number → ⊥) → (now : Option Open) → (session_at state other.session).now ≡ now → NowStamps now ⊎ (now ≡ None → ⊥)
     → other.txn ≡ suc (length (session_at state other.session).done) → MeetsOne state number current other
 meets_open setting state fits number current is other apart None e open_one t = absurd (elim open_one [
@@ -319,7 +334,7 @@ begun_has setting state over number before start e = by_now (session_at state nu
         subst (NowFits setting state.order state.mark number session.done) is (over.fits.sessions number).now in
         absurd (omega (arith, present.there, over.all number))
 
-label_has : (setting : Setting) (state : State) → IsOver setting state → (label : Label) (before start : ℕ) → label.txn ≡ suc before
+pub label_has : (setting : Setting) (state : State) → IsOver setting state → (label : Label) (before start : ℕ) → label.txn ≡ suc before
     → Starts state label.session before start → HasEnded state label
 label_has setting state over label before start t e =
     txn_ended setting state over label (record {

@@ -24,6 +24,7 @@ use Rattle.hy_machine.specs.declared.Session.{Session}
 use Rattle.hy_machine.specs.declared.Open.{Open}
 use Rattle.hy_machine.specs.declared.Begun.{Begun}
 use Rattle.hy_machine.specs.declared.Finished.{Finished}
+use Rattle.hy_machine.specs.declared.Entry.{Entry}
 use Rattle.hy_machine.specs.declared.Write.{Write}
 use Rattle.hy_machine.specs.declared.Cause.{Cause}
 use Rattle.hy_machine.specs.declared.Cause.TheVariants.{RolledBack, Conflict, Invalid, Range, Full}
@@ -41,9 +42,13 @@ use Rattle.hy_machine.specs.Visits.{verdict_at, swept, sees_key, free_position, 
 use Rattle.hy_machine.specs.Turns.{rows_seen, read_turn, write_turn, check_turn, place_turn, insert_turn, statement_turn, ending_of, unless_blocked}
 use Rattle.hy_machine.specs.Turns.{undo_turn, stamp_turn, validated_turn, closing_turn, working_turn}
 use Rattle.hy_lawful.specs.Reached.{statements_at}
-use Rattle.hy_lawful.proofs.Fits.{IsNumbered}
+use Rattle.hy_lawful.proofs.Fits.{label_at, IsNumbered}
 use Rattle.hy_lawful.proofs.Refusals.{Refuses, verdict_refuses, sweep_refuses, first_hit_is}
-use Rattle.hy_lawful.proofs.FullRoom.{Accounted, accounted_goes, AtWork, taken_accounted}
+use Rattle.hy_lawful.proofs.FullRoom.{Accounted, accounted_goes, AtWork, taken_accounted, opponent_meets}
+use Rattle.hy_lawful.proofs.FullOverlaps.{Meets, Reaches, reaches_later, overlap_later, open_reaches}
+use Rattle.hy_lawful.proofs.Grows.{grows_by, label_within}
+use Rattle.hy_lawful.proofs.FullSince.{StandsSince, since_goes, opponent_since}
+use Rattle.hy_lawful.proofs.Opponents.{label_dropped}
 use Rattle.hy_lawful.proofs.FullKeeps.{Goes}
 
 -- ---- what is passed
@@ -52,13 +57,24 @@ use Rattle.hy_lawful.proofs.FullKeeps.{Goes}
 abbrev pub RoomBelow : Setting → State → ℕ → ℕ → ℕ → ℕ → ℕ → Type 0
 RoomBelow setting state number before prefix table end = (pos : ℕ) → pos < end → Accounted setting state number before prefix table pos
 
--- where a table is full, all of its positions
+-- the transaction of an entry, which came before another one ended
+pub record Met (state : State) (number before : ℕ) (other : Label) : Type 0 where
+  pub rank : ℕ
+  pub stands : label_at state.order rank ≡ Some other
+  pub reaches : Reaches state number before (rank + 1)
+
+-- a transaction may have been open with the one of a label, which does not stand in the order before its start
+pub record Rivals (state : State) (number before prefix : ℕ) (other : Label) : Type 0 where
+  pub meets : Meets state number before prefix other
+  pub since : StandsSince state prefix other
+
+-- where a table is full, all of its positions; who is named may have been open with the refused one
 abbrev pub EndRoom : Setting → State → ℕ → ℕ → ℕ → Ending → Type 0
 EndRoom setting state number before prefix (ways.Committed rank) = Unit {0}
 EndRoom setting state number before prefix ways.Read = Unit {0}
 EndRoom setting state number before prefix ways.RolledBack = Unit {0}
-EndRoom setting state number before prefix (ways.Conflict table pos other) = Unit {0}
-EndRoom setting state number before prefix (ways.Invalid table pos other statement) = Unit {0}
+EndRoom setting state number before prefix (ways.Conflict table pos other) = Rivals state number before prefix other
+EndRoom setting state number before prefix (ways.Invalid table pos other statement) = Met state number before other
 EndRoom setting state number before prefix (ways.Range table pos) = Unit {0}
 EndRoom setting state number before prefix (ways.Full table) = RoomBelow setting state number before prefix table (capacity setting)
 
@@ -102,13 +118,33 @@ AllRoom setting state = (number : ℕ) → SessionRoom setting state number (ses
 
 -- ---- it stays so
 
+met_goes : (setting : Setting) (state later : State) → Goes state later → (number before : ℕ) (other : Label) → Met state number before other
+    → Met later number before other
+met_goes setting state later g number before other m = record {
+  rank = m.rank;
+  stands = ap (λ (order : List Entry). label_at order m.rank) g.order ∙ (grows_by state.order g.entries).stands m.rank other m.stands;
+  reaches = reaches_later state later g.starts number before (m.rank + 1) (omega (arith, label_within state.order m.rank other m.stands)) m.reaches;
+}
+
+rivals_go : (setting : Setting) (state later : State) → Goes state later → (number before prefix : ℕ) (other : Label)
+    → Rivals state number before prefix other → Rivals later number before prefix other
+rivals_go setting state later g number before prefix other h = record {
+  meets = record {
+    after = h.meets.after;
+    begin = h.meets.begin;
+    is = h.meets.is;
+    overlap = overlap_later state later g.starts number before prefix other.session h.meets.after h.meets.begin h.meets.overlap;
+  };
+  since = since_goes setting state later g prefix other h.meets.overlap.within h.since;
+}
+
 end_goes : (setting : Setting) (state later : State) → Goes state later → (number before prefix : ℕ) (ending : Ending)
     → EndRoom setting state number before prefix ending → EndRoom setting later number before prefix ending
 end_goes setting state later g number before prefix (ways.Committed rank) h = tt
 end_goes setting state later g number before prefix ways.Read h = tt
 end_goes setting state later g number before prefix ways.RolledBack h = tt
-end_goes setting state later g number before prefix (ways.Conflict table pos other) h = tt
-end_goes setting state later g number before prefix (ways.Invalid table pos other statement) h = tt
+end_goes setting state later g number before prefix (ways.Conflict table pos other) h = rivals_go setting state later g number before prefix other h
+end_goes setting state later g number before prefix (ways.Invalid table pos other statement) h = met_goes setting state later g number before other h
 end_goes setting state later g number before prefix (ways.Range table pos) h = tt
 end_goes setting state later g number before prefix (ways.Full table) h =
     λ pos below. accounted_goes setting state later g number before prefix table pos (h pos below)
@@ -249,12 +285,21 @@ insert_room setting state number current w visited table row h = elim (cases_Boo
 ]
 
 refusal_room : (setting : Setting) (state : State) (number before prefix : ℕ) (kind : WriteKind) (table pos : ℕ) (opponent : Option Label) (cause : Cause)
+    → ((other : Label) → opponent ≡ Some other → Rivals state number before prefix other)
     → Refuses kind table pos opponent cause → EndRoom setting state number before prefix (ending_of cause)
-refusal_room setting state number before prefix kind table pos opponent RolledBack r = tt
-refusal_room setting state number before prefix kind table pos opponent (Conflict of at other) r = tt
-refusal_room setting state number before prefix kind table pos opponent (Invalid of at other statement) r = tt
-refusal_room setting state number before prefix kind table pos opponent (Range of at) r = tt
-refusal_room setting state number before prefix kind table pos opponent (Full of) r = absurd r
+refusal_room setting state number before prefix kind table pos opponent RolledBack meets r = tt
+refusal_room setting state number before prefix kind table pos opponent (Conflict of at other) meets r = meets other r.1
+refusal_room setting state number before prefix kind table pos opponent (Invalid of at other statement) meets r = absurd r
+refusal_room setting state number before prefix kind table pos opponent (Range of at) meets r = tt
+refusal_room setting state number before prefix kind table pos opponent (Full of) meets r = absurd r
+
+opponent_rivals : (setting : Setting) (state : State) (number : ℕ) (current : Open) → AtWork setting state number current → (table pos : ℕ)
+    (other : Label) → opponent setting state number current.begun.prefix table pos ≡ Some other
+    → Rivals state number (length (session_at state number).done) current.begun.prefix other
+opponent_rivals setting state number current w table pos other e = record {
+  meets = opponent_meets setting state number current w table pos other e;
+  since = opponent_since setting state number current w table pos other e;
+}
 
 -- statements that take no room
 abbrev Roomless : Setting → State → ℕ → ℕ → ℕ → Option Bound → Type 0
@@ -271,15 +316,16 @@ read_room setting state number before prefix begun visited from statement gather
 
 write_room : (setting : Setting) (state : State) (number before prefix : ℕ) (begun : Begun) (visited count : ℕ) (statement : Bound) (kind : WriteKind)
     (pred : Condition) (table : ℕ) → Roomless setting state number before prefix (Some statement)
+    → ((pos : ℕ) (other : Label) → opponent setting state number begun.prefix table pos ≡ Some other → Rivals state number before prefix other)
     → (result : Result (List Write) Cause) → swept setting state number begun kind pred table visited ≡ result
     → RoomTurn setting state number before prefix (Some statement) (write_turn setting begun visited count statement kind result)
-write_room setting state number before prefix begun visited count statement kind pred table h (Err cause) e =
+write_room setting state number before prefix begun visited count statement kind pred table h meets (Err cause) e =
     sweep_refuses (λ (one : Cause). EndRoom setting state number before prefix (ending_of one)) table (verdict_at setting state number begun kind pred table)
     (positions_in setting visited) cause
-    (λ pos one v. refusal_room setting state number before prefix kind table pos (opponent setting state number begun.prefix table pos) one
+    (λ pos one v. refusal_room setting state number before prefix kind table pos (opponent setting state number begun.prefix table pos) one (meets pos)
     (verdict_refuses kind pred table pos (opponent setting state number begun.prefix table pos) (item_at (view setting state begun) table pos) one v))
     e
-write_room setting state number before prefix begun visited count statement kind pred table h (Ok writes) e =
+write_room setting state number before prefix begun visited count statement kind pred table h meets (Ok writes) e =
     elim (cases_Bool (ltb (suc visited) setting.chunks)) [
       | inl t ↦ rw t (h (suc visited))
       | inr f ↦ rw f tt
@@ -299,10 +345,12 @@ statement_room setting state number current w visited count (Group table pred ke
 statement_room setting state number current w visited count (Insert table row) h = insert_room setting state number current w visited table row h
 statement_room setting state number current w visited count (Update table sets pred) h =
     write_room setting state number (length (session_at state number).done) current.begun.prefix current.begun visited count (Update table sets pred)
-    (kind.Set sets) pred table (λ visited. tt) (swept setting state number current.begun (kind.Set sets) pred table visited) refl
+    (kind.Set sets) pred table (λ visited. tt) (opponent_rivals setting state number current w table)
+    (swept setting state number current.begun (kind.Set sets) pred table visited) refl
 statement_room setting state number current w visited count (Delete table pred) h =
     write_room setting state number (length (session_at state number).done) current.begun.prefix current.begun visited count (Delete table pred)
-    kind.Delete pred table (λ visited. tt) (swept setting state number current.begun kind.Delete pred table visited) refl
+    kind.Delete pred table (λ visited. tt) (opponent_rivals setting state number current w table)
+    (swept setting state number current.begun kind.Delete pred table visited) refl
 
 unless_room : (setting : Setting) (state : State) (number before prefix : ℕ) (statement : Option Bound) (turn : Turn) (by : Option Label)
     → RoomTurn setting state number before prefix statement turn → RoomTurn setting state number before prefix statement (unless_blocked by turn)
@@ -325,25 +373,31 @@ stamp_room setting state number before prefix statement begun visited = elim (ca
 ]
 
 validated_room : (setting : Setting) (state : State) (number before prefix : ℕ) (statement : Option Bound) (begun : Begun)
-    → AllByRecursion (λ (of : Record). IsNumbered (length begun.replies) of.statement) begun.records → (hit : Option Cause)
+    → AllByRecursion (λ (of : Record). IsNumbered (length begun.replies) of.statement) begun.records
+    → ((rank : ℕ) → Reaches state number before rank) → (hit : Option Cause)
     → first_hit begun.records (map committed_of (drop begun.prefix state.order)) ≡ hit
     → RoomTurn setting state number before prefix statement (validated_turn hit)
-validated_room setting state number before prefix statement begun records None e = tt
-validated_room setting state number before prefix statement begun records (Some cause) e =
+validated_room setting state number before prefix statement begun records last None e = tt
+validated_room setting state number before prefix statement begun records last (Some cause) e =
     first_hit_is (λ (one : Cause). EndRoom setting state number before prefix (ending_of one)) (IsNumbered (length begun.replies)) begun.records
-    (drop begun.prefix state.order) cause records (λ i label at table pos number q. tt) e
+    (drop begun.prefix state.order) cause records (λ i label at table pos statement q. record {
+      rank = begun.prefix + i;
+      stands = sym (label_dropped begun.prefix state.order i) ∙ at;
+      reaches = last (begun.prefix + i + 1);
+    }) e
 
 closing_room : (setting : Setting) (state : State) (number before prefix : ℕ) (statement : Option Bound) (begun : Begun)
-    → AllByRecursion (λ (of : Record). IsNumbered (length begun.replies) of.statement) begun.records → (commits : Bool)
+    → AllByRecursion (λ (of : Record). IsNumbered (length begun.replies) of.statement) begun.records
+    → ((rank : ℕ) → Reaches state number before rank) → (commits : Bool)
     → RoomTurn setting state number before prefix statement (closing_turn setting state number begun commits)
-closing_room setting state number before prefix statement begun records true = elim (cases_Bool (wrote_nothing begun.own)) [
+closing_room setting state number before prefix statement begun records last true = elim (cases_Bool (wrote_nothing begun.own)) [
   | inl t ↦ rw t (unless_room setting state number before prefix statement (Ends ways.Read) (blocker state number) tt)
   | inr f ↦ rw f (unless_room setting state number before prefix statement
       (validated_turn (first_hit begun.records (map committed_of (drop begun.prefix state.order)))) (blocker state number)
-      (validated_room setting state number before prefix statement begun records
+      (validated_room setting state number before prefix statement begun records last
       (first_hit begun.records (map committed_of (drop begun.prefix state.order))) refl))
 ]
-closing_room setting state number before prefix statement begun records false =
+closing_room setting state number before prefix statement begun records last false =
     undo_room setting state number before prefix statement begun 0 RolledBack tt
 
 pub working_room : (setting : Setting) (state : State) (number : ℕ) (txn : Txn) (current : Open) → AtWork setting state number current
@@ -352,6 +406,7 @@ pub working_room : (setting : Setting) (state : State) (number : ℕ) (txn : Txn
     → RoomTurn setting state number (length (session_at state number).done) current.begun.prefix statement
     (working_turn setting state number txn current.begun visited count statement)
 working_room setting state number txn current w records visited count None h =
-    closing_room setting state number (length (session_at state number).done) current.begun.prefix None current.begun records txn.commits
+    closing_room setting state number (length (session_at state number).done) current.begun.prefix None current.begun records
+    (open_reaches state number current w.is) txn.commits
 working_room setting state number txn current w records visited count (Some statement) h =
     statement_room setting state number current w visited count statement h

@@ -2,7 +2,7 @@
 -- one that stands before its start, or by one that may have been open with it.
 use Rattle.std.proofs.Common.{◌≡◌, ℕ, zero, suc, ◌+◌, ◌-◌, ◌<◌, ◌≤◌, List, [], ◌∷◌, Option, None, Some, Bool, true, false, not, is_some, get_or}
 use Rattle.std.proofs.Common.{length, map, drop, refl, ap, sym, ◌∙◌}
-use Rattle.std.proofs.Common.{subst, arith, inl, inr, ◌⊎◌}
+use Rattle.std.proofs.Common.{subst, arith, inl, inr, ◌⊎◌, zero-add}
 use Rattle.std.specs.Prelude.{slice_get, IfSome, ◌&&◌, ◌||◌}
 use Rattle.std.specs.List.{list_any, range_with_len}
 use Rattle.std.proofs.lemmas.Bool.{cases_lt, cases_eq}
@@ -19,22 +19,23 @@ use Rattle.hy_machine.specs.declared.Entry.{Entry}
 use Rattle.hy_machine.specs.declared.Pair.{Pair}
 use Rattle.hy_machine.specs.declared.Phase.{Phase}
 use Rattle.hy_machine.specs.declared.Phase.TheVariants.{Working, Stamping, Undoing}
-use Rattle.hy_machine.specs.Positions.{item_at}
+use Rattle.hy_machine.specs.Positions.{item_at, last_some}
 use Rattle.hy_machine.specs.Tables.{Cell, Tables, chunk_of, laid_out, capacity}
 use Rattle.hy_machine.specs.Writes.{written_chunks, is_among}
-use Rattle.hy_machine.specs.Sessions.{fresh, session_at, snapshot}
-use Rattle.hy_machine.specs.Holding.{undone, holds, is_held, has_pair, is_free}
+use Rattle.hy_machine.specs.Sessions.{fresh, session_at, label_of, snapshot}
+use Rattle.hy_machine.specs.Holding.{undone, holds, holder_from, changer_at, opponent, is_held, has_pair, is_free}
 use Rattle.hy_lawful.specs.Outcomes.{committed_at}
 use Rattle.hy_lawful.proofs.Booleans.{and_left}
 use Rattle.hy_lawful.proofs.Fits.{label_at, EndsAs, OpenFits, NowFits, PhaseFits, Ranked, ended, entered, NowStamps, top_of, Fits}
 use Rattle.hy_lawful.proofs.Grows.{grows_by}
 use Rattle.hy_lawful.proofs.Followers.{done_fits}
-use Rattle.hy_lawful.proofs.Opponents.{ranked_apart}
+use Rattle.hy_lawful.proofs.Opponents.{holder_is, changer_is, label_dropped, held_open, ranked_apart}
 use Rattle.hy_lawful.proofs.PassStates.{Passed, EndPasses, OpenPasses, NowPasses, PhasePasses, Passes}
-use Rattle.hy_lawful.proofs.Lists.{one_of}
+use Rattle.hy_lawful.proofs.Lists.{one_of, or_some}
 use Rattle.hy_lawful.proofs.PassTables.{cell_at, pair_at, cell_next, tables_grow}
 use Rattle.hy_lawful.proofs.FullKeeps.{beguns_from, beguns_of, HasBegun, ended_begun, open_begun, StillHas, Goes}
-use Rattle.hy_lawful.proofs.FullOverlaps.{Overlap, overlap_later, open_overlap, MeetsOne, meets_ranked}
+use Rattle.hy_lawful.proofs.FullMarks.{AllBefore}
+use Rattle.hy_lawful.proofs.FullOverlaps.{Overlap, overlap_later, open_overlap, MeetsOne, meets_ranked, meets_open}
 
 -- ---- what is accounted for
 
@@ -186,6 +187,7 @@ pub record AtWork (setting : Setting) (state : State) (number : ℕ) (current : 
   pub passes : Passes setting state
   pub is : (session_at state number).now ≡ Some current
   pub free : state.mark ≡ Some number → ⊥
+  pub before : AllBefore state
 
 abbrev pub IsAccounted : Setting → State → ℕ → Open → ℕ → ℕ → Type 0
 IsAccounted setting state number current table pos =
@@ -195,6 +197,28 @@ present_of : (setting : Setting) (state : State) (number : ℕ) (current : Open)
     → OpenFits setting state.order state.mark number (session_at state number).done current
 present_of setting state number current w =
     subst (NowFits setting state.order state.mark number (session_at state number).done) w.is (w.fits.sessions number).now
+
+-- the transaction of an entry since its start may have been open with it
+ranked_meets : (setting : Setting) (state : State) (number : ℕ) (current : Open) → AtWork setting state number current → (rank : ℕ) (other : Label)
+    → current.begun.prefix ≤ rank → Ranked state rank other → MeetsOne state number current other
+ranked_meets setting state number current w rank other since ranked =
+    let above : top_of 0 (session_at state number).done ≤ rank = omega (arith, since, (present_of setting state number current w).above) in
+    meets_ranked setting state w.fits number current w.is other (ranked_apart setting state w.fits number w.free rank other above ranked) rank since ranked
+
+-- whoever is in the way of a write may have been open with the writer
+pub opponent_meets : (setting : Setting) (state : State) (number : ℕ) (current : Open) → AtWork setting state number current → (table pos : ℕ)
+    (other : Label) → opponent setting state number current.begun.prefix table pos ≡ Some other → MeetsOne state number current other
+opponent_meets setting state number current w table pos other e =
+    let prefix : ℕ = current.begun.prefix in
+    elim (or_some (holder_from setting number table pos 0 state.sessions) (last_some (changer_at table pos) (drop prefix state.order)) other e) [
+      | inl h ↦ holder_is (MeetsOne state number current) setting number table pos 0 state.sessions other
+          (λ i apart held. subst (λ (n : ℕ). MeetsOne state number current (label_of n (session_at state i))) (sym (zero-add i))
+          (meets_open setting state w.fits number current w.is (label_of i (session_at state i)) (λ same. apart (zero-add i ∙ same))
+          (session_at state i).now refl (inr (held_open setting table pos (session_at state i).now held)) refl)) h
+      | inr c ↦ changer_is (MeetsOne state number current) table pos (drop prefix state.order) other
+          (λ i one at. ranked_meets setting state number current w (prefix + i) one (omega arith)
+          (w.fits.ranked (prefix + i) one (sym (label_dropped prefix state.order i) ∙ at))) c
+    ]
 
 born_accounted : (setting : Setting) (state : State) (number : ℕ) (current : Open) → AtWork setting state number current → (rank table pos : ℕ) (pair : Pair)
     → pair_at state.order rank table pos ≡ Some pair → pair.before ≡ None → IsAccounted setting state number current table pos
@@ -206,9 +230,7 @@ born_accounted setting state number current w rank table pos pair e b =
     elim (cases_lt rank current.begun.prefix) [
       | inl below ↦ of_earlier rank named.0 o.after named.1 below o.is placed
       | inr since ↦
-          let above : top_of 0 (session_at state number).done ≤ rank = omega (arith, since, (present_of setting state number current w).above) in
-          let meets : MeetsOne state number current named.0 = meets_ranked setting state w.fits number current w.is named.0
-          (ranked_apart setting state w.fits number w.free rank named.0 above ranked) rank since ranked in
+          let meets : MeetsOne state number current named.0 = ranked_meets setting state number current w rank named.0 since ranked in
           of_rival named.0.session meets.after meets.begin meets.overlap
           (subst (λ (n : ℕ). Placed setting state named.0.session n table pos)
           (let same : o.after ≡ meets.after = omega (arith, o.is, meets.is) in same) placed)

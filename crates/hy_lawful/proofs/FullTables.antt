@@ -35,7 +35,7 @@ use Rattle.hy_lawful.proofs.Outcomes.{each_outcome, outcome_found}
 use Rattle.hy_lawful.proofs.Over.{IsOver, HasCommitted, entry_committed}
 use Rattle.hy_lawful.proofs.FullCounts.{one_if, if_most, either, none_pass}
 use Rattle.hy_lawful.proofs.FullKeeps.{beguns_from}
-use Rattle.hy_lawful.proofs.FullOverlaps.{Overlap, overlap_told}
+use Rattle.hy_lawful.proofs.FullOverlaps.{overlap_told, swapped}
 use Rattle.hy_lawful.proofs.FullPlaced.{reached_placed}
 use Rattle.hy_lawful.proofs.FullRoom.{Placed, Accounted, of_first, of_own, of_earlier, of_rival}
 use Rattle.hy_lawful.proofs.FullPassed.{EndRoom}
@@ -198,18 +198,6 @@ ended_placed setting state over number before table pos p =
           (and_true (is_some (item_at p.begun.own table pos)) (not (is_some (item_at (snapshot setting state p.begun.prefix) table pos))) p.wrote
           (none_row (item_at (snapshot setting state p.begun.prefix) table pos) p.empty));
     }
-
-swapped : (state : State) (number before start other after begin : ℕ) → Overlap state number before start other after begin
-    → Overlap state other after begin number before start
-swapped state number before start other after begin o = record {
-  apart = λ e. o.apart (sym e);
-  starts = o.begins;
-  begins = o.starts;
-  within = o.inside;
-  inside = o.within;
-  reaches = o.back;
-  back = o.reaches;
-}
 
 accounted_room : (setting : Setting) (state : State) → IsOver setting state → (number before : ℕ) (finished : Finished)
     → slice_get (session_at state number).done before ≡ Some finished → (table pos : ℕ)

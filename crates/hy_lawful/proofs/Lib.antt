@@ -51,11 +51,13 @@ pub mod WroteSerial
 pub mod WroteCounts
 pub mod WroteNew
 pub mod FullStarts
+pub mod FullMarks
 pub mod FullOverlaps
 pub mod FullCounts
 pub mod FullPlaced
 pub mod FullKeeps
 pub mod FullRoom
+pub mod FullSince
 pub mod FullPassed
 pub mod FullSteps
 pub mod FullTables

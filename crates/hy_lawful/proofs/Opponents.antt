@@ -77,7 +77,7 @@ open_has setting order mark number session fits (Some current) is some =
     let present : NowFits setting order mark number session.done (Some current) = subst (NowFits setting order mark number session.done) is fits.now in
     record { first = omega arith; few = omega (arith, present.there) }
 
-held_open : (setting : Setting) (table pos : ℕ) (now : Option Open) → holds setting table pos now ≡ true → now ≡ None → ⊥
+pub held_open : (setting : Setting) (table pos : ℕ) (now : Option Open) → holds setting table pos now ≡ true → now ≡ None → ⊥
 held_open setting table pos None h e = absurd cc
 held_open setting table pos (Some current) h e = absurd cc
 

@@ -33,12 +33,14 @@ use Rattle.hy_lawful.proofs.SerialScripts.{statements_behind, transactions_of, t
 use Rattle.hy_lawful.proofs.PrintedTables.{IsOrder}
 use Rattle.hy_lawful.proofs.PassTables.{tables_are}
 use Rattle.hy_lawful.proofs.PassStates.{EndPasses, Passes}
+use Rattle.hy_machine.specs.Runs.{IsReached}
 use Rattle.hy_lawful.proofs.Lists.{one_of}
 use Rattle.hy_lawful.proofs.SerialTables.{opening_bags, opening_widths}
 use Rattle.hy_lawful.proofs.WroteStates.{EndedAllWrote}
 
 -- what is known of a state at its end
 pub record AtEnd (setting : Setting) (state : State) : Type 0 where
+  pub reached : IsReached setting state
   pub over : IsOver setting state
   pub ran : AllHaveRun setting state
   pub unseen : AllPassedUnseen setting state

@@ -1,6 +1,7 @@
 -- What was refused was so for a cause.
-use Rattle.std.proofs.Common.{◌≡◌, ℕ, suc, List, Option, None, Some, length, map, take, drop, refl, ap, sym, ◌∙◌, subst, arith}
-use Rattle.std.specs.Prelude.{IsTrue, slice_get, ◌||◌}
+use Rattle.std.proofs.Common.{◌≡◌, ℕ, suc, ◌+◌, ◌<◌, ◌≤◌, List, Option, None, Some, false, inl, inr, length, map, take, drop, refl, ap, sym, ◌∙◌, subst, arith}
+use Rattle.std.proofs.lemmas.Bool.{cases_Bool, ltb-true}
+use Rattle.std.specs.Prelude.{IsTrue, IsFalse, nat_lt, slice_get, ◌||◌}
 use Rattle.std.specs.List.{list_any}
 use Rattle.std.specs.Option.{IsSomeAnd}
 use Rattle.std.proofs.lemmas.List.{drop-map}
@@ -26,11 +27,16 @@ use Rattle.hy_machine.specs.Outcomes.{txn_outcome_of, outcome_of}
 use Rattle.hy_replay.specs.Laws.{bags_of}
 use Rattle.hy_replay.specs.BagLaws.{alone_as}
 use Rattle.hy_lawful.specs.Scripts.{statements_of}
-use Rattle.hy_lawful.specs.Outcomes.{outcome_at, refused_statement}
+use Rattle.hy_lawful.specs.Outcomes.{outcome_at, committed_at, refused_statement}
 use Rattle.hy_lawful.specs.Reached.{EndedHasRun, statements_at}
 use Rattle.hy_lawful.specs.Databases.{database_at}
-use Rattle.hy_lawful.specs.Refusing.{IsRefusedBy, WasRefused, selects, goes_out, goes_out_at}
+use Rattle.hy_lawful.specs.Refusing.{IsRefusedBy, IsMetBy, WasRefused, selects, goes_out, goes_out_at}
 use Rattle.hy_lawful.specs.Passing.{has_place}
+use Rattle.hy_lawful.specs.Overlaps.{reaches, may_overlap, is_below, stands_before}
+use Rattle.hy_lawful.proofs.Over.{HasEnded, HasCommitted, entry_committed, outcome_has}
+use Rattle.hy_lawful.proofs.FullOverlaps.{Overlap, swapped, overlap_told, reaches_told, Meets, label_has}
+use Rattle.hy_lawful.proofs.FullPassed.{EndRoom, Met, Rivals}
+use Rattle.hy_lawful.proofs.FullSteps.{ended_room}
 use Rattle.hy_lawful.proofs.Fits.{Ends, IsInvalid, OpenFits, NowFits}
 use Rattle.hy_lawful.proofs.Followers.{done_fits}
 use Rattle.hy_lawful.proofs.Outcomes.{outcome_found}
@@ -44,7 +50,7 @@ use Rattle.hy_lawful.proofs.PassWritten.{HasWritten, by_ended, by_open, Names}
 use Rattle.hy_lawful.proofs.SerialRanges.{out_in_bags, written_or_out}
 use Rattle.hy_lawful.proofs.RunSweeps.{kept_item}
 use Rattle.hy_lawful.proofs.SerialEnd.{answered_all}
-use Rattle.hy_lawful.proofs.SerialEnd.{bags_at, order_of, end_passes, logs_alone, AtEnd, Laws}
+use Rattle.hy_lawful.proofs.SerialEnd.{ending_at, stands_committed, bags_at, order_of, end_passes, logs_alone, AtEnd, Laws}
 
 -- the refused statement, by its label
 refused_over : (setting : Setting) (state : State) (end : AtEnd setting state) → (number before : ℕ) (finished : Finished)
@@ -88,6 +94,58 @@ rival_wrote setting state end other table pos (by_open current is now own) =
     subst (NowFits setting state.order state.mark other.session session.done) now (end.over.fits.sessions other.session).now in
     absurd (omega (arith, present.there, end.over.all other.session))
 
+-- at the end the one that a conflict names may have been open with the refused one
+rival_overlaps : (setting : Setting) (state : State) → AtEnd setting state → (number before : ℕ) (finished : Finished)
+    → slice_get (session_at state number).done before ≡ Some finished → (other : Label) → Meets state number before finished.begun.prefix other
+    → IsSomeAnd (outcome_at (outcome_of setting state) other)
+    (λ (rival : TxnOutcome). IsTrue (may_overlap (outcome_of setting state) rival (txn_outcome_of setting number before finished)))
+rival_overlaps setting state end number before finished at other m =
+    let has : HasEnded state other = label_has setting state end.over other m.after m.begin m.is m.overlap.begins in
+    subst (λ (o : Option TxnOutcome). IsSomeAnd o
+    (λ (rival : TxnOutcome). IsTrue (may_overlap (outcome_of setting state) rival (txn_outcome_of setting number before finished))))
+    (sym (outcome_has setting state other has))
+    (overlap_told setting state other.session has.before m.begin number before finished.begun.prefix
+    (subst (λ (n : ℕ). Overlap state other.session n m.begin number before finished.begun.prefix)
+    (let same : m.after ≡ has.before = omega (arith, m.is, has.is) in same)
+    (swapped state number before finished.begun.prefix other.session m.after m.begin m.overlap)) has.finished finished has.at at)
+
+not_below : (prefix : ℕ) (ending : Ending) → ((rank : ℕ) → ending ≡ Committed rank → prefix ≤ rank) → is_below prefix (committed_at ending) ≡ false
+not_below prefix ending h = by_rank (committed_at ending) refl
+  where
+    by_rank : (rank : Option ℕ) → committed_at ending ≡ rank → is_below prefix rank ≡ false
+    by_rank None e = refl
+    by_rank (Some rank) e = elim (cases_Bool (nat_lt rank prefix)) [
+      | inl t ↦ absurd (let since : prefix ≤ rank = h rank (ending_at ending rank e) in
+          let below : rank < prefix = ltb-true rank prefix t in omega (arith, since, below))
+      | inr f ↦ f
+    ]
+
+-- at the end the one that a conflict names does not stand in the order before the start of the refused one
+rival_since : (setting : Setting) (state : State) → AtEnd setting state → (number before : ℕ) (finished : Finished) (other : Label)
+    → Rivals state number before finished.begun.prefix other
+    → IsSomeAnd (outcome_at (outcome_of setting state) other) (λ (rival : TxnOutcome). IsFalse (stands_before finished.begun.prefix rival))
+rival_since setting state end number before finished other h =
+    let has : HasEnded state other =
+    label_has setting state end.over other h.meets.after h.meets.begin h.meets.is h.meets.overlap.begins in
+    subst (λ (o : Option TxnOutcome). IsSomeAnd o (λ (rival : TxnOutcome). IsFalse (stands_before finished.begun.prefix rival)))
+    (sym (outcome_has setting state other has))
+    (not_below finished.begun.prefix has.finished.ending (λ rank e. h.since rank
+    ((stands_committed setting state end other.session has.before has.finished rank (record { at = has.at; ending = e })).stands
+    ∙ ap (λ (txn : ℕ). Some (record { session = other.session; txn = txn })) (sym has.is))))
+
+-- at the end the one that a hit names has committed, at a rank that came before the refused one ended
+named_met : (setting : Setting) (state : State) → AtEnd setting state → (number before : ℕ) (finished : Finished) (other : Label)
+    → Met state number before other
+    → IsSomeAnd (outcome_at (outcome_of setting state) other) (IsMetBy (outcome_of setting state) (txn_outcome_of setting number before finished))
+named_met setting state end number before finished other m =
+    let committed : HasCommitted state other m.rank =
+    entry_committed setting state end.over m.rank other (end.over.fits.ranked m.rank other m.stands) in
+    subst (λ (o : Option TxnOutcome). IsSomeAnd o (IsMetBy (outcome_of setting state) (txn_outcome_of setting number before finished)))
+    (sym (outcome_has setting state other committed.has))
+    (subst (λ (ending : Ending). IsSomeAnd (committed_at ending)
+    (λ (rank : ℕ). IsTrue (reaches (outcome_of setting state) (txn_outcome_of setting number before finished) (rank + 1)))) (sym committed.ending)
+    (reaches_told setting state number before (m.rank + 1) finished m.reaches))
+
 end_names : (setting : Setting) (state : State) → AtEnd setting state → (number before : ℕ) (finished : Finished)
     → slice_get (session_at state number).done before ≡ Some finished → Names state finished.ending
 end_names setting state end number before finished at =
@@ -102,6 +160,8 @@ refused_by laws setting state end number before finished at Read e = tt
 refused_by laws setting state end number before finished at RolledBack e = tt
 refused_by laws setting state end number before finished at (Conflict table pos other) e =
     let has : EndedHasRun setting state number before finished = end.ran number before finished at in
+    let rivals : Rivals state number before finished.begun.prefix other =
+    subst (EndRoom setting state number before finished.begun.prefix) e (ended_room setting state end.reached number before finished at) in
     let free : item_at finished.begun.own table pos ≡ None =
     subst (IsRefusal state.order finished.begun) e (end_passes setting state end number before finished at).1 in
     record {
@@ -114,6 +174,8 @@ refused_by laws setting state end number before finished at (Conflict table pos 
           (refused_over setting state end number before finished at);
       not_own = place_missing finished.begun.own table pos free;
       wrote = rival_wrote setting state end other table pos (subst (Names state) e (end_names setting state end number before finished at));
+      overlaps = rival_overlaps setting state end number before finished at other rivals.meets;
+      not_before = rival_since setting state end number before finished other rivals;
     }
 refused_by laws setting state end number before finished at (Invalid table pos other statement) e =
     let invalid : IsInvalid setting state.order (txn_outcome_of setting number before finished) other statement =
@@ -121,9 +183,13 @@ refused_by laws setting state end number before finished at (Invalid table pos o
     (done_fits setting state end.over.fits number before finished at).ends in
     let hit : first_hit finished.begun.records (map committed_of (drop finished.begun.prefix state.order)) ≡ Some (cause.Invalid table pos other statement) =
     subst (IsRefusal state.order finished.begun) e (end_passes setting state end number before finished at).1 in
-    ap (λ (records : List Record). first_hit records (drop finished.begun.prefix (map committed_of state.order)))
-    (sym (logs_alone laws setting state end number before finished at (answered_all setting number before finished invalid.answers)))
-    ∙ (ap (first_hit finished.begun.records) (drop-map committed_of finished.begun.prefix state.order) ∙ hit)
+    record {
+      hit = ap (λ (records : List Record). first_hit records (drop finished.begun.prefix (map committed_of state.order)))
+          (sym (logs_alone laws setting state end number before finished at (answered_all setting number before finished invalid.answers)))
+          ∙ (ap (first_hit finished.begun.records) (drop-map committed_of finished.begun.prefix state.order) ∙ hit);
+      met = named_met setting state end number before finished other
+          (subst (EndRoom setting state number before finished.begun.prefix) e (ended_room setting state end.reached number before finished at));
+    }
 refused_by laws setting state end number before finished at (Range table pos) e =
     let has : EndedHasRun setting state number before finished = end.ran number before finished at in
     let tables : Tables = snapshot setting state finished.begun.prefix in

@@ -196,4 +196,5 @@ serial_runs steps ends ran unseen again keeps alone logs setting schedule chunke
       passes = reached_passes setting state reached;
       wrote = ended_wrote setting state chunked reached;
       script = script;
+      reached = reached;
     })

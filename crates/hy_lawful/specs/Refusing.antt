@@ -1,5 +1,5 @@
 -- Why a statement is refused: it selects a row, or a value goes out of range for one that it selects.
-use Rattle.std.specs.Prelude.{◌≡◌, ℕ, List, Bool, false, ◌&&◌, ◌||◌, ◌==◌, Option, None, Some, is_none, IsTrue, IsFalse, drop}
+use Rattle.std.specs.Prelude.{◌≡◌, ℕ, ◌+◌, List, Bool, false, ◌&&◌, ◌||◌, ◌==◌, Option, None, Some, is_none, IsTrue, IsFalse, drop}
 use Rattle.std.specs.List.{list_any}
 use Rattle.std.specs.Option.{IsSomeAnd}
 use Rattle.hy_value.specs.declared.Value.{Value}
@@ -18,10 +18,11 @@ use Rattle.hy_machine.specs.declared.Cause.TheVariants as cause
 use Rattle.hy_machine.specs.Positions.{item_at}
 use Rattle.hy_machine.specs.Tables.{Cell, Tables}
 use Rattle.hy_machine.specs.Validation.{first_hit}
-use Rattle.hy_lawful.specs.Outcomes.{outcome_at, refused_statement}
+use Rattle.hy_lawful.specs.Outcomes.{outcome_at, committed_at, refused_statement}
 use Rattle.hy_lawful.specs.Cells.{cell_at}
 use Rattle.hy_lawful.specs.Databases.{logged_by, rows_left}
 use Rattle.hy_lawful.specs.Passing.{has_place}
+use Rattle.hy_lawful.specs.Overlaps.{reaches, may_overlap, stands_before}
 
 -- whether a statement, if it is there, is an UPDATE or a DELETE of a table that selects what stands in a cell of it
 abbrev pub selects : ℕ → Option Bound → Cell → Bool
@@ -58,11 +59,23 @@ WasRefused seen left statement (Range table pos) =
 WasRefused seen left statement (Full table) = Unit {0}
 
 -- conflict: the refused statement selects the row of the start at this position, which the transaction has not written,
--- and the one that is named has
+-- and the one that is named has; that one may have been open with it, and does not stand in the order before its start
 pub record IsInConflictAt (setting : Setting) (outcome : Outcome) (txn : TxnOutcome) (table pos : ℕ) (other : Label) : Type 0 where
   pub selects : IsTrue (selects table (refused_statement setting.programs txn) (cell_at setting outcome.order txn.start table pos))
   pub not_own : IsFalse (has_place txn.wrote table pos)
   pub wrote : IsSomeAnd (outcome_at outcome other) (λ (rival : TxnOutcome). IsTrue (has_place rival.wrote table pos))
+  pub overlaps : IsSomeAnd (outcome_at outcome other) (λ (rival : TxnOutcome). IsTrue (may_overlap outcome rival txn))
+  pub not_before : IsSomeAnd (outcome_at outcome other) (λ (rival : TxnOutcome). IsFalse (stands_before txn.start rival))
+
+-- what has committed at a rank did so before a transaction ended, as far as starts tell
+abbrev pub IsMetBy : Outcome → TxnOutcome → TxnOutcome → Type 0
+IsMetBy outcome txn other = IsSomeAnd (committed_at other.ending) (λ (rank : ℕ). IsTrue (reaches outcome txn (rank + 1)))
+
+-- invalid: the first hit of what the transaction logs alone by the entries from its start on is this one; that entry came
+-- before it ended
+pub record IsInvalidAt (setting : Setting) (outcome : Outcome) (txn : TxnOutcome) (table pos : ℕ) (other : Label) (statement : ℕ) : Type 0 where
+  pub hit : first_hit (logged_by setting outcome.order txn) (drop txn.start outcome.order) ≡ Some (cause.Invalid table pos other statement)
+  pub met : IsSomeAnd (outcome_at outcome other) (IsMetBy outcome txn)
 
 -- out of range: a value goes out of range for some row that the answered statements leave alone; at this position, it
 -- does so for the row of the start, or the transaction has written the position
@@ -71,14 +84,12 @@ pub record IsOutOfRangeAt (setting : Setting) (order : List Entry) (txn : TxnOut
   pub here : IsTrue (has_place txn.wrote table pos
       || goes_out_at table (refused_statement setting.programs txn) (cell_at setting order txn.start table pos))
 
--- why a transaction ends that was refused: a conflict; the first hit of what it logs alone by the entries from its start
--- on; or a value out of range
+-- why a transaction ends that was refused: a conflict, a hit, or a value out of range
 abbrev pub IsRefusedBy : Setting → Outcome → TxnOutcome → Ending → Type 0
 IsRefusedBy setting outcome txn (Committed rank) = Unit {0}
 IsRefusedBy setting outcome txn Read = Unit {0}
 IsRefusedBy setting outcome txn RolledBack = Unit {0}
 IsRefusedBy setting outcome txn (Conflict table pos other) = IsInConflictAt setting outcome txn table pos other
-IsRefusedBy setting outcome txn (Invalid table pos other statement) =
-    first_hit (logged_by setting outcome.order txn) (drop txn.start outcome.order) ≡ Some (cause.Invalid table pos other statement)
+IsRefusedBy setting outcome txn (Invalid table pos other statement) = IsInvalidAt setting outcome txn table pos other statement
 IsRefusedBy setting outcome txn (Range table pos) = IsOutOfRangeAt setting outcome.order txn table pos
 IsRefusedBy setting outcome txn (Full table) = Unit {0}

@@ -1,0 +1,53 @@
+//! The core, and what a transaction notes.
+
+ghost use Rattle.std.specs.Prelude.{◌≡◌, IfOk, length};
+
+use hy_core::Core;
+use hy_notes::{Changes, net};
+use hy_stamp::Label;
+use hy_value::{Row, Seq, Value};
+use std::alloc::{AllocError, Global};
+use std::test::Fail;
+
+/// A writer, and another transaction.
+const WRITER: Label = Label { session: 0, txn: 1 };
+const OTHER: Label = Label { session: 1, txn: 1 };
+
+/// A row of two numbers.
+fn numbers(alloc: Global, first: i64, second: i64) -> Result<Row, AllocError>
+    ensures { IfOk result (λ row. length row ≡ 2) }
+{
+    let mut row = Seq::new(alloc);
+    row.push(Value::Int(first))?;
+    row.push(Value::Int(second))?;
+    Ok(row)
+}
+
+#[test]
+fn a_row_that_comes_and_goes_is_no_change(rt: HostRuntime) -> Result<(), Fail> {
+    let alloc = rt.alloc();
+    let row = numbers(alloc, 3, 1)?;
+    let mut changes = Changes::new(alloc);
+    changes.reserve(2, 2)?;
+    changes.note_reserved(0, 2, None, Some(&row));
+    changes.note_reserved(0, 2, Some(&row), None);
+    assert_eq!(rt; changes.len(), 1);
+    assert_eq!(rt; net(alloc, changes.notes())?.len(), 0);
+    assert_eq!(rt; changes.places()?.len(), 1);
+    Ok(())
+}
+
+#[test]
+fn a_commit_is_marked_until_its_end(rt: HostRuntime) -> Result<(), Fail> {
+    let mut core = Core::new(rt.alloc());
+    let begun = core.begin()?;
+    assert_eq!(rt; (begun.start, begun.prefix, begun.cover.next), (1, 0, 2));
+    assert_eq!(rt; begun.cover.starts.as_slice(), [1].as_slice());
+    let time = core.enter(WRITER, begun.start, Changes::new(rt.alloc()));
+    assert_eq!(rt; time.ok(), Some(2));
+    assert_eq!(rt; (core.blocked(OTHER), core.blocked(WRITER)), (Some(WRITER), None));
+    core.leave(begun.start);
+    assert_eq!(rt; core.blocked(OTHER), None);
+    assert_eq!(rt; core.since(0).len(), 1);
+    Ok(())
+}

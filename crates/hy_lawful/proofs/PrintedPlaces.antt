@@ -55,7 +55,7 @@ found_in_table table pos at (Some cell ∷ cells) (suc i) e h =
     or_right (table == table && at == pos) (has_place (by_position (place_at table) (suc at) cells) table pos)
     (found_in_table table pos (suc at) cells i (let same : suc at + i ≡ pos = omega (arith, e) in same) h)
 
-has_joined : (places others : List Place) (table pos : ℕ) → has_place (places ++ others) table pos ≡ (has_place places table pos || has_place others table pos)
+pub has_joined : (places others : List Place) (table pos : ℕ) → has_place (places ++ others) table pos ≡ (has_place places table pos || has_place others table pos)
 has_joined places others table pos = list_any-append (λ (place : Place). place.table == table && place.pos == pos) places others
 
 found_in_tables : (table pos first : ℕ) (own : Own) (k : ℕ) → first + k ≡ table → is_some (item_at own k pos) ≡ true

@@ -1,5 +1,5 @@
 -- A row out of range at a position is one of the rows that stand in its table.
-use Rattle.std.proofs.Common.{◌≡◌, ℕ, zero, suc, List, [], ◌∷◌, Option, None, Some, Bool, true, false, is_some, get_or, cond, refl, ap, sym, ◌∙◌}
+use Rattle.std.proofs.Common.{◌≡◌, ℕ, zero, suc, List, [], ◌∷◌, Option, None, Some, Bool, true, false, get_or, cond, refl, ap, ◌∙◌}
 use Rattle.std.specs.Prelude.{◌||◌}
 use Rattle.std.specs.List.{list_any}
 use Rattle.std.specs.Ordering.{is_lt}
@@ -11,13 +11,9 @@ use Rattle.hy_bound.specs.declared.Bound.{Bound}
 use Rattle.hy_bound.specs.Changes.{present}
 use Rattle.hy_meaning.specs.Statement.{rows_in}
 use Rattle.hy_machine.specs.Positions.{item_at}
-use Rattle.hy_machine.specs.Tables.{Cell, Tables, Own, over}
-use Rattle.hy_machine.specs.Writes.{written}
+use Rattle.hy_machine.specs.Tables.{Cell, Tables}
 use Rattle.hy_replay.specs.Laws.{bags_of}
-use Rattle.hy_lawful.specs.Passing.{has_place}
 use Rattle.hy_lawful.specs.Refusing.{goes_out, goes_out_at}
-use Rattle.hy_lawful.proofs.RunSweeps.{kept_item}
-use Rattle.hy_lawful.proofs.PrintedPlaces.{place_found}
 
 or_swapped : (a b c : Bool) → (a || (b || c)) ≡ (b || (a || c))
 or_swapped true true c = refl

@@ -1,5 +1,5 @@
 -- Where a row stood at a position at the start of a transaction, whoever is in the way of its write there found one too.
-use Rattle.std.proofs.Common.{◌≡◌, ℕ, suc, ◌+◌, ◌-◌, ◌<◌, ◌≤◌, List, Option, None, Some, true, false, is_some, length, drop, refl, ap, sym, ◌∙◌, subst}
+use Rattle.std.proofs.Common.{◌≡◌, ℕ, suc, ◌+◌, ◌-◌, ◌<◌, ◌≤◌, List, Option, None, Some, true, is_some, length, drop, refl, ap, sym, ◌∙◌, subst}
 use Rattle.std.proofs.Common.{arith, inl, inr, zero-add}
 use Rattle.std.specs.Prelude.{slice_get, IfSome}
 use Rattle.std.proofs.lemmas.Bool.{cases_lt}
@@ -25,7 +25,7 @@ use Rattle.hy_lawful.proofs.Lists.{one_of, or_some}
 use Rattle.hy_lawful.proofs.Opponents.{holder_is, label_dropped}
 use Rattle.hy_lawful.proofs.PassTables.{cell_at, pair_at, stays_to, tables_grow}
 use Rattle.hy_lawful.proofs.PassHits.{dropped_pair}
-use Rattle.hy_lawful.proofs.PassStates.{PassesAt, BornEmpty, Passed, EndPasses, PhasePasses, OpenPasses, NowPasses}
+use Rattle.hy_lawful.proofs.PassStates.{BornEmpty, Passed, untouched, EndPasses, PhasePasses, OpenPasses, NowPasses}
 use Rattle.hy_lawful.proofs.PassRivals.{changer_pair}
 use Rattle.hy_lawful.proofs.FullKeeps.{beguns_from, beguns_of, HasBegun, ended_begun, open_begun, StillHas, Goes}
 use Rattle.hy_lawful.proofs.FullMarks.{NowBefore}
@@ -118,16 +118,6 @@ found_by setting state fits other table pos start w row = record {
 
 -- ---- whoever is in the way
 
--- no entry from the start of a transaction on before its rank does anything where it wrote
-untouched : (setting : Setting) (order : List Entry) (begun : Begun) (rank : ℕ) → Passed setting order begun rank → (table pos : ℕ)
-    → is_some (item_at begun.own table pos) ≡ true → (at : ℕ) → begun.prefix ≤ at → at < rank → (item : Option Pair)
-    → pair_at order at table pos ≡ item → item ≡ None
-untouched setting order begun rank passed table pos own at from below None e = refl
-untouched setting order begun rank passed table pos own at from below (Some pair) e =
-    let passes : PassesAt begun table pos pair = passed.passes at from below table pos pair e in
-    let never : is_some (item_at begun.own table pos) ≡ false = ap is_some passes.apart in
-    absurd (cc (never, own))
-
 -- what an open transaction comes upon
 lows_of : (setting : Setting) (state : State) (number : ℕ) (current : Open) → AtWork setting state number current → (other : ℕ)
     → SessionLow current.begun.prefix (session_at state other)
@@ -166,7 +156,6 @@ stamping_clear setting state number current w begun marked m passed table pos ow
     let last : current.begun.prefix < length state.order =
     before_last (length state.order) marked state.mark current m (subst (NowBefore (length state.order) state.mark) w.is (w.before number)) in
     untouched setting state.order begun (length state.order - 1) passed table pos own rank from (omega (arith, below, last))
-    (pair_at state.order rank table pos) refl
 
 -- no entry between the start of one that holds a position and that of another open one does anything there
 held_clear : (setting : Setting) (state : State) (number : ℕ) (current : Open) → AtWork setting state number current → (other table pos : ℕ)
@@ -232,8 +221,7 @@ ranked_wrote setting state number current w other table pos rank since pair e (e
       low = subst (λ (ending : Ending). IfSome (committed_at ending) (λ (rank : ℕ). current.begun.prefix ≤ rank → finished.begun.low ≤ current.begun.prefix))
           is low since;
       born = passed.born;
-      clear = λ at from below. untouched setting state.order finished.begun rank passed table pos own at from (omega (arith, below, since))
-          (pair_at state.order at table pos) refl;
+      clear = λ at from below. untouched setting state.order finished.begun rank passed table pos own at from (omega (arith, below, since));
     }
 ranked_wrote setting state number current w other table pos rank since pair e (entered m t r) =
     marked_wrote setting state number current w other table pos t m rank r pair e (session_at state other.session).now refl

@@ -1,6 +1,6 @@
 -- What is kept along steps for those that committed to be passed unseen: no entry from the start of an open transaction on
 -- does anything at the positions that it holds, no other holds these, and what was passed unseen stays so.
-use Rattle.std.proofs.Common.{◌≡◌, ℕ, zero, suc, ◌+◌, ◌-◌, ◌<◌, ◌≤◌, List, [], ◌∷◌, ◌++◌, Option, None, Some, true, is_some, length, map, drop, refl, ap, sym}
+use Rattle.std.proofs.Common.{◌≡◌, ℕ, zero, suc, ◌+◌, ◌-◌, ◌<◌, ◌≤◌, List, [], ◌∷◌, ◌++◌, Option, None, Some, true, false, is_some, length, map, drop, refl, ap, sym}
 use Rattle.std.proofs.Common.{◌∙◌, subst, arith, inl, inr, ◌⊎◌}
 use Rattle.std.specs.Prelude.{IfSome}
 use Rattle.std.specs.List.{AllByRecursion}
@@ -30,7 +30,7 @@ use Rattle.hy_replay.specs.Laws.{IsUnseenAt, DifferUnseen}
 use Rattle.hy_lawful.specs.Outcomes.{committed_at}
 use Rattle.hy_lawful.proofs.Lists.{all_so}
 use Rattle.hy_lawful.proofs.Moves.{moved_to, sessions_moved}
-use Rattle.hy_lawful.proofs.PassTables.{tables_at, cell_at, pair_at, AllFit, cell_next, cell_stays, tables_grow, more_pairs, entry_item, entry_lays}
+use Rattle.hy_lawful.proofs.PassTables.{tables_at, cell_at, pair_at, AllFit, cell_next, stays_to, cell_stays, tables_grow, more_pairs, entry_item, entry_lays}
 use Rattle.hy_lawful.proofs.PassWritten.{Keeps, SessionNames, names_moved}
 use Rattle.hy_lawful.proofs.PassHits.{from_dropped, pair_missed, hit_stays}
 
@@ -62,6 +62,27 @@ pub record Passed (setting : Setting) (order : List Entry) (begun : Begun) (rank
   pub wrote : (table pos : ℕ) (pair : Pair) → pair_at order rank table pos ≡ Some pair → is_some (item_at begun.own table pos) ≡ true
   pub has : (table pos : ℕ) → is_some (item_at begun.own table pos) ≡ true → is_some (pair_at order rank table pos) ≡ true
   pub born : BornEmpty setting order begun
+
+-- so no entry from its start on before its place does anything where it wrote
+pub untouched : (setting : Setting) (order : List Entry) (begun : Begun) (rank : ℕ) → Passed setting order begun rank → (table pos : ℕ)
+    → is_some (item_at begun.own table pos) ≡ true → (at : ℕ) → begun.prefix ≤ at → at < rank → pair_at order at table pos ≡ None
+untouched setting order begun rank passed table pos own at from below = by_item (pair_at order at table pos) refl
+  where
+    by_item : (item : Option Pair) → pair_at order at table pos ≡ item → item ≡ None
+    by_item None e = refl
+    by_item (Some pair) e =
+        let passes : PassesAt begun table pos pair = passed.passes at from below table pos pair e in
+        let never : is_some (item_at begun.own table pos) ≡ false = ap is_some passes.apart in
+        absurd (cc (never, own))
+
+-- and what stood there at its start still stands there before its entry
+pub still_there : (setting : Setting) (order : List Entry) → AllFit setting order → (begun : Begun) (rank : ℕ) → begun.prefix ≤ rank
+    → Passed setting order begun rank → (table pos : ℕ) → is_some (item_at begun.own table pos) ≡ true
+    → cell_at setting order rank table pos ≡ cell_at setting order begun.prefix table pos
+still_there setting order fit begun rank later passed table pos own =
+    ap (λ (n : ℕ). cell_at setting order n table pos) (let same : rank ≡ begun.prefix + (rank - begun.prefix) = omega (arith, later) in same)
+    ∙ stays_to setting order fit begun.prefix table pos (rank - begun.prefix)
+    (λ at from below. untouched setting order begun rank passed table pos own at from (omega (arith, below, later)))
 
 -- one that is in conflict has not written that position; one that is invalid names the first hit of its records by the
 -- entries from its start on

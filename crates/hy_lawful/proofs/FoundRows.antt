@@ -75,8 +75,8 @@ finds_go setting state later g start table pos other within h row =
 
 -- ---- one that wrote a position
 
--- a transaction wrote a position, and no entry between its start and another one does anything there; the watermark that it
--- had when it took a place lies at this other start or below it
+-- a transaction wrote a position, and no entry between its start and another one does anything there; its watermark lies at
+-- this other start or below it
 record WroteThere (setting : Setting) (state : State) (other : Label) (table pos start : ℕ) : Type 0 where
   after : ℕ
   is : other.txn ≡ suc after

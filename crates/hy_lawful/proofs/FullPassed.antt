@@ -324,7 +324,8 @@ read_room setting state number before prefix begun visited from statement gather
 
 write_room : (setting : Setting) (state : State) (number before prefix : ℕ) (begun : Begun) (visited count : ℕ) (statement : Bound) (kind : WriteKind)
     (pred : Condition) (table : ℕ) → Roomless setting state number before prefix (Some statement)
-    → ((pos : ℕ) (other : Label) → opponent setting state number begun.prefix table pos ≡ Some other → Rivals setting state number before prefix table pos other)
+    → ((pos : ℕ) (other : Label) → opponent setting state number begun.prefix table pos ≡ Some other
+    → Rivals setting state number before prefix table pos other)
     → (result : Result (List Write) Cause) → swept setting state number begun kind pred table visited ≡ result
     → RoomTurn setting state number before prefix (Some statement) (write_turn setting begun visited count statement kind result)
 write_room setting state number before prefix begun visited count statement kind pred table h meets (Err cause) e =

@@ -1,7 +1,7 @@
 -- What is kept along steps for those that committed to be passed unseen: no entry from the start of an open transaction on
 -- does anything at the positions that it holds, no other holds these, and what was passed unseen stays so.
-use Rattle.std.proofs.Common.{◌≡◌, ℕ, zero, suc, ◌+◌, ◌-◌, ◌<◌, ◌≤◌, List, [], ◌∷◌, ◌++◌, Option, None, Some, true, false, is_some, length, map, drop, refl, ap, sym}
-use Rattle.std.proofs.Common.{◌∙◌, subst, arith, inl, inr, ◌⊎◌}
+use Rattle.std.proofs.Common.{◌≡◌, ℕ, zero, suc, ◌+◌, ◌-◌, ◌<◌, ◌≤◌, List, [], ◌∷◌, ◌++◌, Option, None, Some, true, false}
+use Rattle.std.proofs.Common.{is_some, length, map, drop, refl, ap, sym, ◌∙◌, subst, arith, inl, inr, ◌⊎◌}
 use Rattle.std.specs.Prelude.{IfSome}
 use Rattle.std.specs.List.{AllByRecursion}
 use Rattle.std.proofs.lemmas.List.{length-append}
@@ -51,7 +51,8 @@ pub record BornEmpty (setting : Setting) (order : List Entry) (begun : Begun) : 
   pub start : begun.prefix ≤ length order
   pub empty : (table pos : ℕ) → is_some (item_at begun.own table pos) ≡ true → EmptyAt setting order begun table pos
 
--- what stands before the place of a transaction in an order, from its start on, is unseen by it; its entry lays what it wrote
+-- what stands before the place of a transaction in an order, from its start on, is unseen by it; its entry lays what it
+-- wrote, and does something there and nowhere else
 pub record Passed (setting : Setting) (order : List Entry) (begun : Begun) (rank : ℕ) : Type 0 where
   pub within : suc rank ≤ length order
   pub unseen : (at : ℕ) → begun.prefix ≤ at → at < rank

@@ -1,5 +1,6 @@
 -- What was refused was so for a cause.
-use Rattle.std.proofs.Common.{◌≡◌, ℕ, suc, ◌+◌, ◌<◌, ◌≤◌, List, Option, None, Some, true, false, is_some, inl, inr, length, map, take, drop, refl, ap, sym, ◌∙◌, subst, arith}
+use Rattle.std.proofs.Common.{◌≡◌, ℕ, suc, ◌+◌, ◌<◌, ◌≤◌, List, Option, None, Some, true, false, is_some}
+use Rattle.std.proofs.Common.{inl, inr, length, map, take, drop, refl, ap, sym, ◌∙◌, subst, arith}
 use Rattle.std.proofs.lemmas.Bool.{cases_Bool, ltb-true}
 use Rattle.std.specs.Prelude.{IsTrue, IsFalse, nat_lt, slice_get, ◌||◌, ◌&&◌, ◌==◌, is_none}
 use Rattle.std.specs.List.{list_any}

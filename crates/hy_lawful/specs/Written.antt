@@ -1,5 +1,6 @@
 -- What a transaction writes: each row that stood at its start is followed through its statements.
-use Rattle.std.specs.Prelude.{◌≡◌, ℕ, ◌*◌, ◌/◌, List, [], ◌∷◌, Bool, true, false, ◌&&◌, ◌||◌, ◌==◌, nat_lt, IsTrue, IfSome, Option, None, Some, is_none, if◌then◌else◌}
+use Rattle.std.specs.Prelude.{◌≡◌, ℕ, ◌*◌, ◌/◌, List, [], ◌∷◌, Bool, true, false, ◌&&◌, ◌||◌, ◌==◌, nat_lt, IsTrue, IfSome}
+use Rattle.std.specs.Prelude.{Option, None, Some, is_none, if◌then◌else◌}
 use Rattle.std.specs.Prelude.{zip, count_by, length, take, map, option_and_then}
 use Rattle.std.specs.List.{list_any, range_with_len}
 use Rattle.hy_bound.specs.declared.Bound.{Bound}

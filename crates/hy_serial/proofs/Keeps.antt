@@ -1,0 +1,90 @@
+-- What every transaction of a script keeps when it runs alone is kept along the commit order.
+use Rattle.std.proofs.Common.{◌≡◌, ℕ, zero, suc, List, [], ◌∷◌, Option, None, Some, refl, sym, ap, ◌∙◌, subst, map, length}
+use Rattle.std.specs.Prelude.{take, slice_get, slice_index_or}
+use Rattle.std.specs.List.{AllByRecursion}
+use Rattle.hy_bound.specs.declared.Bound.{Bound}
+use Rattle.hy_bound.specs.declared.Shape.{Shape}
+use Rattle.hy_bound.specs.declared.Txn.{Txn}
+use Rattle.hy_meaning.specs.Statement.{Database}
+use Rattle.hy_meaning.specs.Serial.{Alone, alone_of, serial, database_of}
+use Rattle.hy_stamp.specs.declared.Label.{Label}
+use Rattle.hy_render.specs.declared.TxnOutcome.{TxnOutcome}
+use Rattle.hy_render.specs.declared.Committed.{Committed as Entry}
+use Rattle.hy_render.specs.declared.Outcome.{Outcome}
+use Rattle.hy_machine.specs.declared.Setting.{Setting}
+use Rattle.hy_lawful.specs.Scripts.{Programs, numbered, txn_of, statements_in, statements_of}
+use Rattle.hy_lawful.specs.Databases.{database_at}
+use Rattle.hy_lawful.specs.Lawful.{Lawful}
+use Rattle.hy_lawful.specs.Serial.{IsSerial}
+use Rattle.hy_serial.specs.Replaying.{alone_on, replayed_from}
+use Rattle.hy_serial.specs.Keeping.{Keeps, EachKeeps, IsKept, WhatTransactionsKeepIsKept, IsAsAtFirst, LeavesValue, EachLeavesValue, ValuesThatAreLeftStay}
+use Rattle.hy_serial.proofs.Items.{all_so, all_of}
+use Rattle.hy_serial.proofs.Replays.{statements_at, order_runs_on}
+
+-- ---- the transaction of a label
+
+-- what all transactions of these sessions have is had by that of a label; one that isn't there has no statements
+at_place : (P : List Bound → Type 0) → P [] → (txns : List Txn) → AllByRecursion (λ (txn : Txn). P txn.statements) txns → (before : ℕ)
+    → P (statements_in (slice_get txns before))
+at_place P none [] h before = none
+at_place P none (txn ∷ txns) h zero = h.0
+at_place P none (txn ∷ txns) h (suc before) = at_place P none txns h.1 before
+
+at_number : (P : List Bound → Type 0) → P [] → (txns : List Txn) → AllByRecursion (λ (txn : Txn). P txn.statements) txns → (number : ℕ)
+    → P (statements_in (numbered txns number))
+at_number P none txns h zero = none
+at_number P none txns h (suc before) = at_place P none txns h before
+
+at_session : (P : List Bound → Type 0) (programs : Programs)
+    → AllByRecursion (λ (txns : List Txn). AllByRecursion (λ (txn : Txn). P txn.statements) txns) programs → (session : ℕ)
+    → AllByRecursion (λ (txn : Txn). P txn.statements) (slice_index_or programs session [])
+at_session P [] h session = tt
+at_session P (txns ∷ programs) h zero = h.0
+at_session P (txns ∷ programs) h (suc session) = at_session P programs h.1 session
+
+at_label : (P : List Bound → Type 0) → P [] → (programs : Programs)
+    → AllByRecursion (λ (txns : List Txn). AllByRecursion (λ (txn : Txn). P txn.statements) txns) programs → (label : Label)
+    → P (statements_of programs label)
+at_label P none programs h label =
+    at_number P none (slice_index_or programs label.session []) (at_session P programs h label.session) label.txn
+
+-- ---- along the order
+
+kept_along : (Kept : Database → Type 0) (setting : Setting) → ((entry : Entry) → Keeps Kept setting.shapes (statements_at setting entry))
+    → (order : List Entry) (db : Database) → AllByRecursion (λ (given : Alone). given.stop ≡ None) (replayed_from setting order db) → Kept db
+    → (rank : ℕ) → Kept (serial setting.shapes (map (statements_at setting) (take rank order)) db)
+kept_along Kept setting keeps order db h kept zero = kept
+kept_along Kept setting keeps [] db h kept (suc rank) = kept
+kept_along Kept setting keeps (entry ∷ order) db h kept (suc rank) =
+    kept_along Kept setting keeps order (alone_on setting entry db).database h.1 (keeps entry db kept h.0) rank
+
+pub kept_at : (Kept : Database → Type 0) (setting : Setting) (outcome : Outcome) → Lawful setting outcome → IsSerial setting outcome
+    → EachKeeps Kept setting → Kept (database_of setting.first) → (rank : ℕ) → Kept (database_at setting outcome.order rank)
+kept_at Kept setting outcome lawful is_serial each kept rank =
+    kept_along Kept setting (λ entry. at_label (Keeps Kept setting.shapes) (λ db here runs_on. here) setting.programs each entry.label)
+    outcome.order (database_of setting.first) (order_runs_on setting outcome lawful is_serial) kept rank
+
+pub what_is_kept : WhatTransactionsKeepIsKept
+what_is_kept Kept setting outcome lawful is_serial each kept =
+    let at : (rank : ℕ) → Kept (database_at setting outcome.order rank) = kept_at Kept setting outcome lawful is_serial each kept in
+    record {
+      at_ranks = at;
+      as_printed = λ rank within. subst Kept (sym (is_serial.history rank within)) (at rank);
+      at_starts = all_of (λ (txn : TxnOutcome). Kept (database_at setting outcome.order txn.start)) outcome.txns (λ txn. at txn.start);
+      at_the_end = subst Kept (sym is_serial.tables) (at (length outcome.order));
+    }
+
+-- ---- values
+
+keeps_value : {X : Type 0} (value : Database → X) (setting : Setting) (statements : List Bound) → LeavesValue value setting.shapes statements
+    → Keeps (IsAsAtFirst value setting) setting.shapes statements
+keeps_value value setting statements leaves db same runs_on = leaves db runs_on ∙ same
+
+pub what_is_left_stays : ValuesThatAreLeftStay
+what_is_left_stays X value setting outcome lawful is_serial each =
+    what_is_kept (IsAsAtFirst value setting) setting outcome lawful is_serial
+    (all_so (λ (txns : List Txn). AllByRecursion (λ (txn : Txn). LeavesValue value setting.shapes txn.statements) txns)
+    (λ (txns : List Txn). AllByRecursion (λ (txn : Txn). Keeps (IsAsAtFirst value setting) setting.shapes txn.statements) txns) setting.programs
+    (λ txns. all_so (λ (txn : Txn). LeavesValue value setting.shapes txn.statements)
+    (λ (txn : Txn). Keeps (IsAsAtFirst value setting) setting.shapes txn.statements) txns
+    (λ txn. keeps_value value setting txn.statements)) each) refl

@@ -1,0 +1,5 @@
+pub mod Replaying
+pub mod Commits
+pub mod Readers
+pub mod Keeping
+pub mod Prefixes

@@ -1,6 +1,6 @@
 -- What every transaction of a script keeps when it runs alone is kept along the commit order.
-use Rattle.std.proofs.Common.{◌≡◌, ℕ, zero, suc, List, [], ◌∷◌, Option, None, Some, refl, sym, ap, ◌∙◌, subst, map, length}
-use Rattle.std.specs.Prelude.{take, slice_get, slice_index_or}
+use Rattle.std.proofs.Common.{◌≡◌, ℕ, zero, suc, List, [], ◌∷◌, Option, None, Some, refl, sym, ap, ◌∙◌, subst, map, length, ℤ}
+use Rattle.std.specs.Prelude.{take, slice_get, slice_index_or, IsTrue}
 use Rattle.std.specs.List.{AllByRecursion}
 use Rattle.hy_bound.specs.declared.Bound.{Bound}
 use Rattle.hy_bound.specs.declared.Shape.{Shape}
@@ -17,7 +17,7 @@ use Rattle.hy_lawful.specs.Databases.{database_at}
 use Rattle.hy_lawful.specs.Lawful.{Lawful}
 use Rattle.hy_lawful.specs.Serial.{IsSerial}
 use Rattle.hy_serial.specs.Replaying.{alone_on, replayed_from}
-use Rattle.hy_serial.specs.Keeping.{Keeps, EachKeeps, IsKept, WhatTransactionsKeepIsKept, IsAsAtFirst, LeavesValue, EachLeavesValue, ValuesThatAreLeftStay}
+use Rattle.hy_serial.specs.Keeping.{Keeps, EachKeeps, IsKept, StaysKept, TestsStayTrue, IsAsAtFirst, LeavesValue, EachLeavesValue, ValuesStay}
 use Rattle.hy_serial.proofs.Items.{all_so, all_of}
 use Rattle.hy_serial.proofs.Replays.{statements_at, order_runs_on}
 
@@ -64,7 +64,7 @@ kept_at Kept setting outcome lawful is_serial each kept rank =
     kept_along Kept setting (λ entry. at_label (Keeps Kept setting.shapes) (λ db here runs_on. here) setting.programs each entry.label)
     outcome.order (database_of setting.first) (order_runs_on setting outcome lawful is_serial) kept rank
 
-pub what_is_kept : WhatTransactionsKeepIsKept
+pub what_is_kept : (Kept : Database → Type 0) → StaysKept Kept
 what_is_kept Kept setting outcome lawful is_serial each kept =
     let at : (rank : ℕ) → Kept (database_at setting outcome.order rank) = kept_at Kept setting outcome lawful is_serial each kept in
     record {
@@ -74,14 +74,17 @@ what_is_kept Kept setting outcome lawful is_serial each kept =
       at_the_end = subst Kept (sym is_serial.tables) (at (length outcome.order));
     }
 
+pub tests_stay : TestsStayTrue
+tests_stay test = what_is_kept (λ (db : Database). IsTrue (test db))
+
 -- ---- values
 
-keeps_value : {X : Type 0} (value : Database → X) (setting : Setting) (statements : List Bound) → LeavesValue value setting.shapes statements
+keeps_value : (value : Database → ℤ) (setting : Setting) (statements : List Bound) → LeavesValue value setting.shapes statements
     → Keeps (IsAsAtFirst value setting) setting.shapes statements
 keeps_value value setting statements leaves db same runs_on = leaves db runs_on ∙ same
 
-pub what_is_left_stays : ValuesThatAreLeftStay
-what_is_left_stays X value setting outcome lawful is_serial each =
+pub values_stay : ValuesStay
+values_stay value setting outcome lawful is_serial each =
     what_is_kept (IsAsAtFirst value setting) setting outcome lawful is_serial
     (all_so (λ (txns : List Txn). AllByRecursion (λ (txn : Txn). LeavesValue value setting.shapes txn.statements) txns)
     (λ (txns : List Txn). AllByRecursion (λ (txn : Txn). Keeps (IsAsAtFirst value setting) setting.shapes txn.statements) txns) setting.programs

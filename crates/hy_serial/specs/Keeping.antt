@@ -1,5 +1,5 @@
 -- What every transaction keeps that runs alone, every outcome keeps.
-use Rattle.std.specs.Prelude.{◌≡◌, ℕ, ◌≤◌, List, None, length}
+use Rattle.std.specs.Prelude.{◌≡◌, ℕ, ℤ, ◌≤◌, List, Bool, IsTrue, None, length}
 use Rattle.std.specs.List.{AllByRecursion}
 use Rattle.hy_bound.specs.declared.Bound.{Bound}
 use Rattle.hy_bound.specs.declared.Shape.{Shape}
@@ -37,27 +37,31 @@ pub record IsKept (Kept : Database → Type 0) (setting : Setting) (outcome : Ou
   pub at_the_end : Kept outcome.tables
 
 -- where the first rows have a property, and every transaction keeps it when it runs alone, no interleaving breaks it
-abbrev pub WhatTransactionsKeepIsKept : Type 1
-WhatTransactionsKeepIsKept = (Kept : Database → Type 0) (setting : Setting) (outcome : Outcome) → Lawful setting outcome → IsSerial setting outcome
-    → EachKeeps Kept setting → Kept (database_of setting.first) → IsKept Kept setting outcome
+abbrev pub StaysKept : (Database → Type 0) → Type 0
+StaysKept Kept = (setting : Setting) (outcome : Outcome) → Lawful setting outcome → IsSerial setting outcome → EachKeeps Kept setting
+    → Kept (database_of setting.first) → IsKept Kept setting outcome
+
+-- so it is of a property that a test decides
+abbrev pub TestsStayTrue : Type 0
+TestsStayTrue = (test : Database → Bool) → StaysKept (λ (db : Database). IsTrue (test db))
 
 -- ---- values
 
 -- a value of databases is the same as that of the first rows
-abbrev pub IsAsAtFirst : {X : Type 0} → (Database → X) → Setting → Database → Type 0
+abbrev pub IsAsAtFirst : (Database → ℤ) → Setting → Database → Type 0
 IsAsAtFirst value setting db = value db ≡ value (database_of setting.first)
 
 -- a transaction leaves the value of a database as it is: run alone, without a stop
-abbrev pub LeavesValue : {X : Type 0} → (Database → X) → List Shape → List Bound → Type 0
+abbrev pub LeavesValue : (Database → ℤ) → List Shape → List Bound → Type 0
 LeavesValue value shapes statements =
     (db : Database) → (alone_of shapes statements db).stop ≡ None → value (alone_of shapes statements db).database ≡ value db
 
 -- every transaction of a script does
-abbrev pub EachLeavesValue : {X : Type 0} → (Database → X) → Setting → Type 0
+abbrev pub EachLeavesValue : (Database → ℤ) → Setting → Type 0
 EachLeavesValue value setting =
     AllByRecursion (λ (txns : List Txn). AllByRecursion (λ (txn : Txn). LeavesValue value setting.shapes txn.statements) txns) setting.programs
 
 -- what no transaction changes when it runs alone, such as a sum of balances, is what it was at first wherever it is seen
-abbrev pub ValuesThatAreLeftStay : Type 1
-ValuesThatAreLeftStay = (X : Type 0) (value : Database → X) (setting : Setting) (outcome : Outcome) → Lawful setting outcome
-    → IsSerial setting outcome → EachLeavesValue value setting → IsKept (IsAsAtFirst value setting) setting outcome
+abbrev pub ValuesStay : Type 0
+ValuesStay = (value : Database → ℤ) (setting : Setting) (outcome : Outcome) → Lawful setting outcome → IsSerial setting outcome
+    → EachLeavesValue value setting → IsKept (IsAsAtFirst value setting) setting outcome

@@ -1,10 +1,11 @@
 //! What may be concluded of an outcome that is lawful and serializable, whatever engine gave it.
 #![tactic(auto)]
 
+ghost use Rattle.hy_meaning.specs.Statement.{Database};
 ghost use Rattle.hy_serial.specs.Replaying.{ReplayingGivesWhatWasPrinted};
 ghost use Rattle.hy_serial.specs.Commits.{ReadersStandBeforeWriters, WriteSkewsDoNotCommit, LostUpdatesDoNotCommit};
 ghost use Rattle.hy_serial.specs.Readers.{ReadersEndAsTheyClose, WhoWroteNothingEndsAsRead, WhoAnswersAllIsToldAsAlone};
-ghost use Rattle.hy_serial.specs.Keeping.{WhatTransactionsKeepIsKept, ValuesThatAreLeftStay};
+ghost use Rattle.hy_serial.specs.Keeping.{StaysKept, TestsStayTrue, ValuesStay};
 ghost use Rattle.hy_serial.specs.Prefixes.{RepliesAreOfCommitsBefore};
 
 /// The commit order can be replayed: when its transactions run alone, one after another as it is printed, from the
@@ -31,12 +32,23 @@ pub fn readers_end_as_read()
     ensures told { WhoAnswersAllIsToldAsAlone }
 {}
 
-/// What every transaction of a script keeps when it runs alone is kept in every outcome: where the first rows have a
-/// property, the printed tables have it, and so has the database at each rank and at each transaction's start. A value
-/// that no transaction changes alone, as a sum over all rows, is everywhere that of the first rows.
+/// What every transaction of a script keeps when it runs alone is kept in every outcome: where a test is true of the
+/// first rows, it is true of the printed tables, and of the database at each rank and at each transaction's start. A
+/// value that no transaction changes alone, as the sum of a column, is everywhere that of the first rows.
 pub fn what_transactions_keep_is_kept()
-    ensures properties { WhatTransactionsKeepIsKept }
-    ensures values { ValuesThatAreLeftStay }
+    ensures tests { TestsStayTrue }
+    ensures values { ValuesStay }
+{}
+
+/// A property of databases.
+pub trait Property {
+    /// What it says of a database.
+    ghost holds: { Database → Type 0 };
+}
+
+/// The same of a property that no test need decide.
+pub fn a_property_that_transactions_keep_is_kept<P: Property>()
+    ensures { StaysKept P.holds }
 {}
 
 /// Nobody is told anything of what was rolled back, refused, or committed later: in two outcomes in which the same

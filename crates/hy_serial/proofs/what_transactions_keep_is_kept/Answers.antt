@@ -1,8 +1,8 @@
-use Rattle.hy_serial.proofs.Keeps.{what_is_kept, what_is_left_stays}
+use Rattle.hy_serial.proofs.Keeps.{tests_stay, values_stay}
 use Rattle.hy_serial.proofs.what_transactions_keep_is_kept.Goals as goal
 
-pub returns-clause-properties : goal.returns-clause-properties
-returns-clause-properties c = what_is_kept
+pub returns-clause-tests : goal.returns-clause-tests
+returns-clause-tests c = tests_stay
 
 pub returns-clause-values : goal.returns-clause-values
-returns-clause-values c = what_is_left_stays
+returns-clause-values c = values_stay

@@ -18,7 +18,7 @@ use Rattle.hy_lawful.specs.Endings.{updates, changes_rows, inserts, AnswersAll, 
 use Rattle.hy_lawful.specs.Lawful.{Lawful}
 use Rattle.hy_lawful.specs.Serial.{IsSerial}
 use Rattle.hy_lawful.specs.Written.{is_change, ReadersWriteNothing}
-use Rattle.hy_serial.specs.Readers.{OnlyReads, EndsAsItCloses, ReadersEndAsTheyClose, HasReadOnly, WhoWroteNothingEndsAsRead}
+use Rattle.hy_serial.specs.Readers.{OnlyReads, EndsAsItCloses, ReadersEndAsTheyClose, HasReadOnly, WhoWroteNothingEndsAsRead, RollbacksAreNotRefused}
 use Rattle.hy_serial.proofs.Items.{all_so, all_both}
 
 -- ---- the refused statement
@@ -167,3 +167,9 @@ who_wrote_nothing setting outcome lawful is_serial =
     all_so (λ (txn : TxnOutcome). MayEnd setting.programs outcome txn txn.ending)
     (λ (txn : TxnOutcome). HasReadOnly setting txn → txn.ending ≡ Read) outcome.txns
     (λ txn may has. ends_as_read setting.programs outcome txn has.answers has.wrote has.closes txn.ending may) lawful.endings
+
+pub rollbacks_end : RollbacksAreNotRefused
+rollbacks_end setting outcome lawful is_serial =
+    all_so (λ (txn : TxnOutcome). MayEnd setting.programs outcome txn txn.ending)
+    (λ (txn : TxnOutcome). AnswersAll setting.programs txn → ClosesWithRollback (txn_of setting.programs txn.label) → txn.ending ≡ RolledBack)
+    outcome.txns (λ txn may answers closes. ends_rolled_back setting.programs outcome txn answers closes txn.ending may) lawful.endings

@@ -6,3 +6,5 @@ pub mod Commits
 pub mod Endings
 pub mod Told
 pub mod Alike
+pub mod Reading
+pub mod Points

@@ -3,3 +3,4 @@ pub mod Commits
 pub mod Readers
 pub mod Keeping
 pub mod Prefixes
+pub mod Points

@@ -4,9 +4,10 @@
 ghost use Rattle.hy_meaning.specs.Statement.{Database};
 ghost use Rattle.hy_serial.specs.Replaying.{ReplayingGivesWhatWasPrinted};
 ghost use Rattle.hy_serial.specs.Commits.{ReadersStandBeforeWriters, WriteSkewsDoNotCommit, LostUpdatesDoNotCommit};
-ghost use Rattle.hy_serial.specs.Readers.{ReadersEndAsTheyClose, WhoWroteNothingEndsAsRead, WhoAnswersAllIsToldAsAlone};
+ghost use Rattle.hy_serial.specs.Readers.{ReadersEndAsTheyClose, ReadersReadOneDatabase, ReadersCanRepeat, WhoWroteNothingEndsAsRead, RollbacksAreNotRefused, WhoAnswersAllIsToldAsAlone};
 ghost use Rattle.hy_serial.specs.Keeping.{StaysKept, TestsStayTrue, ValuesStay};
 ghost use Rattle.hy_serial.specs.Prefixes.{RepliesAreOfCommitsBefore};
+ghost use Rattle.hy_serial.specs.Points.{EveryTransactionHasItsPoint};
 
 /// The commit order can be replayed: when its transactions run alone, one after another as it is printed, from the
 /// first rows on, none stops, each gets the replies that are printed of it, and the last leaves the printed tables.
@@ -24,11 +25,16 @@ pub fn write_skews_do_not_commit()
 {}
 
 /// Who only reads is never refused: a transaction without INSERT, UPDATE and DELETE answers all its statements, and
-/// ends as read or as rolled back, as it closes. So does one that turns out to write nothing, if it answered all and
-/// closes with COMMIT. And whoever answered all was told exactly what it is told alone at its start.
+/// ends as read or as rolled back, as it closes. Each of its statements is answered over one database, that of its
+/// start, so a statement that it repeats has the same answer. Of the others, who answered all statements and wrote
+/// nothing ends as read by COMMIT, a ROLLBACK is never refused, and whoever answered all statements was told exactly
+/// what it is told alone from its start on.
 pub fn readers_end_as_read()
     ensures only { ReadersEndAsTheyClose }
+    ensures one { ReadersReadOneDatabase }
+    ensures repeats { ReadersCanRepeat }
     ensures nothing { WhoWroteNothingEndsAsRead }
+    ensures rollbacks { RollbacksAreNotRefused }
     ensures told { WhoAnswersAllIsToldAsAlone }
 {}
 
@@ -55,4 +61,11 @@ pub fn a_property_that_transactions_keep_is_kept<P: Property>()
 /// transactions committed before its start, in the same order, a transaction is told the same, as far as it got.
 pub fn no_one_reads_what_was_rolled_back()
     ensures { RepliesAreOfCommitsBefore }
+{}
+
+/// Every transaction, however it ended, has its point in the one serial order: its rank where it committed, its start
+/// where it did not. Its replies are the first of those that it gets alone there. The points of a session's
+/// transactions lie in the session's order, and each starts behind the commits of those before it.
+pub fn every_transaction_has_its_point()
+    ensures { EveryTransactionHasItsPoint }
 {}

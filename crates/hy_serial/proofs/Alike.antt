@@ -2,11 +2,13 @@
 use Rattle.std.proofs.Common.{◌≡◌, ℕ, ◌≤◌, List, refl, sym, ap, ◌∙◌, map, length, arith, inl, inr, ◌⊎◌, subst}
 use Rattle.std.specs.Prelude.{take}
 use Rattle.std.specs.List.{AllByRecursion}
+use Rattle.std.proofs.Math.Seq.{take-length}
 use Rattle.std.proofs.lemmas.Bool.{cases_lt}
 use Rattle.std.proofs.lemmas.List.{take-take}
 use Rattle.std.proofs.lemmas.Simd.{map-map}
 use Rattle.hy_bound.specs.declared.Bound.{Bound}
 use Rattle.hy_bound.specs.declared.Reply.{Reply}
+use Rattle.hy_meaning.specs.Statement.{Database}
 use Rattle.hy_meaning.specs.Serial.{alone_of, serial, database_of}
 use Rattle.hy_stamp.specs.declared.Label.{Label}
 use Rattle.hy_render.specs.declared.TxnOutcome.{TxnOutcome}
@@ -16,13 +18,17 @@ use Rattle.hy_machine.specs.declared.Setting.{Setting}
 use Rattle.hy_lawful.specs.Scripts.{statements_of}
 use Rattle.hy_lawful.specs.Databases.{database_at, alone_at}
 use Rattle.hy_lawful.specs.Serial.{IsSerial, AreFirstOf, RepliesAreOfStart}
-use Rattle.hy_serial.specs.Prefixes.{committed_before, StartsAlike, AreToldAlike, RepliesAreOfCommitsBefore}
+use Rattle.hy_serial.specs.Prefixes.{labels_in, committed_before, StartsAlike, AreToldAlike, RepliesAreOfCommitsBefore, TablesAreOfTheOrder}
 use Rattle.hy_serial.proofs.Items.{all_so}
+
+-- the database that transactions leave, one after another from the first rows on
+abbrev database_after : Setting → List Label → Database
+database_after setting labels =
+    serial setting.shapes (map (λ (label : Label). statements_of setting.programs label) labels) (database_of setting.first)
 
 -- the database at a rank is that of the transactions that committed before it
 database_of_labels : (setting : Setting) (order : List Entry) (rank : ℕ)
-    → database_at setting order rank
-    ≡ serial setting.shapes (map (λ (label : Label). statements_of setting.programs label) (committed_before order rank)) (database_of setting.first)
+    → database_at setting order rank ≡ database_after setting (committed_before order rank)
 database_of_labels setting order rank =
     ap (λ (all : List (List Bound)). serial setting.shapes all (database_of setting.first))
     (sym (map-map (λ (label : Label). statements_of setting.programs label) (λ (entry : Entry). entry.label) (take rank order)))
@@ -31,8 +37,7 @@ same_database : (setting : Setting) (order orders : List Entry) (rank other : �
     → database_at setting order rank ≡ database_at setting orders other
 same_database setting order orders rank other same =
     database_of_labels setting order rank
-    ∙ (ap (λ (labels : List Label). serial setting.shapes (map (λ (label : Label). statements_of setting.programs label) labels) (database_of setting.first)) same
-    ∙ sym (database_of_labels setting orders other))
+    ∙ (ap (database_after setting) same ∙ sym (database_of_labels setting orders other))
 
 -- two that are both the first of some replies: the shorter are the first of the longer
 shorter_first : (replies others all : List Reply) → AreFirstOf replies all → AreFirstOf others all → length replies ≤ length others
@@ -44,8 +49,8 @@ shorter_first replies others all first second at_most =
 both_first : (txn again : TxnOutcome) (all : List Reply) → AreFirstOf txn.replies all → AreFirstOf again.replies all → AreToldAlike txn again
 both_first txn again all first second =
     elim (cases_lt (length txn.replies) (length again.replies)) [
-      inl fewer ↦ inl (shorter_first txn.replies again.replies all first second (omega (arith, fewer)))
-    | inr at_most ↦ inr (shorter_first again.replies txn.replies all second first at_most)
+      | inl fewer ↦ inl (shorter_first txn.replies again.replies all first second (omega (arith, fewer)))
+      | inr at_most ↦ inr (shorter_first again.replies txn.replies all second first at_most)
     ]
 
 told_alike : (setting : Setting) (outcome other : Outcome) (txn again : TxnOutcome) → RepliesAreOfStart setting outcome.order txn
@@ -65,3 +70,15 @@ replies_alike setting outcome other lawful is_serial lawful_too is_serial_too =
     (λ txn first. all_so (RepliesAreOfStart setting other.order) (λ (again : TxnOutcome). StartsAlike outcome txn other again → AreToldAlike txn again)
     other.txns (λ again second. told_alike setting outcome other txn again first second) is_serial_too.replies)
     is_serial.replies
+
+-- ---- the printed tables
+
+all_before : (order : List Entry) → committed_before order (length order) ≡ labels_in order
+all_before order = ap labels_in (take-length order)
+
+pub tables_alike : TablesAreOfTheOrder
+tables_alike setting outcome other lawful is_serial lawful_too is_serial_too same =
+    is_serial.tables
+    ∙ (same_database setting outcome.order other.order (length outcome.order) (length other.order)
+    (all_before outcome.order ∙ (same ∙ sym (all_before other.order)))
+    ∙ sym is_serial_too.tables)

@@ -64,26 +64,19 @@ first_or : (rank other : ℕ) → rank ≢ other → (rank < other) ⊎ (other <
 first_or rank other apart = elim (cases_lt rank other) [ inl h ↦ inl h | inr h ↦ inr (omega (arith, apart, h)) ]
 
 pub readers_first : ReadersStandBeforeWriters
-readers_first setting outcome lawful is_serial reader writer both hits =
-    elim (first_or reader.rank writer.rank both.apart) [
-      inl before ↦ before
-    | inr behind ↦ absurd (misses setting outcome reader.txn writer.entry
-        (passes setting outcome is_serial writer reader both.other_committed both.committed both.began behind) hits)
+readers_first setting outcome lawful is_serial reader writer is is_too apart began hits =
+    elim (first_or reader.rank writer.rank apart) [
+      | inl before ↦ before
+      | inr behind ↦ absurd (misses setting outcome reader.txn writer.entry
+          (passes setting outcome is_serial writer reader is_too is began behind) hits)
     ]
-
-turned : (outcome : Outcome) (commit other : Commit) → AreConcurrent outcome commit other → AreConcurrent outcome other commit
-turned outcome commit other both = record {
-  committed = both.other_committed;
-  other_committed = both.committed;
-  apart = λ e. both.apart (sym e);
-  began = both.other_began;
-  other_began = both.began;
-}
 
 pub no_skews : WriteSkewsDoNotCommit
 no_skews setting outcome lawful is_serial commit other both hits hits_too =
-    let first : commit.rank < other.rank = readers_first setting outcome lawful is_serial commit other both hits in
-    let second : other.rank < commit.rank = readers_first setting outcome lawful is_serial other commit (turned outcome commit other both) hits_too in
+    let first : commit.rank < other.rank =
+    readers_first setting outcome lawful is_serial commit other both.committed both.other_committed both.apart both.began hits in
+    let second : other.rank < commit.rank =
+    readers_first setting outcome lawful is_serial other commit both.other_committed both.committed (λ e. both.apart (sym e)) both.other_began hits_too in
     absurd (omega (arith, first, second))
 
 -- ---- writes
@@ -118,8 +111,8 @@ no_change_twice setting outcome is_serial earlier later is is_too began before t
 pub no_lost_updates : LostUpdatesDoNotCommit
 no_lost_updates setting outcome lawful is_serial commit other both table pos changes changes_too =
     elim (first_or commit.rank other.rank both.apart) [
-      inl before ↦ no_change_twice setting outcome is_serial commit other both.committed both.other_committed both.other_began before
+      | inl before ↦ no_change_twice setting outcome is_serial commit other both.committed both.other_committed both.other_began before
           table pos changes changes_too
-    | inr behind ↦ no_change_twice setting outcome is_serial other commit both.other_committed both.committed both.began behind
+      | inr behind ↦ no_change_twice setting outcome is_serial other commit both.other_committed both.committed both.began behind
           table pos changes_too changes
     ]

@@ -50,11 +50,11 @@ changes_at entry table pos = has_place (places_of entry.changes) table pos
 
 -- ---- the laws
 
--- of two concurrent transactions, one that read what the other wrote over stands before it in the commit order
+-- one that read what another wrote over, and began before this other committed, stands before it in the commit order
 abbrev pub ReadersStandBeforeWriters : Type 0
 ReadersStandBeforeWriters = (setting : Setting) (outcome : Outcome) → Lawful setting outcome → IsSerial setting outcome
-    → (reader writer : Commit) → AreConcurrent outcome reader writer
-    → IsTrue (hits_reads_of setting outcome.order reader.txn writer.entry) → reader.rank < writer.rank
+    → (reader writer : Commit) → IsCommitOf outcome reader → IsCommitOf outcome writer → reader.rank ≢ writer.rank
+    → reader.txn.start ≤ writer.rank → IsTrue (hits_reads_of setting outcome.order reader.txn writer.entry) → reader.rank < writer.rank
 
 -- so two concurrent transactions of which each read what the other wrote over do not both commit
 abbrev pub WriteSkewsDoNotCommit : Type 0

@@ -9,9 +9,12 @@ use Rattle.hy_machine.specs.declared.Setting.{Setting}
 use Rattle.hy_lawful.specs.Lawful.{Lawful}
 use Rattle.hy_lawful.specs.Serial.{IsSerial, AreFirstOf}
 
--- the transactions that committed before a rank, in order
+-- the transactions of a commit order, and those that committed before a rank
+abbrev pub labels_in : List Entry → List Label
+labels_in order = map (λ (entry : Entry). entry.label) order
+
 abbrev pub committed_before : List Entry → ℕ → List Label
-committed_before order rank = map (λ (entry : Entry). entry.label) (take rank order)
+committed_before order rank = labels_in (take rank order)
 
 -- one transaction in two outcomes, which has the same commits before its start in both
 pub record StartsAlike (outcome : Outcome) (txn : TxnOutcome) (other : Outcome) (again : TxnOutcome) : Type 0 where
@@ -28,3 +31,8 @@ RepliesAreOfCommitsBefore = (setting : Setting) (outcome other : Outcome) → La
     → Lawful setting other → IsSerial setting other
     → AllByRecursion (λ (txn : TxnOutcome). AllByRecursion (λ (again : TxnOutcome). StartsAlike outcome txn other again → AreToldAlike txn again)
     other.txns) outcome.txns
+
+-- and the printed tables depend on the order in which transactions committed, and on nothing else
+abbrev pub TablesAreOfTheOrder : Type 0
+TablesAreOfTheOrder = (setting : Setting) (outcome other : Outcome) → Lawful setting outcome → IsSerial setting outcome
+    → Lawful setting other → IsSerial setting other → labels_in outcome.order ≡ labels_in other.order → outcome.tables ≡ other.tables

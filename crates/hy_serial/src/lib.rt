@@ -6,7 +6,7 @@ ghost use Rattle.hy_serial.specs.Replaying.{ReplayingGivesWhatWasPrinted};
 ghost use Rattle.hy_serial.specs.Commits.{ReadersStandBeforeWriters, WriteSkewsDoNotCommit, LostUpdatesDoNotCommit};
 ghost use Rattle.hy_serial.specs.Readers.{ReadersEndAsTheyClose, ReadersReadOneDatabase, ReadersCanRepeat, WhoWroteNothingEndsAsRead, RollbacksAreNotRefused, WhoAnswersAllIsToldAsAlone};
 ghost use Rattle.hy_serial.specs.Keeping.{StaysKept, TestsStayTrue, ValuesStay};
-ghost use Rattle.hy_serial.specs.Prefixes.{RepliesAreOfCommitsBefore};
+ghost use Rattle.hy_serial.specs.Prefixes.{RepliesAreOfCommitsBefore, TablesAreOfTheOrder};
 ghost use Rattle.hy_serial.specs.Points.{EveryTransactionHasItsPoint};
 
 /// The commit order can be replayed: when its transactions run alone, one after another as it is printed, from the
@@ -15,9 +15,9 @@ pub fn replaying_the_order_gives_what_was_printed()
     ensures { ReplayingGivesWhatWasPrinted }
 {}
 
-/// Of two transactions that committed, each of which began before the other did so, the one that read what the other
-/// wrote over stands first in the commit order. So two that each read what the other wrote over do not both commit,
-/// and no two change one position.
+/// Of two transactions that committed, one that read what the other wrote over, and began before this other committed,
+/// stands first in the commit order. So two that each began before the other's commit, and each read what the other
+/// wrote over, do not both commit; nor do two that began so and change one position.
 pub fn write_skews_do_not_commit()
     ensures order { ReadersStandBeforeWriters }
     ensures skews { WriteSkewsDoNotCommit }
@@ -58,9 +58,11 @@ pub fn a_property_that_transactions_keep_is_kept<P: Property>()
 {}
 
 /// Nobody is told anything of what was rolled back, refused, or committed later: in two outcomes in which the same
-/// transactions committed before its start, in the same order, a transaction is told the same, as far as it got.
+/// transactions committed before its start, in the same order, a transaction is told the same, as far as it got. And
+/// two outcomes with one commit order have the same printed tables.
 pub fn no_one_reads_what_was_rolled_back()
-    ensures { RepliesAreOfCommitsBefore }
+    ensures replies { RepliesAreOfCommitsBefore }
+    ensures tables { TablesAreOfTheOrder }
 {}
 
 /// Every transaction, however it ended, has its point in the one serial order: its rank where it committed, its start

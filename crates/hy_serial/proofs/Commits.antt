@@ -17,7 +17,8 @@ use Rattle.hy_lawful.specs.Databases.{logged_by}
 use Rattle.hy_lawful.specs.Passing.{has_place, PassesBy, ChangesLieIn}
 use Rattle.hy_lawful.specs.Positions.{places_of}
 use Rattle.hy_lawful.specs.Serial.{IsSerial, ReplaysAt}
-use Rattle.hy_serial.specs.Commits.{Commit, IsCommitOf, AreConcurrent, hits_reads_of, changes_at, ReadersStandBeforeWriters, WriteSkewsDoNotCommit, LostUpdatesDoNotCommit}
+use Rattle.hy_serial.specs.Commits.{Commit, IsCommitOf, AreConcurrent, hits_reads_of, changes_at}
+use Rattle.hy_serial.specs.Commits.{ReadersStandBeforeWriters, WriteSkewsDoNotCommit, LostUpdatesDoNotCommit}
 use Rattle.hy_serial.proofs.Items.{and_left, and_right, all_so, none_of}
 use Rattle.hy_serial.proofs.Outcomes.{printed_so}
 

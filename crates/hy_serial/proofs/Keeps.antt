@@ -12,57 +12,62 @@ use Rattle.hy_render.specs.declared.TxnOutcome.{TxnOutcome}
 use Rattle.hy_render.specs.declared.Committed.{Committed as Entry}
 use Rattle.hy_render.specs.declared.Outcome.{Outcome}
 use Rattle.hy_machine.specs.declared.Setting.{Setting}
-use Rattle.hy_lawful.specs.Scripts.{Programs, numbered, txn_of, statements_in, statements_of}
+use Rattle.hy_lawful.specs.Scripts.{Programs, numbered, txn_of, statements_in, ClosesWithCommit}
 use Rattle.hy_lawful.specs.Databases.{database_at}
 use Rattle.hy_lawful.specs.Lawful.{Lawful}
 use Rattle.hy_lawful.specs.Serial.{IsSerial}
 use Rattle.hy_serial.specs.Replaying.{alone_on, replayed_from}
 use Rattle.hy_serial.specs.Keeping.{Keeps, EachKeeps, IsKept, StaysKept, TestsStayTrue, IsAsAtFirst, LeavesValue, EachLeavesValue, ValuesStay}
 use Rattle.hy_serial.proofs.Items.{all_so, all_of}
-use Rattle.hy_serial.proofs.Replays.{statements_at, order_runs_on}
+use Rattle.hy_serial.proofs.Replays.{statements_at, Replays, replays_later, order_replays}
 
 -- ---- the transaction of a label
 
--- what all transactions of these sessions have is had by that of a label; one that isn't there has no statements
-at_place : (P : List Bound → Type 0) → P [] → (txns : List Txn) → AllByRecursion (λ (txn : Txn). P txn.statements) txns → (before : ℕ)
-    → P (statements_in (slice_get txns before))
+-- what is so of none, and of all transactions of these sessions, is so of that of a label
+at_place : (P : Option Txn → Type 0) → P None → (txns : List Txn) → AllByRecursion (λ (txn : Txn). P (Some txn)) txns → (before : ℕ)
+    → P (slice_get txns before)
 at_place P none [] h before = none
 at_place P none (txn ∷ txns) h zero = h.0
 at_place P none (txn ∷ txns) h (suc before) = at_place P none txns h.1 before
 
-at_number : (P : List Bound → Type 0) → P [] → (txns : List Txn) → AllByRecursion (λ (txn : Txn). P txn.statements) txns → (number : ℕ)
-    → P (statements_in (numbered txns number))
+at_number : (P : Option Txn → Type 0) → P None → (txns : List Txn) → AllByRecursion (λ (txn : Txn). P (Some txn)) txns → (number : ℕ)
+    → P (numbered txns number)
 at_number P none txns h zero = none
 at_number P none txns h (suc before) = at_place P none txns h before
 
-at_session : (P : List Bound → Type 0) (programs : Programs)
-    → AllByRecursion (λ (txns : List Txn). AllByRecursion (λ (txn : Txn). P txn.statements) txns) programs → (session : ℕ)
-    → AllByRecursion (λ (txn : Txn). P txn.statements) (slice_index_or programs session [])
+at_session : (P : Option Txn → Type 0) (programs : Programs)
+    → AllByRecursion (λ (txns : List Txn). AllByRecursion (λ (txn : Txn). P (Some txn)) txns) programs → (session : ℕ)
+    → AllByRecursion (λ (txn : Txn). P (Some txn)) (slice_index_or programs session [])
 at_session P [] h session = tt
 at_session P (txns ∷ programs) h zero = h.0
 at_session P (txns ∷ programs) h (suc session) = at_session P programs h.1 session
 
-at_label : (P : List Bound → Type 0) → P [] → (programs : Programs)
-    → AllByRecursion (λ (txns : List Txn). AllByRecursion (λ (txn : Txn). P txn.statements) txns) programs → (label : Label)
-    → P (statements_of programs label)
+at_label : (P : Option Txn → Type 0) → P None → (programs : Programs)
+    → AllByRecursion (λ (txns : List Txn). AllByRecursion (λ (txn : Txn). P (Some txn)) txns) programs → (label : Label)
+    → P (txn_of programs label)
 at_label P none programs h label =
     at_number P none (slice_index_or programs label.session []) (at_session P programs h label.session) label.txn
 
 -- ---- along the order
 
-kept_along : (Kept : Database → Type 0) (setting : Setting) → ((entry : Entry) → Keeps Kept setting.shapes (statements_at setting entry))
-    → (order : List Entry) (db : Database) → AllByRecursion (λ (given : Alone). given.stop ≡ None) (replayed_from setting order db) → Kept db
-    → (rank : ℕ) → Kept (serial setting.shapes (map (statements_at setting) (take rank order)) db)
-kept_along Kept setting keeps order db h kept zero = kept
-kept_along Kept setting keeps [] db h kept (suc rank) = kept
-kept_along Kept setting keeps (entry ∷ order) db h kept (suc rank) =
-    kept_along Kept setting keeps order (alone_on setting entry db).database h.1 (keeps entry db kept h.0) rank
+-- a transaction keeps a property, if it closes with COMMIT
+abbrev KeepsIfItCommits : (Database → Type 0) → Setting → Option Txn → Type 0
+KeepsIfItCommits Kept setting txn = ClosesWithCommit txn → Keeps Kept setting.shapes (statements_in txn)
 
-pub kept_at : (Kept : Database → Type 0) (setting : Setting) (outcome : Outcome) → Lawful setting outcome → IsSerial setting outcome
+kept_along : (Kept : Database → Type 0) (setting : Setting) → ((label : Label) → KeepsIfItCommits Kept setting (txn_of setting.programs label))
+    → (outcome : Outcome) (order : List Entry) (db : Database) → Replays setting outcome order db → Kept db → (rank : ℕ)
+    → Kept (serial setting.shapes (map (statements_at setting) (take rank order)) db)
+kept_along Kept setting keeps outcome order db replays kept zero = kept
+kept_along Kept setting keeps outcome [] db replays kept (suc rank) = kept
+kept_along Kept setting keeps outcome (entry ∷ order) db replays kept (suc rank) =
+    kept_along Kept setting keeps outcome order (alone_on setting entry db).database (replays_later setting outcome entry order db replays)
+    (keeps entry.label replays.closes.0 db kept replays.runs_on.0) rank
+
+kept_at : (Kept : Database → Type 0) (setting : Setting) (outcome : Outcome) → Lawful setting outcome → IsSerial setting outcome
     → EachKeeps Kept setting → Kept (database_of setting.first) → (rank : ℕ) → Kept (database_at setting outcome.order rank)
 kept_at Kept setting outcome lawful is_serial each kept rank =
-    kept_along Kept setting (λ entry. at_label (Keeps Kept setting.shapes) (λ db here runs_on. here) setting.programs each entry.label)
-    outcome.order (database_of setting.first) (order_runs_on setting outcome lawful is_serial) kept rank
+    kept_along Kept setting (at_label (KeepsIfItCommits Kept setting) (λ closes. absurd closes) setting.programs each)
+    outcome outcome.order (database_of setting.first) (order_replays setting outcome lawful is_serial) kept rank
 
 pub what_is_kept : (Kept : Database → Type 0) → StaysKept Kept
 what_is_kept Kept setting outcome lawful is_serial each kept =
@@ -86,8 +91,9 @@ keeps_value value setting statements leaves db same runs_on = leaves db runs_on 
 pub values_stay : ValuesStay
 values_stay value setting outcome lawful is_serial each =
     what_is_kept (IsAsAtFirst value setting) setting outcome lawful is_serial
-    (all_so (λ (txns : List Txn). AllByRecursion (λ (txn : Txn). LeavesValue value setting.shapes txn.statements) txns)
-    (λ (txns : List Txn). AllByRecursion (λ (txn : Txn). Keeps (IsAsAtFirst value setting) setting.shapes txn.statements) txns) setting.programs
-    (λ txns. all_so (λ (txn : Txn). LeavesValue value setting.shapes txn.statements)
-    (λ (txn : Txn). Keeps (IsAsAtFirst value setting) setting.shapes txn.statements) txns
-    (λ txn. keeps_value value setting txn.statements)) each) refl
+    (all_so (λ (txns : List Txn). AllByRecursion (λ (txn : Txn). IsTrue txn.commits → LeavesValue value setting.shapes txn.statements) txns)
+    (λ (txns : List Txn). AllByRecursion (λ (txn : Txn). IsTrue txn.commits → Keeps (IsAsAtFirst value setting) setting.shapes txn.statements) txns)
+    setting.programs
+    (λ txns. all_so (λ (txn : Txn). IsTrue txn.commits → LeavesValue value setting.shapes txn.statements)
+    (λ (txn : Txn). IsTrue txn.commits → Keeps (IsAsAtFirst value setting) setting.shapes txn.statements) txns
+    (λ txn leaves commits. keeps_value value setting txn.statements (leaves commits))) each) refl

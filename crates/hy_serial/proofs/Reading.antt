@@ -17,7 +17,8 @@ use Rattle.hy_lawful.specs.Scripts.{statements_of}
 use Rattle.hy_lawful.specs.Endings.{AnswersAll}
 use Rattle.hy_lawful.specs.Databases.{database_at}
 use Rattle.hy_lawful.specs.Written.{is_change}
-use Rattle.hy_serial.specs.Readers.{OnlyReads, EndsAsItCloses, IsToldAsAlone, answered_over, ReadsOneDatabase, ReadersReadOneDatabase, RepeatsAgree, ReadersCanRepeat}
+use Rattle.hy_serial.specs.Readers.{OnlyReads, EndsAsItCloses, IsToldAsAlone, answered_over, ReadsOneDatabase, RepeatsAgree}
+use Rattle.hy_serial.specs.Readers.{ReadersReadOneDatabase, ReadersCanRepeat}
 use Rattle.hy_serial.proofs.Items.{all_so, all_both}
 use Rattle.hy_serial.proofs.Endings.{readers_end}
 use Rattle.hy_serial.proofs.Told.{who_answers_all}

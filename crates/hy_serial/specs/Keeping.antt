@@ -20,10 +20,10 @@ use Rattle.hy_lawful.specs.Serial.{IsSerial}
 abbrev pub Keeps : (Database → Type 0) → List Shape → List Bound → Type 0
 Keeps Kept shapes statements = (db : Database) → Kept db → (alone_of shapes statements db).stop ≡ None → Kept (alone_of shapes statements db).database
 
--- every transaction of a script keeps it
+-- every transaction of a script that closes with COMMIT keeps it
 abbrev pub EachKeeps : (Database → Type 0) → Setting → Type 0
-EachKeeps Kept setting =
-    AllByRecursion (λ (txns : List Txn). AllByRecursion (λ (txn : Txn). Keeps Kept setting.shapes txn.statements) txns) setting.programs
+EachKeeps Kept setting = AllByRecursion (λ (txns : List Txn).
+    AllByRecursion (λ (txn : Txn). IsTrue txn.commits → Keeps Kept setting.shapes txn.statements) txns) setting.programs
 
 -- an outcome keeps a property
 pub record IsKept (Kept : Database → Type 0) (setting : Setting) (outcome : Outcome) : Type 0 where
@@ -36,7 +36,8 @@ pub record IsKept (Kept : Database → Type 0) (setting : Setting) (outcome : Ou
   -- and the printed tables
   pub at_the_end : Kept outcome.tables
 
--- where the first rows have a property, and every transaction keeps it when it runs alone, no interleaving breaks it
+-- where the first rows have a property, and every transaction that may commit keeps it when it runs alone, no interleaving
+-- breaks it
 abbrev pub StaysKept : (Database → Type 0) → Type 0
 StaysKept Kept = (setting : Setting) (outcome : Outcome) → Lawful setting outcome → IsSerial setting outcome → EachKeeps Kept setting
     → Kept (database_of setting.first) → IsKept Kept setting outcome
@@ -56,12 +57,13 @@ abbrev pub LeavesValue : (Database → ℤ) → List Shape → List Bound → Ty
 LeavesValue value shapes statements =
     (db : Database) → (alone_of shapes statements db).stop ≡ None → value (alone_of shapes statements db).database ≡ value db
 
--- every transaction of a script does
+-- every transaction of a script that closes with COMMIT does
 abbrev pub EachLeavesValue : (Database → ℤ) → Setting → Type 0
-EachLeavesValue value setting =
-    AllByRecursion (λ (txns : List Txn). AllByRecursion (λ (txn : Txn). LeavesValue value setting.shapes txn.statements) txns) setting.programs
+EachLeavesValue value setting = AllByRecursion (λ (txns : List Txn).
+    AllByRecursion (λ (txn : Txn). IsTrue txn.commits → LeavesValue value setting.shapes txn.statements) txns) setting.programs
 
--- what no transaction changes when it runs alone, such as a sum of balances, is what it was at first wherever it is seen
+-- what no transaction that may commit changes when it runs alone, such as a sum of balances, is what it was at first
+-- wherever it is seen
 abbrev pub ValuesStay : Type 0
 ValuesStay = (value : Database → ℤ) (setting : Setting) (outcome : Outcome) → Lawful setting outcome → IsSerial setting outcome
     → EachLeavesValue value setting → IsKept (IsAsAtFirst value setting) setting outcome

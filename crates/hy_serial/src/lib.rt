@@ -4,7 +4,8 @@
 ghost use Rattle.hy_meaning.specs.Statement.{Database};
 ghost use Rattle.hy_serial.specs.Replaying.{ReplayingGivesWhatWasPrinted};
 ghost use Rattle.hy_serial.specs.Commits.{ReadersStandBeforeWriters, WriteSkewsDoNotCommit, LostUpdatesDoNotCommit};
-ghost use Rattle.hy_serial.specs.Readers.{ReadersEndAsTheyClose, ReadersReadOneDatabase, ReadersCanRepeat, WhoWroteNothingEndsAsRead, RollbacksAreNotRefused, WhoAnswersAllIsToldAsAlone};
+ghost use Rattle.hy_serial.specs.Readers.{ReadersEndAsTheyClose, ReadersReadOneDatabase, ReadersCanRepeat};
+ghost use Rattle.hy_serial.specs.Readers.{WhoWroteNothingEndsAsRead, RollbacksAreNotRefused, WhoAnswersAllIsToldAsAlone};
 ghost use Rattle.hy_serial.specs.Keeping.{StaysKept, TestsStayTrue, ValuesStay};
 ghost use Rattle.hy_serial.specs.Prefixes.{RepliesAreOfCommitsBefore, TablesAreOfTheOrder};
 ghost use Rattle.hy_serial.specs.Points.{EveryTransactionHasItsPoint};
@@ -38,9 +39,10 @@ pub fn readers_end_as_read()
     ensures told { WhoAnswersAllIsToldAsAlone }
 {}
 
-/// What every transaction of a script keeps when it runs alone is kept in every outcome: where a test is true of the
-/// first rows, it is true of the printed tables, and of the database at each rank and at each transaction's start. A
-/// value that no transaction changes alone, as the sum of a column, is everywhere that of the first rows.
+/// What every transaction of a script that closes with COMMIT keeps when it runs alone is kept in every outcome: where a
+/// test is true of the first rows, it is true of the printed tables, and of the database at each rank and at each
+/// transaction's start. A value that none of them changes alone, as the sum of a column, is everywhere that of the first
+/// rows.
 pub fn what_transactions_keep_is_kept()
     ensures tests { TestsStayTrue }
     ensures values { ValuesStay }

@@ -25,7 +25,7 @@ use Rattle.hy_serial.proofs.Outcomes.{printed_so}
 -- ---- what is said of a committed transaction
 
 -- where it is said of every transaction, if it committed, at its rank
-of_commit : (P : TxnOutcome → ℕ → Type 0) (outcome : Outcome)
+pub of_commit : (P : TxnOutcome → ℕ → Type 0) (outcome : Outcome)
     → AllByRecursion (λ (txn : TxnOutcome). IfSome (committed_at txn.ending) (P txn)) outcome.txns → (commit : Commit) → IsCommitOf outcome commit
     → P commit.txn commit.rank
 of_commit P outcome h commit is =

@@ -8,3 +8,4 @@ pub mod Told
 pub mod Alike
 pub mod Reading
 pub mod Points
+pub mod Circles

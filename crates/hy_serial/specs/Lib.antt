@@ -4,3 +4,4 @@ pub mod Readers
 pub mod Keeping
 pub mod Prefixes
 pub mod Points
+pub mod Circles

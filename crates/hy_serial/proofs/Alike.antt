@@ -1,5 +1,5 @@
 -- A transaction before which the same transactions committed is told the same.
-use Rattle.std.proofs.Common.{◌≡◌, ℕ, ◌≤◌, List, refl, sym, ap, ◌∙◌, map, length, arith, inl, inr, ◌⊎◌, subst}
+use Rattle.std.proofs.Common.{◌≡◌, ℕ, ◌≤◌, List, sym, ap, ◌∙◌, map, length, arith, inl, inr, subst}
 use Rattle.std.specs.Prelude.{take}
 use Rattle.std.specs.List.{AllByRecursion}
 use Rattle.std.proofs.Math.Seq.{take-length}
@@ -17,7 +17,7 @@ use Rattle.hy_render.specs.declared.Outcome.{Outcome}
 use Rattle.hy_machine.specs.declared.Setting.{Setting}
 use Rattle.hy_lawful.specs.Scripts.{statements_of}
 use Rattle.hy_lawful.specs.Databases.{database_at, alone_at}
-use Rattle.hy_lawful.specs.Serial.{IsSerial, AreFirstOf, RepliesAreOfStart}
+use Rattle.hy_lawful.specs.Serial.{AreFirstOf, RepliesAreOfStart}
 use Rattle.hy_serial.specs.Prefixes.{labels_in, committed_before, StartsAlike, AreToldAlike, RepliesAreOfCommitsBefore, TablesAreOfTheOrder}
 use Rattle.hy_serial.proofs.Items.{all_so}
 

@@ -1,13 +1,11 @@
 -- Whoever depends on a transaction stands behind it in the commit order, so no path of dependencies is a circle.
-use Rattle.std.proofs.Common.{ℕ, ◌<◌, ◌≤◌, List, [], ◌∷◌, ◌++◌, arith}
-use Rattle.hy_stamp.specs.declared.Label.{Label}
-use Rattle.hy_render.specs.declared.TxnOutcome.{TxnOutcome}
+use Rattle.std.proofs.Common.{◌<◌, ◌≤◌, List, [], ◌∷◌, ◌++◌, arith}
 use Rattle.hy_render.specs.declared.Outcome.{Outcome}
 use Rattle.hy_machine.specs.declared.Setting.{Setting}
 use Rattle.hy_lawful.specs.Lawful.{Lawful, StandsAt}
 use Rattle.hy_lawful.specs.Serial.{IsSerial}
 use Rattle.hy_serial.specs.Commits.{Commit, IsCommitOf}
-use Rattle.hy_serial.specs.Circles.{Depends, writes_over, reads_from, was_read, IsPath, NoCircles}
+use Rattle.hy_serial.specs.Circles.{writes_over, reads_from, was_read, DependenciesGoForward, IsPath, NoCircles}
 use Rattle.hy_serial.proofs.Commits.{of_commit, readers_first}
 
 -- a committed transaction began no later than at its rank
@@ -15,8 +13,7 @@ began_before : (setting : Setting) (outcome : Outcome) → Lawful setting outcom
     → commit.txn.start ≤ commit.rank
 began_before setting outcome lawful commit is = (of_commit (StandsAt outcome.order) outcome lawful.committed commit is).later
 
-goes_forward : (setting : Setting) (outcome : Outcome) → Lawful setting outcome → IsSerial setting outcome → (first second : Commit)
-    → IsCommitOf outcome first → IsCommitOf outcome second → Depends setting outcome first second → first.rank < second.rank
+pub goes_forward : DependenciesGoForward
 goes_forward setting outcome lawful is_serial first second is is_too (writes_over table pos changes changes_too before) = before
 goes_forward setting outcome lawful is_serial first second is is_too (reads_from hits before) =
     let began : second.txn.start ≤ second.rank = began_before setting outcome lawful second is_too in

@@ -1,12 +1,11 @@
 -- Of two concurrent transactions that committed, the entry of the first passes by what the second wrote and read.
-use Rattle.std.proofs.Common.{◌≡◌, ◌≢◌, ℕ, ◌<◌, ◌≤◌, List, [], ◌∷◌, Option, None, Some, Bool, true, false, refl, sym, ap, ◌∙◌, subst, inl, inr, ◌⊎◌, arith}
+use Rattle.std.proofs.Common.{◌≡◌, ◌≢◌, ℕ, ◌<◌, ◌≤◌, List, [], ◌∷◌, Option, None, Bool, true, false, refl, sym, ap, subst, inl, inr, ◌⊎◌, arith}
 use Rattle.std.specs.Prelude.{is_some, slice_get, IfSome, ◌&&◌, ◌||◌, ◌==◌}
 use Rattle.std.specs.List.{AllByRecursion}
 use Rattle.std.specs.Option.{IsSomeAnd}
 use Rattle.std.proofs.lemmas.Bool.{eqb-true, cases_lt}
 use Rattle.hy_change.specs.declared.Change.{Change}
 use Rattle.hy_render.specs.declared.Ending.{Ending}
-use Rattle.hy_render.specs.declared.Ending.TheVariants.{Committed}
 use Rattle.hy_render.specs.declared.TxnOutcome.{TxnOutcome}
 use Rattle.hy_render.specs.declared.Committed.{Committed as Entry}
 use Rattle.hy_render.specs.declared.Outcome.{Outcome}
@@ -17,7 +16,7 @@ use Rattle.hy_lawful.specs.Databases.{logged_by}
 use Rattle.hy_lawful.specs.Passing.{has_place, PassesBy, ChangesLieIn}
 use Rattle.hy_lawful.specs.Positions.{places_of}
 use Rattle.hy_lawful.specs.Serial.{IsSerial, ReplaysAt}
-use Rattle.hy_serial.specs.Commits.{Commit, IsCommitOf, AreConcurrent, hits_reads_of, changes_at}
+use Rattle.hy_serial.specs.Commits.{Commit, IsCommitOf, hits_reads_of, changes_at}
 use Rattle.hy_serial.specs.Commits.{ReadersStandBeforeWriters, WriteSkewsDoNotCommit, LostUpdatesDoNotCommit}
 use Rattle.hy_serial.proofs.Items.{and_left, and_right, all_so, none_of}
 use Rattle.hy_serial.proofs.Outcomes.{printed_so}

@@ -1,7 +1,7 @@
 -- How a transaction ends that only reads, or that wrote nothing.
-use Rattle.std.proofs.Common.{◌≡◌, ℕ, ◌<◌, ◌≤◌, List, [], ◌∷◌, Option, None, Some, Bool, true, false, not, refl, sym, ap, ◌∙◌, subst, length, arith, zero, suc}
+use Rattle.std.proofs.Common.{◌≡◌, ℕ, ◌<◌, ◌≤◌, List, [], ◌∷◌, Option, None, Some, Bool, true, false, not, refl, ap, ◌∙◌, length, arith, zero, suc}
 use Rattle.std.specs.Prelude.{slice_get, ◌||◌}
-use Rattle.std.specs.List.{AllByRecursion, list_any}
+use Rattle.std.specs.List.{list_any}
 use Rattle.std.proofs.lemmas.Option.{slice_get_past}
 use Rattle.hy_bound.specs.declared.Bound.{Bound}
 use Rattle.hy_bound.specs.declared.Bound.TheVariants.{Select, Group, Insert, Update, Delete}
@@ -11,12 +11,9 @@ use Rattle.hy_render.specs.declared.Ending.TheVariants.{Committed, Read, RolledB
 use Rattle.hy_render.specs.declared.Place.{Place}
 use Rattle.hy_render.specs.declared.TxnOutcome.{TxnOutcome}
 use Rattle.hy_render.specs.declared.Outcome.{Outcome}
-use Rattle.hy_machine.specs.declared.Setting.{Setting}
 use Rattle.hy_lawful.specs.Scripts.{Programs, txn_of, statements_of, ClosesWithCommit, ClosesWithRollback}
 use Rattle.hy_lawful.specs.Outcomes.{refused_statement}
 use Rattle.hy_lawful.specs.Endings.{updates, changes_rows, inserts, AnswersAll, MayEnd}
-use Rattle.hy_lawful.specs.Lawful.{Lawful}
-use Rattle.hy_lawful.specs.Serial.{IsSerial}
 use Rattle.hy_lawful.specs.Written.{is_change, ReadersWriteNothing}
 use Rattle.hy_serial.specs.Readers.{OnlyReads, EndsAsItCloses, ReadersEndAsTheyClose, HasReadOnly, WhoWroteNothingEndsAsRead, RollbacksAreNotRefused}
 use Rattle.hy_serial.proofs.Items.{all_so, all_both}

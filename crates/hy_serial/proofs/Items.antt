@@ -1,6 +1,6 @@
 -- Items of a list: what is said of each, and of the first that passes a test.
-use Rattle.std.proofs.Common.{◌≡◌, ℕ, zero, suc, ◌+◌, List, [], ◌∷◌, Option, None, Some, Bool, true, false, cond, subst, refl, arith, zero-add, add-zero, sym}
-use Rattle.std.specs.Prelude.{find, slice_get, ◌&&◌, ◌||◌}
+use Rattle.std.proofs.Common.{◌≡◌, ℕ, suc, List, [], ◌∷◌, Option, Some, Bool, true, false, cond, subst, refl}
+use Rattle.std.specs.Prelude.{find, ◌&&◌, ◌||◌}
 use Rattle.std.specs.List.{AllByRecursion, list_any}
 use Rattle.std.proofs.lemmas.Option.{same_Some}
 use Rattle.hy_lawful.specs.Outcomes.{EachFrom}

@@ -1,12 +1,11 @@
 -- What every transaction of a script keeps when it runs alone is kept along the commit order.
-use Rattle.std.proofs.Common.{◌≡◌, ℕ, zero, suc, List, [], ◌∷◌, Option, None, Some, refl, sym, ap, ◌∙◌, subst, map, length, ℤ}
+use Rattle.std.proofs.Common.{ℕ, zero, suc, List, [], ◌∷◌, Option, None, Some, refl, sym, ◌∙◌, subst, map, length, ℤ}
 use Rattle.std.specs.Prelude.{take, slice_get, slice_index_or, IsTrue}
 use Rattle.std.specs.List.{AllByRecursion}
 use Rattle.hy_bound.specs.declared.Bound.{Bound}
-use Rattle.hy_bound.specs.declared.Shape.{Shape}
 use Rattle.hy_bound.specs.declared.Txn.{Txn}
 use Rattle.hy_meaning.specs.Statement.{Database}
-use Rattle.hy_meaning.specs.Serial.{Alone, alone_of, serial, database_of}
+use Rattle.hy_meaning.specs.Serial.{serial, database_of}
 use Rattle.hy_stamp.specs.declared.Label.{Label}
 use Rattle.hy_render.specs.declared.TxnOutcome.{TxnOutcome}
 use Rattle.hy_render.specs.declared.Committed.{Committed as Entry}
@@ -16,8 +15,8 @@ use Rattle.hy_lawful.specs.Scripts.{Programs, numbered, txn_of, statements_in, C
 use Rattle.hy_lawful.specs.Databases.{database_at}
 use Rattle.hy_lawful.specs.Lawful.{Lawful}
 use Rattle.hy_lawful.specs.Serial.{IsSerial}
-use Rattle.hy_serial.specs.Replaying.{alone_on, replayed_from}
-use Rattle.hy_serial.specs.Keeping.{Keeps, EachKeeps, IsKept, StaysKept, TestsStayTrue, IsAsAtFirst, LeavesValue, EachLeavesValue, ValuesStay}
+use Rattle.hy_serial.specs.Replaying.{alone_on}
+use Rattle.hy_serial.specs.Keeping.{Keeps, EachKeeps, StaysKept, TestsStayTrue, IsAsAtFirst, LeavesValue, ValuesStay}
 use Rattle.hy_serial.proofs.Items.{all_so, all_of}
 use Rattle.hy_serial.proofs.Replays.{statements_at, Replays, replays_later, order_replays}
 

@@ -1,6 +1,6 @@
 -- The point of a transaction in the serial order is its rank, or else its start.
 use Rattle.std.proofs.Common.{◌≡◌, ℕ, ◌<◌, ◌≤◌, List, Option, None, Some, refl, ap, ◌∙◌, length, arith}
-use Rattle.std.specs.Prelude.{take, slice_get, IfSome}
+use Rattle.std.specs.Prelude.{slice_get, IfSome}
 use Rattle.std.specs.List.{AllByRecursion}
 use Rattle.std.specs.Option.{option_map, unwrap_or}
 use Rattle.std.proofs.lemmas.List.{take_all}
@@ -13,8 +13,8 @@ use Rattle.hy_render.specs.declared.Outcome.{Outcome}
 use Rattle.hy_machine.specs.declared.Setting.{Setting}
 use Rattle.hy_lawful.specs.Outcomes.{committed_at, later_than}
 use Rattle.hy_lawful.specs.Databases.{alone_at}
-use Rattle.hy_lawful.specs.Lawful.{Lawful, StandsAt, Follows}
-use Rattle.hy_lawful.specs.Serial.{IsSerial, AreFirstOf, RepliesAreOfStart, ReplaysAt}
+use Rattle.hy_lawful.specs.Lawful.{StandsAt, Follows}
+use Rattle.hy_lawful.specs.Serial.{AreFirstOf, RepliesAreOfStart, ReplaysAt}
 use Rattle.hy_serial.specs.Points.{point_of, HasItsPoint, EveryTransactionHasItsPoint}
 use Rattle.hy_serial.proofs.Items.{all_so, all_both}
 

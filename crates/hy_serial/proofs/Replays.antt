@@ -1,5 +1,5 @@
 -- The commit order replayed from the first rows on gives what was printed, and leaves the printed tables.
-use Rattle.std.proofs.Common.{◌≡◌, ℕ, zero, suc, ◌+◌, List, [], ◌∷◌, Option, None, Some, refl, sym, ap, ◌∙◌, subst, map, length, arith, zero-add}
+use Rattle.std.proofs.Common.{◌≡◌, ℕ, suc, ◌+◌, List, [], ◌∷◌, Option, None, Some, refl, sym, ap, ◌∙◌, subst, map, length, arith, zero-add}
 use Rattle.std.specs.Prelude.{take, IfSome}
 use Rattle.std.specs.List.{AllByRecursion}
 use Rattle.std.specs.Option.{option_map}
@@ -8,7 +8,7 @@ use Rattle.std.proofs.lemmas.Option.{same_Some}
 use Rattle.hy_bound.specs.declared.Bound.{Bound}
 use Rattle.hy_bound.specs.declared.Reply.{Reply}
 use Rattle.hy_meaning.specs.Statement.{Database}
-use Rattle.hy_meaning.specs.Serial.{Alone, alone_of, serial, database_of}
+use Rattle.hy_meaning.specs.Serial.{Alone, serial, database_of}
 use Rattle.hy_stamp.specs.declared.Label.{Label}
 use Rattle.hy_render.specs.declared.Ending.{Ending}
 use Rattle.hy_render.specs.declared.Ending.TheVariants.{Committed}
@@ -22,7 +22,7 @@ use Rattle.hy_lawful.specs.Endings.{MayEnd}
 use Rattle.hy_lawful.specs.Databases.{database_at, alone_at}
 use Rattle.hy_lawful.specs.Lawful.{Lawful}
 use Rattle.hy_lawful.specs.Serial.{IsSerial, ReplaysAt}
-use Rattle.hy_serial.specs.Replaying.{alone_on, replayed_from, replayed, left_after, printed_of, ReplayingGivesWhatWasPrinted}
+use Rattle.hy_serial.specs.Replaying.{alone_on, replayed_from, left_after, printed_of, ReplayingGivesWhatWasPrinted}
 use Rattle.hy_serial.proofs.Items.{each_so, all_both}
 use Rattle.hy_serial.proofs.Outcomes.{printed_so, has_label}
 

@@ -18,12 +18,18 @@ pub data Depends (setting : Setting) (outcome : Outcome) (first second : Commit)
   was_read : IsTrue (hits_reads_of setting outcome.order first.txn second.entry) → first.txn.start ≤ second.rank → first.rank ≢ second.rank
       → Depends setting outcome first second
 
+-- the printed order is such a serial order: whoever depends on another stands behind it
+abbrev pub DependenciesGoForward : Type 0
+DependenciesGoForward = (setting : Setting) (outcome : Outcome) → Lawful setting outcome → IsSerial setting outcome
+    → (first second : Commit) → IsCommitOf outcome first → IsCommitOf outcome second → Depends setting outcome first second
+    → first.rank < second.rank
+
 -- a path in the graph: from a transaction to the next, each depending on the one before it
 abbrev pub IsPath : Setting → Outcome → Commit → List Commit → Type 0
 IsPath setting outcome first [] = IsCommitOf outcome first
 IsPath setting outcome first (second ∷ others) = IsCommitOf outcome first × (Depends setting outcome first second × IsPath setting outcome second others)
 
--- no path leads back to where it began
+-- so no path leads back to where it began
 abbrev pub NoCircles : Type 0
 NoCircles = (setting : Setting) (outcome : Outcome) → Lawful setting outcome → IsSerial setting outcome
     → (commit : Commit) (others : List Commit) → IsPath setting outcome commit (others ++ commit ∷ []) → ⊥

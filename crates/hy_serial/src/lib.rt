@@ -4,7 +4,7 @@
 ghost use Rattle.hy_meaning.specs.Statement.{Database};
 ghost use Rattle.hy_serial.specs.Replaying.{ReplayingGivesWhatWasPrinted};
 ghost use Rattle.hy_serial.specs.Commits.{ReadersStandBeforeWriters, WriteSkewsDoNotCommit, LostUpdatesDoNotCommit};
-ghost use Rattle.hy_serial.specs.Circles.{NoCircles};
+ghost use Rattle.hy_serial.specs.Circles.{DependenciesGoForward, NoCircles};
 ghost use Rattle.hy_serial.specs.Readers.{ReadersEndAsTheyClose, ReadersReadOneDatabase, ReadersCanRepeat};
 ghost use Rattle.hy_serial.specs.Readers.{WhoWroteNothingEndsAsRead, RollbacksAreNotRefused, WhoAnswersAllIsToldAsAlone};
 ghost use Rattle.hy_serial.specs.Keeping.{StaysKept, TestsStayTrue, ValuesStay};
@@ -26,10 +26,12 @@ pub fn write_skews_do_not_commit()
     ensures updates { LostUpdatesDoNotCommit }
 {}
 
-/// The serialization graph of the committed transactions has no circle: no path of dependencies, where one writes over
-/// what another wrote, reads what it wrote, or writes over what it read without being seen, leads back to its beginning.
+/// The serialization graph of the committed transactions has no circle. One depends on another where it writes over what
+/// this wrote, reads what it wrote, or writes over what it read without being seen by it; then it stands behind it in the
+/// commit order. So no path of dependencies leads back to where it began.
 pub fn the_serialization_graph_has_no_circle()
-    ensures { NoCircles }
+    ensures forward { DependenciesGoForward }
+    ensures circles { NoCircles }
 {}
 
 /// Who only reads is never refused: a transaction without INSERT, UPDATE and DELETE answers all its statements, and

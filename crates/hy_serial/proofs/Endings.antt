@@ -15,7 +15,7 @@ use Rattle.hy_lawful.specs.Scripts.{Programs, txn_of, statements_of, ClosesWithC
 use Rattle.hy_lawful.specs.Outcomes.{refused_statement}
 use Rattle.hy_lawful.specs.Endings.{updates, changes_rows, inserts, AnswersAll, MayEnd}
 use Rattle.hy_lawful.specs.Written.{is_change, ReadersWriteNothing}
-use Rattle.hy_serial.specs.Readers.{OnlyReads, EndsAsItCloses, ReadersEndAsTheyClose, HasReadOnly, WhoWroteNothingEndsAsRead, RollbacksAreNotRefused}
+use Rattle.hy_serial.specs.Readers.{OnlyReads, EndsAsItCloses, ReadersEndAsTheyClose, HasWrittenNothing, WhoWroteNothingEndsAsRead, RollbacksAreNotRefused}
 use Rattle.hy_serial.proofs.Items.{all_so, all_both}
 
 -- ---- the refused statement
@@ -162,7 +162,7 @@ readers_end setting outcome lawful is_serial =
 pub who_wrote_nothing : WhoWroteNothingEndsAsRead
 who_wrote_nothing setting outcome lawful is_serial =
     all_so (λ (txn : TxnOutcome). MayEnd setting.programs outcome txn txn.ending)
-    (λ (txn : TxnOutcome). HasReadOnly setting txn → txn.ending ≡ Read) outcome.txns
+    (λ (txn : TxnOutcome). HasWrittenNothing setting txn → txn.ending ≡ Read) outcome.txns
     (λ txn may has. ends_as_read setting.programs outcome txn has.answers has.wrote has.closes txn.ending may) lawful.endings
 
 pub rollbacks_end : RollbacksAreNotRefused

@@ -33,15 +33,15 @@ ReadersEndAsTheyClose = (setting : Setting) (outcome : Outcome) → Lawful setti
     → AllByRecursion (λ (txn : TxnOutcome). OnlyReads setting txn → EndsAsItCloses setting txn) outcome.txns
 
 -- a transaction of any kind that answered all its statements, wrote nothing and closes with COMMIT
-pub record HasReadOnly (setting : Setting) (txn : TxnOutcome) : Type 0 where
+pub record HasWrittenNothing (setting : Setting) (txn : TxnOutcome) : Type 0 where
   pub answers : AnswersAll setting.programs txn
   pub wrote : txn.wrote ≡ []
   pub closes : ClosesWithCommit (txn_of setting.programs txn.label)
 
--- it ends as read: it is not validated, and stands at no rank
+-- it ends as read: it is not refused, and stands at no rank
 abbrev pub WhoWroteNothingEndsAsRead : Type 0
 WhoWroteNothingEndsAsRead = (setting : Setting) (outcome : Outcome) → Lawful setting outcome → IsSerial setting outcome
-    → AllByRecursion (λ (txn : TxnOutcome). HasReadOnly setting txn → txn.ending ≡ Read) outcome.txns
+    → AllByRecursion (λ (txn : TxnOutcome). HasWrittenNothing setting txn → txn.ending ≡ Read) outcome.txns
 
 -- a transaction that answered all its statements and closes with ROLLBACK ends as rolled back, whatever it wrote
 abbrev pub RollbacksAreNotRefused : Type 0
@@ -54,7 +54,7 @@ pub record IsToldAsAlone (setting : Setting) (order : List Entry) (txn : TxnOutc
   pub replies : txn.replies ≡ (alone_at setting order txn.label txn.start).replies
   pub runs_on : (alone_at setting order txn.label txn.start).stop ≡ None
 
--- so was each that answered all its statements, however it ended: all of them read the one database of its start
+-- so was each that answered all its statements, however it ended
 abbrev pub WhoAnswersAllIsToldAsAlone : Type 0
 WhoAnswersAllIsToldAsAlone = (setting : Setting) (outcome : Outcome) → Lawful setting outcome → IsSerial setting outcome
     → AllByRecursion (λ (txn : TxnOutcome). AnswersAll setting.programs txn → IsToldAsAlone setting outcome.order txn) outcome.txns

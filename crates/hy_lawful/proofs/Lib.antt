@@ -61,3 +61,5 @@ pub mod FullSince
 pub mod FullPassed
 pub mod FullSteps
 pub mod FullTables
+pub mod EffectRows
+pub mod EffectCounts

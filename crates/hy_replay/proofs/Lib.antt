@@ -17,3 +17,7 @@ pub mod BagUpdates
 pub mod BagInserts
 pub mod BagStatements
 pub mod Alones
+pub mod EffectSweeps
+pub mod EffectVisits
+pub mod EffectUnseen
+pub mod EffectResults

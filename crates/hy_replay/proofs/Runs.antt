@@ -32,7 +32,7 @@ fits_key : (shape : Shape) → FitsShape shape → HasItsKey shape × (shape.wid
 fits_key shape fits = (fits.key, fits.few)
 
 -- a table that isn't there has no key and no columns
-shapes_fit : (shapes : List Shape) → All FitsShape shapes → ShapesFit shapes
+pub shapes_fit : (shapes : List Shape) → All FitsShape shapes → ShapesFit shapes
 shapes_fit shapes fit table = elim (cases_lt table (length shapes)) [
   | inl there ↦ fits_key (shape_of shapes table) (fit table no_shape there)
   | inr past ↦ subst (λ (shape : Shape). HasItsKey shape × (shape.width ≤ 32)) (sym (get_or_past shapes table no_shape past))

@@ -4,7 +4,7 @@ use Rattle.std.proofs.Common.{cond, not, is_some, get_or, refl, ap, sym, ◌∙�
 use Rattle.std.proofs.Math.ListN.{set}
 use Rattle.std.specs.Prelude.{◌&&◌, ◌==◌}
 use Rattle.std.specs.List.{AllByRecursion, range_with_len}
-use Rattle.std.proofs.lemmas.Bool.{cases_Bool, cases_eq, eq-eqb, eqb-true}
+use Rattle.std.proofs.lemmas.Bool.{cases_Bool, cases_eq, cases_lt, eqb-true}
 use Rattle.std.proofs.lemmas.Option.{same_Some}
 use Rattle.hy_value.specs.declared.Value.{Value}
 use Rattle.hy_bound.specs.declared.Bound.{Bound}
@@ -44,16 +44,23 @@ if_less : (b c : Bool) → (b ≡ true → c ≡ true) → one_if b ≤ one_if c
 if_less true c h = rw (h refl) omega arith
 if_less false c h = omega arith
 
+below_last : (place n : ℕ) → place < suc n → (place ≡ n → ⊥) → place < n
+below_last place n below apart = elim (cases_lt place n) [
+  | inl less ↦ less
+  | inr more ↦ absurd (apart (let same : place ≡ n = omega (arith, below, more) in same))
+]
+
 -- one of those that pass a test didn't pass another
-one_less : (f g : ℕ → Bool) (one n : ℕ) → ((pos : ℕ) → f pos ≡ true → g pos ≡ true) → one < n → f one ≡ false → g one ≡ true
+one_less : (f g : ℕ → Bool) (place n : ℕ) → ((pos : ℕ) → f pos ≡ true → g pos ≡ true) → place < n → f place ≡ false → g place ≡ true
     → how_many f n + 1 ≤ how_many g n
-one_less f g one zero each below no yes = absurd (omega arith)
-one_less f g one (suc n) each below no yes = elim (cases_eq one n) [
+one_less f g place zero each below fails passes = absurd (omega (arith, below))
+one_less f g place (suc n) each below fails passes = elim (cases_eq place n) [
   | inl same ↦
-      let here : one_if (f n) ≡ 0 = ap (λ (pos : ℕ). one_if (f pos)) (sym same) ∙ ap one_if no in
-      let there : one_if (g n) ≡ 1 = ap (λ (pos : ℕ). one_if (g pos)) (sym same) ∙ ap one_if yes in
+      let here : one_if (f n) ≡ 0 = ap (λ (pos : ℕ). one_if (f pos)) (sym same) ∙ ap one_if fails in
+      let there : one_if (g n) ≡ 1 = ap (λ (pos : ℕ). one_if (g pos)) (sym same) ∙ ap one_if passes in
       omega (arith, here, there, fewer f g n (λ pos less. each pos))
-  | inr apart ↦ omega (arith, if_less (f n) (g n) (each n), one_less f g one n each (omega (arith, below, apart)) no yes)
+  | inr apart ↦
+      let short : place < n = below_last place n below apart in omega (arith, if_less (f n) (g n) (each n), one_less f g place n each short fails passes)
 ]
 
 -- ---- own writes grow
@@ -135,38 +142,38 @@ no_item : {X : Type 0} (item : Option X) → not (is_some item) ≡ true → is_
 no_item None h = refl
 no_item (Some x) h = absurd cc
 
+-- the write of an INSERT
+abbrev placing : ℕ → ℕ → List Value → Write
+placing of at new = record { table = of; pos = at; cell = Some new }
+
 -- an INSERT places one position of its table
 place_counts : (setting : Setting) (tables : Tables) (own : Own) (of at : ℕ) (new : List Value) (table : ℕ) → HasTable setting own table
     → at < capacity setting → not (is_some (item_at own of at)) ≡ true → not (is_some (item_at tables of at)) ≡ true
-    → Counted setting tables own (with_write own (record { table = of; pos = at; cell = Some new })) table (placed_by table (Insert of new) (Some at))
+    → Counted setting tables own (with_write own (placing of at new)) table (placed_by table (Insert of new) (Some at))
 place_counts setting tables own of at new table h below unwritten empty = record {
-  has = has_more setting own table (write ∷ []) h;
+  has = has_more setting own table (placing of at new ∷ []) h;
   count_is = elim (cases_Bool (of == table)) [
     | inl t ↦
         let same : of ≡ table = eqb-true of table t in
         let taken : placed_by table (Insert of new) (Some at) ≡ 1 = ap one_if t in
-        let more : how_many (has_placed tables own table) (capacity setting) + 1 ≤ how_many (has_placed tables (with_write own write) table) (capacity setting) =
-        one_less (has_placed tables own table) (has_placed tables (with_write own write) table) at (capacity setting) stays below
+        let more : how_many (has_placed tables own table) (capacity setting) + 1 ≤ how_many (has_placed tables (with_write own (placing of at new)) table) (capacity setting) =
+        one_less (has_placed tables own table) (has_placed tables (with_write own (placing of at new)) table) at (capacity setting)
+        (stays_placed tables own (placing of at new ∷ []) table) below
         (ap (λ (b : Bool). b && not (is_some (item_at tables table at)))
         (no_item (item_at own table at) (subst (λ (n : ℕ). not (is_some (item_at own n at)) ≡ true) same unwritten)))
-        (and_true (is_some (item_at (with_write own write) table at)) (not (is_some (item_at tables table at)))
-        (ap is_some (subst (λ (n : ℕ). item_at (with_write own (record { table = n; pos = at; cell = Some new })) table at ≡ Some (Some new))
+        (and_true (is_some (item_at (with_write own (placing of at new)) table at)) (not (is_some (item_at tables table at)))
+        (ap is_some (subst (λ (n : ℕ). item_at (with_write own (placing n at new)) table at ≡ Some (Some new))
         (sym same) (put_here own (Some new) table at (h.room at below))))
         (subst (λ (n : ℕ). not (is_some (item_at tables n at)) ≡ true) same empty)) in
         omega (arith, taken, more, insert_count tables own of at new table (capacity setting))
     | inr f ↦
         let taken : placed_by table (Insert of new) (Some at) ≡ 0 = ap one_if f in
-        let kept : how_many (has_placed tables own table) (capacity setting) ≤ how_many (has_placed tables (with_write own write) table) (capacity setting) =
-        fewer (has_placed tables own table) (has_placed tables (with_write own write) table) (capacity setting) (λ pos less. stays pos) in
+        let kept : how_many (has_placed tables own table) (capacity setting) ≤ how_many (has_placed tables (with_write own (placing of at new)) table) (capacity setting) =
+        fewer (has_placed tables own table) (has_placed tables (with_write own (placing of at new)) table) (capacity setting) 
+        (λ pos less. stays_placed tables own (placing of at new ∷ []) table pos) in
         omega (arith, taken, kept, insert_count tables own of at new table (capacity setting))
   ];
 }
-  where
-    abbrev write : Write
-    write = record { table = of; pos = at; cell = Some new }
-
-    stays : (pos : ℕ) → has_placed tables own table pos ≡ true → has_placed tables (with_write own write) table pos ≡ true
-    stays pos = stays_placed tables own (write ∷ []) table pos
 
 insert_counts : (setting : Setting) (tables : Tables) (own : Own) (of : ℕ) (new : List Value) (records : List Record) (at : Option ℕ) (first : One)
     (table : ℕ) → HasTable setting own table → IsPosition setting at → placed_at setting tables own of new records at ≡ Some first
@@ -175,8 +182,7 @@ insert_counts setting tables own of new records None first table h p e =
     let c = chosen_so (has_key_at setting (over tables own) of new) (record { own = own; reply = reply.Duplicate; records = records }) first e in
     subst (λ (later : Own). Counted setting tables own later table 0) (ap (λ (one : One). one.own) c.1) (record { has = h; count_is = omega arith })
 insert_counts setting tables own of new records (Some pos) first table h p e =
-    let write : Write = record { table = of; pos = pos; cell = Some new } in
-    let placed : One = record { own = with_write own write; reply = reply.Inserted; records = records } in
+    let placed : One = record { own = with_write own (placing of pos new); reply = reply.Inserted; records = records } in
     let unseen : Bool = not (has_key_at setting (over tables own) of new) in
     let unwritten : Bool = not (is_some (item_at own of pos)) in
     let empty : Bool = not (is_some (item_at tables of pos)) in

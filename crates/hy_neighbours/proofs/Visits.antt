@@ -10,7 +10,10 @@ count_of : Result Visited Cause → ℕ
 count_of (Err cause) = 0
 count_of (Ok visited) = visited.count
 
+abbrev Counted : ℕ → ℕ → Type 0
+Counted n m = n ≡ m
+
 pub revisits_fail : RevisitsAddUp → ⊥
 unfolding count_of
 revisits_fail law =
-    let same : 2 ≡ 1 = ap count_of (law to_two True ((Some (row_of 1) ∷ []) ∷ []) 0 1 0 1 (record { own = []; count = 0 }) (omega arith)) in absurd cc
+    let same : Counted 2 1 = ap count_of (law to_two True ((Some (row_of 1) ∷ []) ∷ []) 0 1 0 1 (record { own = []; count = 0 }) (omega arith)) in absurd cc

@@ -1,6 +1,6 @@
 -- The statements of a transaction write as many positions without a row as their INSERTs took.
-use Rattle.std.proofs.Common.{◌≡◌, ℕ, zero, suc, ◌+◌, ◌<◌, ◌≤◌, List, [], ◌∷◌, Option, None, Some, Result, Ok, Bool, true, false, length}
-use Rattle.std.proofs.Common.{cond, not, is_some, get_or, refl, ap, sym, ◌∙◌, subst, arith, inl, inr, ◌⊎◌}
+use Rattle.std.proofs.Common.{◌≡◌, ℕ, zero, suc, ◌+◌, ◌<◌, ◌≤◌, List, [], ◌∷◌, Option, None, Some, Ok, Bool, true, false}
+use Rattle.std.proofs.Common.{not, is_some, get_or, refl, ap, sym, ◌∙◌, subst, arith, inl, inr, ◌⊎◌}
 use Rattle.std.proofs.Math.ListN.{set}
 use Rattle.std.specs.Prelude.{◌&&◌, ◌==◌}
 use Rattle.std.specs.List.{AllByRecursion, range_with_len}
@@ -169,7 +169,7 @@ place_counts setting tables own of at new table h below unwritten empty = record
     | inr f ↦
         let taken : placed_by table (Insert of new) (Some at) ≡ 0 = ap one_if f in
         let kept : how_many (has_placed tables own table) (capacity setting) ≤ how_many (has_placed tables (with_write own (placing of at new)) table) (capacity setting) =
-        fewer (has_placed tables own table) (has_placed tables (with_write own (placing of at new)) table) (capacity setting) 
+        fewer (has_placed tables own table) (has_placed tables (with_write own (placing of at new)) table) (capacity setting)
         (λ pos less. stays_placed tables own (placing of at new ∷ []) table pos) in
         omega (arith, taken, kept, insert_count tables own of at new table (capacity setting))
   ];

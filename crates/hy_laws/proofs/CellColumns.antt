@@ -1,5 +1,5 @@
 -- The records that statements log have the columns that their conditions name.
-use Rattle.std.proofs.Common.{◌≡◌, ℕ, ◌+◌, ◌<◌, ◌≤◌, List, [], ◌∷◌, ◌++◌, length, map, ap, ◌∙◌, arith}
+use Rattle.std.proofs.Common.{◌≡◌, ℕ, ◌+◌, ◌<◌, ◌≤◌, List, [], ◌∷◌, ◌++◌, length, ◌∙◌, arith}
 use Rattle.std.specs.Prelude.{true, ◌&&◌, nat_lt, Option, None, Some, slice_get, slice_index_or, drop}
 use Rattle.std.specs.List.{AllByRecursion, flat_map}
 use Rattle.std.proofs.lemmas.Bool.{and_from, lt-ltb}
@@ -101,9 +101,11 @@ reads_have : (shapes : List Shape) (statement : Bound) (gathered : List Table) �
 reads_have shapes (Select tables ons pred items) gathered few =
     select_has shapes (select_conditions ons pred) (select_named ons pred items) few (conditions_named ons pred items) [] None ons tables gathered
     tt (ons_named ons pred items)
-reads_have shapes (Group table pred key aggregate) gathered few =
-    (one_has shapes table pred (key ∷ columns_summed aggregate ++ columns_of pred) (few table)
-    (among_behind (key ∷ columns_summed aggregate) (columns_of pred) (columns_of pred) (among_self (columns_of pred))), tt)
+reads_have shapes (Group table pred key aggregate) gathered few = (
+  one_has shapes table pred (key ∷ columns_summed aggregate ++ columns_of pred) (few table)
+      (among_behind (key ∷ columns_summed aggregate) (columns_of pred) (columns_of pred) (among_self (columns_of pred))),
+  tt,
+)
 reads_have shapes (Insert table row) gathered few = keys_have shapes table row (shape_of shapes table).key (few table)
 reads_have shapes (Update table sets pred) gathered few = (write_has shapes table sets pred (few table), tt)
 reads_have shapes (Delete table pred) gathered few = (write_has shapes table [] pred (few table), tt)

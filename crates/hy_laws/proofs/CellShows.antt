@@ -6,7 +6,6 @@ use Rattle.std.proofs.lemmas.Bool.{cases_lt}
 use Rattle.hy_value.specs.declared.Value.{Value}
 use Rattle.hy_value.specs.Columns.{has_column}
 use Rattle.hy_bound.specs.declared.Record.{Record}
-use Rattle.hy_bound.specs.Agreement.{Agree}
 use Rattle.hy_bound.specs.Changes.{Change, present, is_missed}
 use Rattle.hy_bound.specs.Masks.{kept_either}
 use Rattle.hy_bound.specs.Predicate.{column_of}

@@ -1,10 +1,8 @@
 -- An UPDATE of a column writes another one as it finds it.
-use Rattle.std.proofs.Common.{◌≡◌, ℕ, zero, suc, ◌<◌, List, [], ◌∷◌, Option, Some, None, inl, inr, refl, ap, arith}
-use Rattle.std.specs.List.{All, AllPairs, AllByRecursion}
+use Rattle.std.proofs.Common.{◌≡◌, zero, suc, ◌<◌, List, [], ◌∷◌, Option, Some, None, inl, inr, refl, ap, arith}
+use Rattle.std.specs.List.{All}
 use Rattle.hy_value.specs.declared.Value.{Value}
 use Rattle.hy_value.specs.declared.Value.TheVariants.{Null}
-use Rattle.hy_bound.specs.declared.Bound.{Bound}
-use Rattle.hy_bound.specs.declared.Shape.{Shape}
 use Rattle.hy_bound.specs.Fits.{FitsShape, FitsStatement}
 use Rattle.hy_machine.specs.Positions.{item_at}
 use Rattle.hy_plan.specs.ColumnSets.{bits_where, columns_where, named_columns}

@@ -1,12 +1,12 @@
 -- Changes that a count or an INSERT sees, though what the neighbours ask for holds of them.
-use Rattle.std.proofs.Common.{◌≡◌, ℕ, zero, suc, ◌<◌, List, [], ◌∷◌, Option, None, Some, length, refl, ap, sym, ◌∙◌, subst, arith}
+use Rattle.std.proofs.Common.{◌≡◌, ℕ, zero, suc, List, [], ◌∷◌, Option, None, Some, refl, sym, arith}
 use Rattle.std.specs.Prelude.{pos}
 use Rattle.std.proofs.lemmas.Option.{same_Some}
 use Rattle.hy_value.specs.declared.Value.{Value}
 use Rattle.hy_bound.specs.declared.Reply.TheVariants as reply
 use Rattle.hy_bound.specs.declared.Shape.{Shape}
 use Rattle.hy_bound.specs.Agreement.{FitTable, HasItsKey}
-use Rattle.hy_bound.specs.Changes.{Change, present, Miss, FitChanges}
+use Rattle.hy_bound.specs.Changes.{present, Miss, FitChanges}
 use Rattle.hy_neighbours.specs.Examples.{row_of, unkeyed, keyed, counting, only}
 use Rattle.hy_neighbours.specs.Unseen.{MissBy, hits_after, hits_before, logged_before, leaving, coming, narrowing, inserting, AfterImagesSuffice, BeforeImagesSuffice, AnyWidthsSuffice, InsertsNeedNoRecord}
 

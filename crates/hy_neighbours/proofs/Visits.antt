@@ -1,5 +1,5 @@
 -- An UPDATE that visits a position twice counts its row twice.
-use Rattle.std.proofs.Common.{◌≡◌, ℕ, List, [], ◌∷◌, Some, Result, Ok, Err, ap, arith}
+use Rattle.std.proofs.Common.{◌≡◌, ℕ, [], ◌∷◌, Some, Result, Ok, Err, ap, arith}
 use Rattle.hy_bound.specs.Condition.{True}
 use Rattle.hy_machine.specs.declared.Cause.{Cause}
 use Rattle.hy_replay.specs.EffectVisits.{Visited}

@@ -7,7 +7,6 @@ use Rattle.hy_value.specs.declared.Value.{Value}
 use Rattle.hy_bound.specs.declared.Bound.{Bound}
 use Rattle.hy_bound.specs.declared.Bound.TheVariants.{Insert}
 use Rattle.hy_bound.specs.declared.Record.{Record}
-use Rattle.hy_bound.specs.declared.Reply.{Reply}
 use Rattle.hy_bound.specs.declared.Shape.{Shape}
 use Rattle.hy_bound.specs.Changes.{Change, rows_before, rows_after, changes_at, Miss, FitChanges}
 use Rattle.hy_bound.specs.Predicate.{truth_at, changes_on}

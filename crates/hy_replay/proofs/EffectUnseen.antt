@@ -1,29 +1,19 @@
 -- One statement over tables that differ unseen, in the words of its law.
-use Rattle.std.proofs.Common.{◌≡◌, ℕ, zero, suc, ◌<◌, ◌≤◌, List, [], ◌∷◌, Option, None, Some, Ok, length, get_or, refl, ap, sym, arith, inl, inr}
+use Rattle.std.proofs.Common.{◌≡◌, ℕ, List, [], Option, None, Some, length, arith}
 use Rattle.std.specs.Prelude.{IfSome}
-use Rattle.std.specs.List.{AllByRecursion}
 use Rattle.hy_value.specs.declared.Value.{Value}
-use Rattle.hy_bound.specs.declared.Assign.{Assign}
-use Rattle.hy_bound.specs.declared.Record.{Record}
-use Rattle.hy_bound.specs.declared.Shape.{Shape}
-use Rattle.hy_bound.specs.declared.WriteKind.{WriteKind}
 use Rattle.hy_bound.specs.declared.WriteKind.TheVariants as kind
-use Rattle.hy_bound.specs.Condition.{Condition}
 use Rattle.hy_bound.specs.Records.{shape_of}
 use Rattle.hy_machine.specs.declared.Setting.{Setting}
-use Rattle.hy_machine.specs.declared.Write.{Write}
 use Rattle.hy_machine.specs.Positions.{item_at}
-use Rattle.hy_machine.specs.Tables.{Cell, Tables, Own, capacity, over}
-use Rattle.hy_machine.specs.Writes.{with_writes}
+use Rattle.hy_machine.specs.Tables.{Cell, Tables, Own, capacity}
 use Rattle.hy_replay.specs.EffectUnseen.{AreOwn, FitBoth, ChangesAgain, InsertsFindAgain, OneAgain}
-use Rattle.hy_replay.specs.Laws.{DifferUnseen}
-use Rattle.hy_replay.specs.Ran.{writes_at}
-use Rattle.hy_replay.proofs.Cells.{HasShape, HasWidth, OwnWidth, FitsOwn, got}
+use Rattle.hy_replay.proofs.Cells.{HasWidth, OwnWidth, FitsOwn, got}
 use Rattle.hy_replay.proofs.Inserts.{found_again}
 use Rattle.hy_replay.proofs.Runs.{shapes_fit}
 use Rattle.hy_replay.proofs.Selects.{KeepsRecords, KeepsReplies}
 use Rattle.hy_replay.proofs.Statements.{one_again}
-use Rattle.hy_replay.proofs.Truths.{SelectsByRead, write_record}
+use Rattle.hy_replay.proofs.Truths.{SelectsByRead}
 use Rattle.hy_replay.proofs.Views.{BothFit}
 use Rattle.hy_replay.proofs.Writes.{written_again}
 

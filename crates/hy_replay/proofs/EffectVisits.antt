@@ -15,7 +15,7 @@ use Rattle.hy_machine.specs.Tables.{Cell, Tables, Own, capacity, over, positions
 use Rattle.hy_machine.specs.Turns.{told_by}
 use Rattle.hy_machine.specs.Visits.{verdict, sweep}
 use Rattle.hy_machine.specs.Writes.{with_writes}
-use Rattle.hy_replay.specs.Ran.{One, changed_by, one, writes_at}
+use Rattle.hy_replay.specs.Ran.{changed_by, writes_at}
 use Rattle.hy_replay.specs.EffectUnseen.{change_of}
 use Rattle.hy_replay.specs.EffectVisits.{Visited, visited_by, visit, then_visit, by_chunks, answered_by, VisitsAddUp, ChunksAddUp, ChangesByChunks}
 use Rattle.hy_replay.proofs.EffectSweeps.{alike_over, writes_apart, writes_joined, range_joined, both_written, sweep_joined, sweep_alike, AreBelow, sweep_below}

@@ -156,7 +156,8 @@ place_counts setting tables own of at new table h below unwritten empty = record
     | inl t ↦
         let same : of ≡ table = eqb-true of table t in
         let taken : placed_by table (Insert of new) (Some at) ≡ 1 = ap one_if t in
-        let more : how_many (has_placed tables own table) (capacity setting) + 1 ≤ how_many (has_placed tables (with_write own (placing of at new)) table) (capacity setting) =
+        let more : how_many (has_placed tables own table) (capacity setting) + 1
+        ≤ how_many (has_placed tables (with_write own (placing of at new)) table) (capacity setting) =
         one_less (has_placed tables own table) (has_placed tables (with_write own (placing of at new)) table) at (capacity setting)
         (stays_placed tables own (placing of at new ∷ []) table) below
         (ap (λ (b : Bool). b && not (is_some (item_at tables table at)))
@@ -168,7 +169,8 @@ place_counts setting tables own of at new table h below unwritten empty = record
         omega (arith, taken, more, insert_count tables own of at new table (capacity setting))
     | inr f ↦
         let taken : placed_by table (Insert of new) (Some at) ≡ 0 = ap one_if f in
-        let kept : how_many (has_placed tables own table) (capacity setting) ≤ how_many (has_placed tables (with_write own (placing of at new)) table) (capacity setting) =
+        let kept : how_many (has_placed tables own table) (capacity setting)
+        ≤ how_many (has_placed tables (with_write own (placing of at new)) table) (capacity setting) =
         fewer (has_placed tables own table) (has_placed tables (with_write own (placing of at new)) table) (capacity setting)
         (λ pos less. stays_placed tables own (placing of at new ∷ []) table pos) in
         omega (arith, taken, kept, insert_count tables own of at new table (capacity setting))

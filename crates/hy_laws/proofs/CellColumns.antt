@@ -21,7 +21,8 @@ use Rattle.hy_meaning.specs.Statement.{Table}
 use Rattle.hy_plan.specs.declared.Read.{Read}
 use Rattle.hy_plan.specs.ColumnSets.{named_columns}
 use Rattle.hy_plan.specs.Members.{has_named}
-use Rattle.hy_plan.specs.Reads.{columns_over, key_is_value, key_read, key_reads_of, one_read_of, reads_from, recorded, reads_of, rows_read_of, select_named, table_read_of, write_read_of}
+use Rattle.hy_plan.specs.Reads.{columns_over, key_is_value, key_read, key_reads_of, one_read_of, reads_from, recorded, reads_of}
+use Rattle.hy_plan.specs.Reads.{rows_read_of, select_named, table_read_of, write_read_of}
 use Rattle.hy_plan.specs.Restricted.{conditions_named, ons_named}
 use Rattle.hy_laws.specs.CellShown.{HasItsColumns, LoggedHaveTheirColumns}
 use Rattle.hy_laws.proofs.Missed.{OwnNamed, OnAmong, own_columns_named, table_read_named}
@@ -124,4 +125,5 @@ all_have shapes number (read ∷ reads) h =
     (recorded_have shapes number read.table read.columns read.conditions h.0) (all_have shapes number reads h.1)
 
 pub logged_have_their_columns : LoggedHaveTheirColumns
-logged_have_their_columns shapes number statement gathered few = all_have shapes number (reads_of shapes statement gathered) (reads_have shapes statement gathered few)
+logged_have_their_columns shapes number statement gathered few =
+    all_have shapes number (reads_of shapes statement gathered) (reads_have shapes statement gathered few)

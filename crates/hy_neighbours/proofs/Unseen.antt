@@ -8,7 +8,8 @@ use Rattle.hy_bound.specs.declared.Shape.{Shape}
 use Rattle.hy_bound.specs.Agreement.{FitTable, HasItsKey}
 use Rattle.hy_bound.specs.Changes.{present, Miss, FitChanges}
 use Rattle.hy_neighbours.specs.Examples.{row_of, unkeyed, keyed, counting, only}
-use Rattle.hy_neighbours.specs.Unseen.{MissBy, hits_after, hits_before, logged_before, leaving, coming, narrowing, inserting, AfterImagesSuffice, BeforeImagesSuffice, AnyWidthsSuffice, InsertsNeedNoRecord}
+use Rattle.hy_neighbours.specs.Unseen.{MissBy, hits_after, hits_before, logged_before, leaving, coming, narrowing, inserting}
+use Rattle.hy_neighbours.specs.Unseen.{AfterImagesSuffice, BeforeImagesSuffice, AnyWidthsSuffice, InsertsNeedNoRecord}
 
 no_key : (width : ℕ) → HasItsKey (record { width = width; key = None })
 no_key width key e = absurd cc
@@ -30,7 +31,8 @@ unkeyed_fit before after zero = (no_key 1, (one_wide (record { width = 1; key = 
 unkeyed_fit before after (suc table) = (no_key 0, ((omega arith, tt), (omega arith, tt)))
 
 keyed_fit : (before after : Option ℕ) → FitChanges keyed (only (at_most before) (at_most after))
-keyed_fit before after zero = (first_key, (one_wide (record { width = 1; key = Some 0 }) refl before, one_wide (record { width = 1; key = Some 0 }) refl after))
+keyed_fit before after zero =
+    (first_key, (one_wide (record { width = 1; key = Some 0 }) refl before, one_wide (record { width = 1; key = Some 0 }) refl after))
 keyed_fit before after (suc table) = (no_key 0, ((omega arith, tt), (omega arith, tt)))
 
 -- ---- counts

@@ -1,5 +1,6 @@
 -- Visits of positions one after another come to what all of them come to at once.
-use Rattle.std.proofs.Common.{◌≡◌, ℕ, zero, suc, ◌+◌, ◌*◌, ◌<◌, ◌≤◌, List, [], ◌∷◌, ◌++◌, Option, None, Some, Result, Ok, Err, length, refl, ap, sym, ◌∙◌, arith}
+use Rattle.std.proofs.Common.{◌≡◌, ℕ, zero, suc, ◌+◌, ◌*◌, ◌<◌, ◌≤◌, List, [], ◌∷◌, ◌++◌, Option, None, Some, Result}
+use Rattle.std.proofs.Common.{Ok, Err, length, refl, ap, sym, ◌∙◌, arith}
 use Rattle.std.specs.List.{AllByRecursion, range_with_len}
 use Rattle.std.proofs.lemmas.List.{length-append}
 use Rattle.hy_bound.specs.declared.Record.{Record}
@@ -18,7 +19,8 @@ use Rattle.hy_machine.specs.Writes.{with_writes}
 use Rattle.hy_replay.specs.Ran.{changed_by, writes_at}
 use Rattle.hy_replay.specs.EffectUnseen.{change_of}
 use Rattle.hy_replay.specs.EffectVisits.{Visited, visited_by, visit, then_visit, by_chunks, answered_by, VisitsAddUp, ChunksAddUp, ChangesByChunks}
-use Rattle.hy_replay.proofs.EffectSweeps.{alike_over, writes_apart, writes_joined, range_joined, both_written, sweep_joined, sweep_alike, AreBelow, sweep_below}
+use Rattle.hy_replay.proofs.EffectSweeps.{alike_over, writes_apart, writes_joined, range_joined, both_written, sweep_joined}
+use Rattle.hy_replay.proofs.EffectSweeps.{sweep_alike, AreBelow, sweep_below}
 
 -- what stands so after writes
 abbrev wrote : Visited → List Write → Visited
@@ -31,7 +33,8 @@ both_visited : (before : Visited) (writes : List Write) (others : Result (List W
     → visited_by (wrote before writes) others ≡ visited_by before (both_written (Ok writes) others)
 both_visited before writes (Err cause) = refl
 both_visited before writes (Ok others) =
-    ap (λ (own : Own). Ok (record { own = own; count = before.count + length writes + length others })) (sym (writes_joined before.own writes others))
+    ap (λ (own : Own). Ok (record { own = own; count = before.count + length writes + length others }))
+    (sym (writes_joined before.own writes others))
     ∙ ap (λ (count : ℕ). Ok (record { own = with_writes before.own (writes ++ others); count = count })) (sym (counted before.count writes others))
 
 abbrev judge_of : WriteKind → Condition → Tables → ℕ → Own → ℕ → Result (Option Cell) Cause

@@ -21,3 +21,4 @@ pub mod EffectSweeps
 pub mod EffectVisits
 pub mod EffectUnseen
 pub mod EffectResults
+pub mod EffectOwn

@@ -152,7 +152,7 @@ runs_again keeps replies selects setting tables others statements took given sha
 
 -- ---- widths
 
-run_fits : (setting : Setting) (tables : Tables) (own : Own) (number : ℕ) (statements : List Bound) (took : List (Option ℕ)) (given : Ran)
+pub run_fits : (setting : Setting) (tables : Tables) (own : Own) (number : ℕ) (statements : List Bound) (took : List (Option ℕ)) (given : Ran)
     → All (FitsStatement setting.shapes) statements → AreTables setting tables → HaveWidths setting.shapes tables → FitsOwn setting own
     → ran_from setting tables own number statements took ≡ Some given → FitsOwn setting given.own
 run_fits setting tables own number [] took given stand are wide fits e =

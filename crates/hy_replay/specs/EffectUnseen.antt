@@ -9,7 +9,7 @@ use Rattle.hy_bound.specs.declared.Shape.{Shape}
 use Rattle.hy_bound.specs.declared.WriteKind.{WriteKind}
 use Rattle.hy_bound.specs.declared.WriteKind.TheVariants as kind
 use Rattle.hy_bound.specs.Condition.{Condition}
-use Rattle.hy_bound.specs.Fits.{FitsShape}
+use Rattle.hy_bound.specs.Fits.{FitsShape, FitsStatement}
 use Rattle.hy_bound.specs.Predicate.{truth_at}
 use Rattle.hy_bound.specs.Records.{shape_of}
 use Rattle.hy_plan.specs.Reads.{records_of}
@@ -20,7 +20,7 @@ use Rattle.hy_machine.specs.Tables.{Cell, Tables, Own, capacity, over}
 use Rattle.hy_machine.specs.Validation.{record_hit}
 use Rattle.hy_machine.specs.Writes.{with_writes}
 use Rattle.hy_replay.specs.Laws.{AreTables, HaveWidths, DifferUnseen}
-use Rattle.hy_replay.specs.Ran.{One, has_key_at, one, writes_at}
+use Rattle.hy_replay.specs.Ran.{One, Ran, has_key_at, one, ran, writes_at}
 
 -- the UPDATE or the DELETE of this kind, of the rows of a table of which a condition is true
 abbrev pub change_of : WriteKind → ℕ → Condition → Bound
@@ -34,6 +34,13 @@ pub record AreOwn (setting : Setting) (own : Own) : Type 0 where
   pub long : AllByRecursion (λ (items : List (Option Cell)). length items ≡ capacity setting) own
   pub wide : (table pos : ℕ) → IfSome (item_at own table pos)
       (λ (cell : Cell). IfSome cell (λ (row : List Value). length row ≡ (shape_of setting.shapes table).width))
+
+-- what statements write of tables whose rows are as wide as their tables is such
+abbrev pub RunsLeaveOwn : Type 0
+RunsLeaveOwn =
+    (setting : Setting) (tables : Tables) (statements : List Bound) (took : List (Option ℕ)) (given : Ran)
+    → All (FitsStatement setting.shapes) statements → AreTables setting tables → HaveWidths setting.shapes tables
+    → ran setting tables statements took ≡ Some given → AreOwn setting given.own
 
 -- two lists of tables of these settings, and own writes in them
 pub record FitBoth (setting : Setting) (tables others : Tables) (own : Own) : Type 0 where

@@ -1,6 +1,6 @@
 //! What one statement comes to: over which other tables it comes to the same, and that it may go part by part.
 
-ghost use Rattle.hy_replay.specs.EffectUnseen.{ChangesAgain, ResultsAgain, InsertsFindAgain, OneAgain};
+ghost use Rattle.hy_replay.specs.EffectUnseen.{ChangesAgain, ResultsAgain, InsertsFindAgain, OneAgain, RunsLeaveOwn};
 ghost use Rattle.hy_replay.specs.EffectVisits.{VisitsAddUp, ChunksAddUp, ChangesByChunks};
 
 use hy_laws::{a_row_is_changed_by_what_is_read, changes_that_miss_are_unseen};
@@ -18,6 +18,12 @@ pub fn what_is_unseen_leaves_a_statement()
     changes_that_miss_are_unseen();
     a_row_is_changed_by_what_is_read();
 }
+
+/// What the statements of a transaction write of tables whose rows are as wide as their tables are own writes in such
+/// tables: an item for each position, and rows as wide as their tables. So the law above speaks of each of them.
+pub fn a_run_leaves_own_writes()
+    ensures { RunsLeaveOwn }
+{}
 
 /// An UPDATE or a DELETE may go part by part: over positions, and then over those behind them with the own writes of the
 /// first part laid over the tables, it comes to what it comes to over all of them at once, the same own writes, the same

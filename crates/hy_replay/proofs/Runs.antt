@@ -13,7 +13,7 @@ use Rattle.hy_bound.specs.Fits.{FitsShape, FitsStatement}
 use Rattle.hy_bound.specs.Records.{no_shape, shape_of}
 use Rattle.hy_machine.specs.declared.Setting.{Setting}
 use Rattle.hy_machine.specs.Positions.{item_at}
-use Rattle.hy_machine.specs.Tables.{Tables, Own, capacity, over}
+use Rattle.hy_machine.specs.Tables.{Tables, Own, capacity}
 use Rattle.hy_machine.specs.Writes.{blank_own}
 use Rattle.hy_replay.specs.Laws.{AreTables, HaveWidths, DifferUnseen, RunsAgain, RunsKeepWidths}
 use Rattle.hy_replay.specs.Ran.{One, one, Ran, after_one, ran_from}

@@ -18,7 +18,7 @@ first_key : HasItsKey (record { width = 1; key = Some 0 })
 first_key key e = let same : 0 ≡ key = same_Some 0 key e in omega (arith, same)
 
 -- a row of one number, or none
-abbrev at_most : Option ℕ → Option (List Value)
+abbrev pub at_most : Option ℕ → Option (List Value)
 at_most None = None
 at_most (Some n) = Some (row_of n)
 
@@ -26,7 +26,7 @@ one_wide : (shape : Shape) → shape.width ≡ 1 → (cell : Option ℕ) → Fit
 one_wide shape wide None = (omega (arith, wide), tt)
 one_wide shape wide (Some n) = (omega (arith, wide), (sym wide, tt))
 
-unkeyed_fit : (before after : Option ℕ) → FitChanges unkeyed (only (at_most before) (at_most after))
+pub unkeyed_fit : (before after : Option ℕ) → FitChanges unkeyed (only (at_most before) (at_most after))
 unkeyed_fit before after zero = (no_key 1, (one_wide (record { width = 1; key = None }) refl before, one_wide (record { width = 1; key = None }) refl after))
 unkeyed_fit before after (suc table) = (no_key 0, ((omega arith, tt), (omega arith, tt)))
 
@@ -38,7 +38,7 @@ keyed_fit before after (suc table) = (no_key 0, ((omega arith, tt), (omega arith
 -- ---- counts
 
 -- a count of rows and a count of others
-abbrev Counted : ℕ → ℕ → Type 0
+abbrev pub Counted : ℕ → ℕ → Type 0
 Counted n m = Some (reply.Value (pos n)) ≡ Some (reply.Value (pos m))
 
 leaving_unhit : MissBy hits_after (logged_before unkeyed 1 counting leaving) leaving

@@ -2,7 +2,7 @@
 #![tactic(auto)]
 
 ghost use Rattle.hy_neighbours.specs.Runs.{OwnPositionsMayDiffer};
-ghost use Rattle.hy_neighbours.specs.Shown.{AnyColumnsSuffice};
+ghost use Rattle.hy_neighbours.specs.Shown.{AnyColumnsSuffice, ShownColumnsSuffice};
 ghost use Rattle.hy_neighbours.specs.Unseen.{AfterImagesSuffice, BeforeImagesSuffice, AnyWidthsSuffice, InsertsNeedNoRecord};
 ghost use Rattle.hy_neighbours.specs.Visits.{RevisitsAddUp};
 
@@ -28,7 +28,8 @@ pub fn an_insert_needs_its_record()
 
 /// A record without the columns of WHERE is not hit by the change of one of them: it must have these columns too.
 pub fn a_record_needs_the_columns_of_where()
-    ensures { AnyColumnsSuffice → ⊥ }
+    ensures shown { AnyColumnsSuffice → ⊥ }
+    ensures replies { ShownColumnsSuffice → ⊥ }
 {}
 
 /// An UPDATE writes the whole row, with columns that it doesn't read: positions that a transaction wrote must be as they

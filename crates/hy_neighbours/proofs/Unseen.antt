@@ -7,9 +7,10 @@ use Rattle.hy_bound.specs.declared.Reply.TheVariants as reply
 use Rattle.hy_bound.specs.declared.Shape.{Shape}
 use Rattle.hy_bound.specs.Agreement.{FitTable, HasItsKey}
 use Rattle.hy_bound.specs.Changes.{present, Miss, FitChanges}
-use Rattle.hy_neighbours.specs.Examples.{row_of, unkeyed, keyed, counting, only}
-use Rattle.hy_neighbours.specs.Unseen.{MissBy, hits_after, hits_before, logged_before, leaving, coming, narrowing, inserting}
-use Rattle.hy_neighbours.specs.Unseen.{AfterImagesSuffice, BeforeImagesSuffice, AnyWidthsSuffice, InsertsNeedNoRecord}
+use Rattle.hy_plan.specs.ColumnSets.{bits_where, columns_where, named_columns}
+use Rattle.hy_neighbours.specs.Examples.{row_of, unkeyed, keyed, wide, counting, counting_last, only}
+use Rattle.hy_neighbours.specs.Unseen.{MissBy, HaveColumns, hits_after, hits_before, logged_before, leaving, coming, narrowing, changing_last, inserting}
+use Rattle.hy_neighbours.specs.Unseen.{AfterImagesSuffice, BeforeImagesSuffice, AnyWidthsSuffice, InsertsNeedNoRecord, ManyColumnsSuffice}
 
 no_key : (width : ℕ) → HasItsKey (record { width = width; key = None })
 no_key width key e = absurd cc
@@ -63,6 +64,20 @@ narrowing_unhit (suc table) = refl
 
 pub widths_fail : AnyWidthsSuffice → ⊥
 widths_fail law = let same : Counted 0 1 = law unkeyed 1 counting narrowing narrowing_unhit in absurd cc
+
+-- ---- more columns than a set has
+
+wide_columns : HaveColumns wide changing_last
+wide_columns zero = (no_key 33, ((refl, tt), (refl, tt)))
+wide_columns (suc table) = (no_key 0, (tt, tt))
+
+last_unhit : Miss (logged_before wide 1 counting_last changing_last) changing_last
+unfolding named_columns columns_where bits_where
+last_unhit zero = refl
+last_unhit (suc table) = refl
+
+pub many_columns_fail : ManyColumnsSuffice → ⊥
+many_columns_fail law = let same : Counted 0 1 = law wide 1 counting_last changing_last wide_columns last_unhit in absurd cc
 
 -- ---- inserts
 

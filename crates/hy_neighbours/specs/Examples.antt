@@ -1,8 +1,8 @@
 -- Small tables, rows and conditions from which counterexamples are made.
-use Rattle.std.specs.Prelude.{ℕ, List, [], ◌∷◌, Option, None, Some, pos}
+use Rattle.std.specs.Prelude.{ℕ, List, [], ◌∷◌, ◌++◌, Option, None, Some, pos, replicate}
 use Rattle.hy_value.specs.declared.Cmp.TheVariants.{Eq}
 use Rattle.hy_value.specs.declared.Value.{Value}
-use Rattle.hy_value.specs.declared.Value.TheVariants.{Int}
+use Rattle.hy_value.specs.declared.Value.TheVariants.{Null, Int}
 use Rattle.hy_bound.specs.declared.predicate.Side.TheVariants.{Literal}
 use Rattle.hy_bound.specs.declared.Bound.{Bound}
 use Rattle.hy_bound.specs.declared.Bound.TheVariants.{Select}
@@ -25,6 +25,17 @@ unkeyed = record { width = 1; key = None } ∷ []
 
 abbrev pub keyed : List Shape
 keyed = record { width = 1; key = Some 0 } ∷ []
+
+-- one table of 33 columns, and a row of it that has NULL in all but the last
+abbrev pub wide : List Shape
+wide = record { width = 33; key = None } ∷ []
+
+abbrev pub wide_row : ℕ → List Value
+wide_row n = replicate 32 Null ++ number n ∷ []
+
+-- how many rows of it have 1 in their last column
+abbrev pub counting_last : Bound
+counting_last = Select (0 ∷ []) [] (Compare 32 Eq (Literal (number 1))) Count
 
 -- that the first column is 1
 abbrev pub is_one : Condition

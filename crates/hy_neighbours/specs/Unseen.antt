@@ -8,11 +8,13 @@ use Rattle.hy_bound.specs.declared.Bound.{Bound}
 use Rattle.hy_bound.specs.declared.Bound.TheVariants.{Insert}
 use Rattle.hy_bound.specs.declared.Record.{Record}
 use Rattle.hy_bound.specs.declared.Shape.{Shape}
+use Rattle.hy_bound.specs.Agreement.{HasItsKey, HaveWidth}
 use Rattle.hy_bound.specs.Changes.{Change, rows_before, rows_after, changes_at, Miss, FitChanges}
 use Rattle.hy_bound.specs.Predicate.{truth_at, changes_on}
+use Rattle.hy_bound.specs.Records.{shape_of}
 use Rattle.hy_meaning.specs.Statement.{gathered_by, mean}
 use Rattle.hy_plan.specs.Reads.{records_of}
-use Rattle.hy_neighbours.specs.Examples.{row_of, only}
+use Rattle.hy_neighbours.specs.Examples.{row_of, wide_row, only}
 
 -- a statement has the same reply after changes as before them, or stops in both
 abbrev pub RepliesTheSame : List Shape → Bound → List (List Change) → Type 0
@@ -66,6 +68,22 @@ AnyWidthsSuffice =
 -- a row loses its only column
 abbrev pub narrowing : List (List Change)
 narrowing = only (Some (row_of 1)) (Some [])
+
+-- rows have the columns of their tables, however many
+abbrev pub HaveColumns : List Shape → List (List Change) → Type 0
+HaveColumns shapes changes = (table : ℕ) → HasItsKey (shape_of shapes table)
+    × (HaveWidth (shape_of shapes table).width (rows_before (changes_at changes table))
+    × HaveWidth (shape_of shapes table).width (rows_after (changes_at changes table)))
+
+-- a reply stays where changes hit no record, however many columns tables have
+abbrev pub ManyColumnsSuffice : Type 0
+ManyColumnsSuffice =
+    (shapes : List Shape) (number : ℕ) (statement : Bound) (changes : List (List Change)) → HaveColumns shapes changes
+    → Miss (logged_before shapes number statement changes) changes → RepliesTheSame shapes statement changes
+
+-- a row changes on its column of number 32, which no set of columns has
+abbrev pub changing_last : List (List Change)
+changing_last = only (Some (wide_row 1)) (Some (wide_row 2))
 
 -- the reply to an INSERT stays, without a record of its key
 abbrev pub InsertsNeedNoRecord : Type 0

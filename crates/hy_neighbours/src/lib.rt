@@ -3,7 +3,7 @@
 
 ghost use Rattle.hy_neighbours.specs.Runs.{OwnPositionsMayDiffer};
 ghost use Rattle.hy_neighbours.specs.Shown.{AnyColumnsSuffice, ShownColumnsSuffice};
-ghost use Rattle.hy_neighbours.specs.Unseen.{AfterImagesSuffice, BeforeImagesSuffice, AnyWidthsSuffice, InsertsNeedNoRecord};
+ghost use Rattle.hy_neighbours.specs.Unseen.{AfterImagesSuffice, BeforeImagesSuffice, AnyWidthsSuffice, InsertsNeedNoRecord, ManyColumnsSuffice};
 ghost use Rattle.hy_neighbours.specs.Visits.{RevisitsAddUp};
 
 /// A row that leaves a count is not seen by its after-image: validation must look at the row before a change too.
@@ -19,6 +19,11 @@ pub fn before_images_do_not_suffice()
 /// Rows that are not as wide as their table may lose a column unseen: what is unseen holds of rows that fit.
 pub fn widths_matter()
     ensures { AnyWidthsSuffice → ⊥ }
+{}
+
+/// A set of columns has none from number 32 on, so that a change of such a column hits no record: tables have at most 32.
+pub fn a_table_has_few_columns()
+    ensures { ManyColumnsSuffice → ⊥ }
 {}
 
 /// A row with the key may have come: an INSERT must record that it looked for its key.

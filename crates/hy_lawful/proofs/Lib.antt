@@ -65,3 +65,5 @@ pub mod FoundRows
 pub mod FullPassed
 pub mod FullSteps
 pub mod FullTables
+pub mod EffectRows
+pub mod EffectCounts

@@ -1,0 +1,3 @@
+pub mod FirstOnes
+pub mod Least
+pub mod Earliness

@@ -1,23 +1,23 @@
 -- Which records of a group a change hits, and which of all groups.
 use Rattle.std.proofs.Common.{◌≡◌, ◌⊎◌, ℕ, ◌+◌, ◌<◌, ◌≤◌, List, length, get_or, refl, sym, ap, ◌∙◌, inl, inr, arith, subst}
-use Rattle.std.specs.Prelude.{Bool, true, false, ◌&&◌, ◌||◌, ◌==◌, Option, None, Some, Any, Contains, slice_get}
+use Rattle.std.specs.Prelude.{Bool, true, false, ◌&&◌, ◌||◌, ◌==◌, Option, None, Some, Contains, slice_get}
 use Rattle.std.specs.Option.{option_map_or}
 use Rattle.std.specs.List.Sorted.{IsStrictlyIncreasing}
 use Rattle.std.proofs.lemmas.Bool.{cases_lt}
 use Rattle.std.proofs.lemmas.Option.{get_or_from_slice_get}
+use Rattle.std.proofs.lemmas.List.{get_or_default}
 use Rattle.std.proofs.lemmas.Grind.{get_or_default_zero}
 use Rattle.std.proofs.lemmas.List.Kept.{AllPairs-from_increasing}
-use Rattle.hy_value.specs.declared.Value.{Value}
 use Rattle.hy_bound.specs.declared.Record.{Record}
 use Rattle.hy_bound.specs.Condition.{Condition}
 use Rattle.hy_bound.specs.Predicate.{truth_at, changes_on}
 use Rattle.hy_change.specs.declared.Change.{Change}
 use Rattle.hy_ptree.specs.declared.groups.Group.{Group}
 use Rattle.hy_ptree.specs.FirstConditions.{first_condition_of}
-use Rattle.hy_ptree.specs.Groups.{IsFiled}
-use Rattle.hy_ptree.specs.Hits.{is_hit_by, is_hit_number, is_asked, IsLeast, earlier_of}
+use Rattle.hy_ptree.specs.Groups.{IsFiled, IsGrouped}
+use Rattle.hy_ptree.specs.Hits.{is_hit_by, is_hit_number, first_hit_of, is_asked, IsLeast, earlier_of}
 use Rattle.hy_ptree.proofs.FirstOnes.{first_decides}
-use Rattle.hy_ptree.proofs.Least.{least_of_both}
+use Rattle.hy_ptree.proofs.Least.{least_of_both, least_is_position}
 
 -- a number of one of the first so many groups
 pub record InFirst (groups : List Group) (many number : ℕ) : Type 0 where
@@ -47,8 +47,8 @@ first_is_least numbers p i up l h t = (((i, l, get_or_default_zero numbers i (ge
         is : get_or numbers c.0.0 0 ≡ n
         is = sym (get_or_default_zero numbers c.0.0 n c.0.1) ∙ c.0.2
         at : (i ≡ c.0.0) ⊎ (i < c.0.0) → get_or numbers i 0 ≤ n
-        at (inl e) = let f : get_or numbers i 0 ≡ get_or numbers c.0.0 0 = ap (λ k. get_or numbers k 0) e in omega arith
-        at (inr m) = let f = AllPairs-from_increasing numbers up i c.0.0 0 m c.0.1 in omega arith
+        at (inl e) = let f : get_or numbers i 0 ≡ n = ap (λ k. get_or numbers k 0) e ∙ is in omega arith
+        at (inr m) = let f = AllPairs-from_increasing numbers up i c.0.0 0 m c.0.1 in let e = is in omega arith
         by : (c.0.0 < i) ⊎ (i ≤ c.0.0) → get_or numbers i 0 ≤ n
         by (inl below) = let f : false ≡ true = sym (h c.0.0 below) ∙ (ap p is ∙ c.1) in cc
         by (inr le) = elim (cases_lt i c.0.0) [ inl m ↦ at (inr m) | inr m ↦ at (inl (omega arith)) ]
@@ -101,3 +101,11 @@ one_group_more groups i group p first found within is a b =
         let same : c.0.group ≡ group =
         sym c.0.is ∙ (ap (λ k. get_or groups k c.0.group) (sym at) ∙ (get_or_default groups i c.0.group group within ∙ is)) in
         inr (subst (λ (g : Group). Contains g.numbers.items n) same c.0.has, c.1)
+
+-- the first record of all groups that a change hits is the first that it hits
+pub first_of_all : (records : List Record) (groups : List Group) (change : Change) (first : Option ℕ) → IsGrouped records (length records) groups
+    → IsLeast (λ n. InFirst groups (length groups) n × (is_hit_number records change n ≡ true)) first → first ≡ first_hit_of records change
+first_of_all records groups change first grouped least =
+    least_is_position (is_hit_by change) records first (λ n. InFirst groups (length groups) n × (is_hit_number records change n ≡ true)) least
+    (λ n c. c.1)
+    (λ n l h. (let a = grouped.complete n l in record { at = a.0; group = a.1; below = a.2; is = a.3; has = a.4 }, h))

@@ -1,6 +1,6 @@
 -- The first of the conditions that AND joins, and what its being false says of the whole.
 use Rattle.std.proofs.Common.{◌≡◌, refl, List, [], ◌∷◌, ◌++◌, ap, ◌∙◌, sym}
-use Rattle.std.specs.Prelude.{Bool, true, false, ◌&&◌, ◌||◌, Option, None, Some, slice_index_or}
+use Rattle.std.specs.Prelude.{Bool, false, ◌&&◌, Option, None, Some, slice_index_or}
 use Rattle.std.specs.List.{list_all}
 use Rattle.hy_value.specs.declared.Value.{Value}
 use Rattle.hy_bound.specs.Condition.{Condition, True, Compare, IsNull, Not, And, Or}

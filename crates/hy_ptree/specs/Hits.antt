@@ -1,5 +1,5 @@
 -- Which records of what was read a change hits.
-use Rattle.std.specs.Prelude.{◌≡◌, ℕ, ◌≤◌, min, List, Bool, false, ◌&&◌, ◌||◌, ◌==◌, Option, None, Some, slice_get}
+use Rattle.std.specs.Prelude.{ℕ, ◌≤◌, min, List, Bool, false, ◌&&◌, ◌||◌, ◌==◌, Option, None, Some, slice_get}
 use Rattle.std.specs.Option.{option_map_or}
 use Rattle.std.specs.List.{position}
 use Rattle.hy_bound.specs.declared.Record.{Record}

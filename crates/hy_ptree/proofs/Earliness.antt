@@ -46,9 +46,11 @@ first_is_least numbers p i up l h t = (((i, l, get_or_default_zero numbers i (ge
       where
         is : get_or numbers c.0.0 0 ≡ n
         is = sym (get_or_default_zero numbers c.0.0 n c.0.1) ∙ c.0.2
+
         at : (i ≡ c.0.0) ⊎ (i < c.0.0) → get_or numbers i 0 ≤ n
         at (inl e) = let f : get_or numbers i 0 ≡ n = ap (λ k. get_or numbers k 0) e ∙ is in omega arith
         at (inr m) = let f = AllPairs-from_increasing numbers up i c.0.0 0 m c.0.1 in let e = is in omega arith
+
         by : (c.0.0 < i) ⊎ (i ≤ c.0.0) → get_or numbers i 0 ≤ n
         by (inl below) = let f : false ≡ true = sym (h c.0.0 below) ∙ (ap p is ∙ c.1) in cc
         by (inr le) = elim (cases_lt i c.0.0) [ inl m ↦ at (inr m) | inr m ↦ at (inl (omega arith)) ]

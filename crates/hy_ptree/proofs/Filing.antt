@@ -20,6 +20,7 @@ ascends_further numbers n below up k within = by (cases_lt (k + 1) (length numbe
   where
     there : k < length numbers → get_or (numbers ++ n ∷ []) k 0 ≡ get_or numbers k 0
     there l = get_or_append_left numbers (n ∷ []) 0 k l
+
     by : (k + 1 < length numbers) ⊎ (length numbers ≤ k + 1) → get_or (numbers ++ n ∷ []) k 0 < get_or (numbers ++ n ∷ []) (k + 1) 0
     by (inl l) =
         let a = there (omega arith) in
@@ -61,7 +62,7 @@ filed_with records n logged group other within is h filed same numbers =
       own = subst (λ ns. All own ns) (sym numbers)
           (all_and_last own group.numbers.items n (λ k d l e. of_same _ _ group other (filed.own k d l e) same)
           (λ d. of_same _ _ group other (of_record records n logged d group within is h) same));
-      ascends = subst IsStrictlyIncreasing (sym numbers) (ascends_further group.numbers.items n filed.below filed.ascends)
+      ascends = subst IsStrictlyIncreasing (sym numbers) (ascends_further group.numbers.items n filed.below filed.ascends);
     }
 
 -- a group of one record
@@ -73,7 +74,7 @@ filed_alone records n logged group within is h numbers =
       below = subst (λ ns. All (λ k. k < n + 1) ns) (sym numbers) (all_and_last (λ k. k < n + 1) [] n (λ k d l. absurd (omega arith)) (omega arith));
       own = subst (λ ns. All own ns) (sym numbers)
           (all_and_last own [] n (λ k d l. absurd (omega arith)) (λ d. of_record records n logged d group within is h));
-      ascends = subst IsStrictlyIncreasing (sym numbers) (λ k l. absurd (omega arith))
+      ascends = subst IsStrictlyIncreasing (sym numbers) (λ k l. absurd (omega arith));
     }
 
 abbrev Apart : Group → Group → Type 0
@@ -94,7 +95,7 @@ one_in_its_group records n logged groups at group other within is in' there h sa
           (λ k d l. filed_further records n (get_or groups k d) (grouped.filed k d l));
       complete = λ k l. complete k (cases_lt k n) l;
       apart = pairs_with Apart groups at group other in' there
-          (λ z a b. a (sym same.0 ∙ b.0, sym same.1 ∙ b.1)) (λ z a b. a (b.0 ∙ same.0, b.1 ∙ same.1)) grouped.apart
+          (λ z a b. a (sym same.0 ∙ b.0, sym same.1 ∙ b.1)) (λ z a b. a (b.0 ∙ same.0, b.1 ∙ same.1)) grouped.apart;
     }
   where
     complete : (k : ℕ) → (k < n) ⊎ (n ≤ k) → k < n + 1 → Any (λ g. Contains g.numbers.items k) (set groups at other)
@@ -116,7 +117,7 @@ one_in_a_new_group records n logged groups group within is none h numbers groupe
       filed = all_and_last (IsFiled records (n + 1)) groups group (λ k d l. filed_further records n (get_or groups k d) (grouped.filed k d l))
           (filed_alone records n logged group within is h numbers);
       complete = λ k l. complete k (cases_lt k n) l;
-      apart = all_pairs_push Apart groups group grouped.apart (λ k d l a. none k d l (sym a.0 ∙ h.0, sym a.1 ∙ h.1))
+      apart = all_pairs_push Apart groups group grouped.apart (λ k d l a. none k d l (sym a.0 ∙ h.0, sym a.1 ∙ h.1));
     }
   where
     complete : (k : ℕ) → (k < n) ⊎ (n ≤ k) → k < n + 1 → Any (λ g. Contains g.numbers.items k) (groups ++ group ∷ [])

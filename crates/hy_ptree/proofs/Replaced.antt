@@ -28,14 +28,19 @@ module _ {X : Type 0} where
     where
       len : length (set xs at y) ≡ length xs
       len = length-set xs at y
+
       pair : R (get_or xs i d) (get_or xs j d)
       pair = let k = len in h i j d lt (omega arith)
+
       put : (k : ℕ) → k ≡ at → y ≡ get_or (set xs at y) k d
       put k same = sym (ap (λ n. get_or (set xs at y) n d) same ∙ get_or-set_same xs at y d l)
+
       old : (k : ℕ) → k ≡ at → get_or xs k d ≡ x
       old k same = ap (λ n. get_or xs n d) same ∙ at_is xs at x d l e
+
       kept : (k : ℕ) → k ≢ at → get_or xs k d ≡ get_or (set xs at y) k d
       kept k other = sym (get_or-set_other xs at k y d other)
+
       by : (i ≡ at) ⊎ (i ≢ at) → (j ≡ at) ⊎ (j ≢ at) → R (get_or (set xs at y) i d) (get_or (set xs at y) j d)
       by (inl s) (inl t) = absurd (omega arith)
       by (inl s) (inr t) =

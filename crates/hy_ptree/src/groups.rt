@@ -25,12 +25,7 @@ pub(crate) struct Group<'a> {
 
 impl<'a> Group<'a> {
     /// The group of one record.
-    fn new(
-        alloc: Global,
-        table: u32,
-        first: &'a Pred,
-        number: u32,
-    ) -> Result<Group<'a>, AllocError>
+    fn new(alloc: Global, table: u32, first: &'a Pred, number: u32) -> Result<Group<'a>, AllocError>
         ensures of { IfOk result (λ group. IsOf table first.now group) }
         ensures numbers { IfOk result (λ group. group.numbers.items ≡ number ∷ []) }
     {
@@ -54,7 +49,7 @@ impl<'a> Group<'a> {
 
     /// Whether a change of a row can hit a record of the group: only where it is a change of the table, and the
     /// first condition is true of the row before or after.
-    fn is_asked(&self, change: &Change) -> bool
+    fn may_be_hit(&self, change: &Change) -> bool
         ensures { result ≡ is_asked change.now self.now }
     {
         self.table == change.table
@@ -132,7 +127,7 @@ fn first_in(records: &[Record], group: &Group, change: &Change) -> Option<u32>
     requires { IsFiled records.now (length records.now) group.now }
     ensures { IsLeast (λ number. Contains group.now.numbers.items number × (is_hit_number records.now change.now number ≡ true)) result }
 {
-    if !group.is_asked(change) {
+    if !group.may_be_hit(change) {
         return None;
     }
     for number in group.numbers.as_slice() {

@@ -5,8 +5,8 @@ use Rattle.hy_ptree.specs.Hits.{is_hit_number, is_asked, IsLeast}
 use Rattle.hy_ptree.proofs.Earliness.{group_missed, none_has, first_is_least}
 use Rattle.hy_ptree.proofs.groups.first_in.Goals as goal
 
-pub returns-then-not-is_asked : goal.returns-then-not-is_asked
-returns-then-not-is_asked c =
+pub returns-then-not-may_be_hit : goal.returns-then-not-may_be_hit
+returns-then-not-may_be_hit c =
     let not_asked : is_asked c.args.change.now c.args.group.now ≡ false = search rules in
     group_missed c.args.records.now (length c.args.records.now) c.args.group.now c.args.change.now c.requires not_asked
 

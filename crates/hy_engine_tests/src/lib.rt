@@ -5,3 +5,5 @@
 mod chains;
 #[cfg(test)]
 mod columns;
+#[cfg(test)]
+mod predicate_tree;

@@ -1,6 +1,7 @@
 -- The balances of rows lie within a bound. A statement that only reads, or that adds at most 100 to balances or takes it
 -- away, leaves them within a bound that is wider by 100, and goes out of range for no row.
-use Rattle.std.proofs.Common.{◌≡◌, ℕ, zero, suc, ◌+◌, ◌*◌, ◌^◌, ◌<◌, ◌≤◌, Bool, true, false, List, Option, Some, None, [], ◌∷◌, length, refl, sym, ap, ◌∙◌, subst, arith, ℤ, pos, negsuc, neg_ℤ, ◌+ℤ◌}
+use Rattle.std.proofs.Common.{◌≡◌, ℕ, zero, suc, ◌+◌, ◌*◌, ◌^◌, ◌<◌, ◌≤◌, Bool, true, false, List, Option, Some}
+use Rattle.std.proofs.Common.{None, [], ◌∷◌, length, refl, sym, ap, ◌∙◌, subst, arith, ℤ, pos, negsuc, neg_ℤ, ◌+ℤ◌}
 use Rattle.std.specs.Prelude.{Ok, Err, Result, IfSome, ◌&&◌, ◌==◌, is_none, cond}
 use Rattle.std.specs.Int.Signed.{◌≤ℤ◌}
 use Rattle.std.specs.List.{AllByRecursion, list_any}
@@ -135,7 +136,8 @@ holds_wider bound more le _ (one_table rows h) = one_table rows (rows_wider boun
 
 -- after an UPDATE, and what follows it; or before it, where it stops the transaction
 after_update : (bound total : ℕ) → bound ≤ total → (number : ℕ) (pred : Condition) (rows : Table) → AreWithin bound rows → (found : Option Table)
-    → IfSome found (AreWithin (bound + 100)) → (rest : Database → Alone) → ((db : Database) → HoldsWithin (bound + 100) db → HoldsWithin total (rest db).database)
+    → IfSome found (AreWithin (bound + 100)) → (rest : Database → Alone)
+    → ((db : Database) → HoldsWithin (bound + 100) db → HoldsWithin total (rest db).database)
     → HoldsWithin total (goes_on number (rows ∷ []) (with_table pred 0 (rows ∷ []) found) rest).database
 after_update bound total le number pred rows h None k rest later = one_table rows (rows_wider bound total le rows h)
 after_update bound total le number pred rows h (Some after) k rest later =
@@ -147,15 +149,16 @@ after_one : (shapes : List Shape) (bound total : ℕ) → bound ≤ total → (n
     → HoldsWithin total (goes_on number db (mean shapes statement db) rest).database
 after_one shapes bound total le number _ (reads tables ons pred items) db h rest later = later db (holds_wider bound (bound + 100) (omega arith) db h)
 after_one shapes bound total le number _ (moves amount value pred small adds) _ (one_table rows h) rest later =
-    after_update bound total le number pred rows h (updated_rows (set_balance value) pred rows) (rows_within bound amount value small adds pred rows h) rest later
+    after_update bound total le number pred rows h (updated_rows (set_balance value) pred rows)
+    (rows_within bound amount value small adds pred rows h) rest later
 
 -- statements that run one after another widen the bound by 100 each
 pub alone_within : (shapes : List Shape) (statements : List Bound) → AllByRecursion IsModest statements → (bound number : ℕ) (db : Database)
     → HoldsWithin bound db → HoldsWithin (bound + 100 * length statements) (alone_from shapes number statements db).database
 alone_within shapes [] are bound number db h = holds_wider bound (bound + 100 * 0) (omega arith) db h
 alone_within shapes (statement ∷ statements) are bound number db h =
-    after_one shapes bound (bound + 100 * length (statement ∷ statements)) (omega arith) number statement are.0 db h (alone_from shapes (suc number) statements)
-    (λ after k. holds_wider ((bound + 100) + 100 * length statements) (bound + 100 * length (statement ∷ statements)) (omega arith)
+    after_one shapes bound (bound + 100 * length (statement ∷ statements)) (omega arith) number statement are.0 db h
+    (alone_from shapes (suc number) statements) (λ after k. holds_wider ((bound + 100) + 100 * length statements) (bound + 100 * length (statement ∷ statements)) (omega arith)
     (alone_from shapes (suc number) statements after).database (alone_within shapes statements are.1 (bound + 100) (suc number) after k))
 
 -- ---- none goes out of range
@@ -170,7 +173,8 @@ one_stays : (bound : ℕ) → bound + 100 < 2 ^ 63 → (table : ℕ) (statement 
 one_stays bound few table None is row h = refl
 one_stays bound few table (Some _) (reads tables ons pred items) row h = refl
 one_stays bound few table (Some _) (moves amount value pred small adds) row h =
-    ap (λ (b : Bool). 0 == table && truth_of pred row && b) (stays_in_range bound amount value few small adds row h) ∙ not_both (0 == table) (truth_of pred row)
+    ap (λ (b : Bool). 0 == table && truth_of pred row && b) (stays_in_range bound amount value few small adds row h)
+    ∙ not_both (0 == table) (truth_of pred row)
 
 all_stay : (bound : ℕ) → bound + 100 < 2 ^ 63 → (table : ℕ) (statement : Option Bound) → IfSome statement IsModest → (rows : Table)
     → AreWithin bound rows → list_any (goes_out table statement) rows ≡ false

@@ -1,13 +1,10 @@
 -- Where each transaction ends in one of the four ways, the counts of these add up.
-use Rattle.std.proofs.Common.{◌≡◌, ℕ, ◌+◌, List, [], ◌∷◌, length, refl, arith}
-use Rattle.std.specs.Prelude.{IsTrue}
-use Rattle.std.specs.List.{AllByRecursion}
+use Rattle.std.proofs.Common.{◌≡◌, ◌+◌, List, [], ◌∷◌, refl, arith}
 use Rattle.hy_render.specs.declared.Ending.{Ending}
 use Rattle.hy_render.specs.declared.Ending.TheVariants.{Committed, Read, RolledBack, Conflict, Invalid, Range, Full}
 use Rattle.hy_render.specs.declared.TxnOutcome.{TxnOutcome}
-use Rattle.hy_render.specs.declared.Outcome.{Outcome}
-use Rattle.hy_render.specs.Summary.{is_committed, is_read, is_conflict, is_invalid, one_if, ended_so}
-use Rattle.hy_bank.specs.Endings.{IsEndingOfBank, EndInFourWays, EndingsAddUp, MadeEndInFourWays, MadeEndingsAddUp}
+use Rattle.hy_render.specs.Summary.{is_committed, is_read, is_conflict, is_invalid, one_if}
+use Rattle.hy_bank.specs.Endings.{IsEndingOfBank, EndInFourWays, EndingsAddUp, MadeEndingsAddUp}
 use Rattle.hy_bank.proofs.EndOutcomes.{end_in_four_ways}
 
 -- one ending counts once

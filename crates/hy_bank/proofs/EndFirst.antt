@@ -1,5 +1,5 @@
 -- The first balances of a script that is made are 1000.
-use Rattle.std.proofs.Common.{ℕ, zero, suc, ◌+◌, List, [], ◌∷◌, map, arith, pos}
+use Rattle.std.proofs.Common.{ℕ, zero, suc, ◌+◌, map, arith, pos}
 use Rattle.std.specs.List.{range_with_len}
 use Rattle.std.proofs.lemmas.Int.{ints}
 use Rattle.hy_value.specs.Sorted.{sorted}
@@ -8,7 +8,7 @@ use Rattle.hy_meaning.specs.Serial.{database_of}
 use Rattle.hy_gen.specs.Accounts.{first_row, first_rows}
 use Rattle.hy_gen.specs.Made.{made}
 use Rattle.hy_bank.specs.Outcomes.{made_setting}
-use Rattle.hy_bank.proofs.EndRows.{IsWithin, HasBalanceWithin, within, AreWithin, sorted_within, HoldsWithin, one_table}
+use Rattle.hy_bank.proofs.EndRows.{IsWithin, within, AreWithin, sorted_within, HoldsWithin, one_table}
 
 first_balance : IsWithin 1000 (pos 1000)
 first_balance = record { below = omega (arith, ints); above = omega (arith, ints) }

@@ -1,31 +1,25 @@
 -- In the outcomes of a script that is made each transaction is committed, has only read, is in conflict or is invalid.
-use Rattle.std.proofs.Common.{◌≡◌, ℕ, ◌+◌, ◌*◌, ◌^◌, ◌<◌, ◌≤◌, Bool, true, false, not, List}
-use Rattle.std.proofs.Common.{[], ◌∷◌, Option, Some, None, length, refl, sym, ap, ◌∙◌, subst, map, arith}
-use Rattle.std.specs.Prelude.{take, slice_get, IsTrue, IfSome}
+use Rattle.std.proofs.Common.{◌≡◌, ℕ, ◌+◌, ◌*◌, ◌≤◌, false, not, List, [], ◌∷◌, Option, Some, None, length, refl, map, arith}
+use Rattle.std.specs.Prelude.{take, IsTrue, IfSome}
 use Rattle.std.specs.List.{AllByRecursion, list_any}
 use Rattle.std.proofs.lemmas.Bool.{both_ways, not_from_true}
 use Rattle.std.proofs.lemmas.List.{length-map, length-take}
 use Rattle.hy_bound.specs.declared.Bound.{Bound}
 use Rattle.hy_bound.specs.declared.Txn.{Txn}
-use Rattle.hy_meaning.specs.Statement.{Table, Database, rows_in}
-use Rattle.hy_meaning.specs.Serial.{alone_of, serial, database_of}
+use Rattle.hy_meaning.specs.Serial.{alone_of, database_of}
 use Rattle.hy_render.specs.declared.Ending.{Ending}
 use Rattle.hy_render.specs.declared.Ending.TheVariants.{Committed, Read, RolledBack, Conflict, Invalid, Range, Full}
 use Rattle.hy_render.specs.declared.TxnOutcome.{TxnOutcome}
 use Rattle.hy_render.specs.declared.Committed.{Committed as Entry}
 use Rattle.hy_render.specs.declared.Outcome.{Outcome}
-use Rattle.hy_gen.specs.Accounts.{first_row, first_rows}
-use Rattle.hy_gen.specs.Made.{made}
 use Rattle.hy_machine.specs.declared.Setting.{Setting}
-use Rattle.hy_lawful.specs.Scripts.{Programs, txn_of, statements_of, ClosesWithRollback}
+use Rattle.hy_lawful.specs.Scripts.{txn_of, statements_of, ClosesWithRollback}
 use Rattle.hy_lawful.specs.Outcomes.{refused_statement}
 use Rattle.hy_lawful.specs.Endings.{inserts, MayEnd}
 use Rattle.hy_lawful.specs.Refusing.{goes_out, IsOutOfRangeAt, IsRefusedBy}
 use Rattle.hy_lawful.specs.Databases.{database_at, rows_left}
-use Rattle.hy_lawful.specs.Lawful.{Lawful}
-use Rattle.hy_lawful.specs.Serial.{IsSerial}
 use Rattle.hy_bank.specs.Outcomes.{made_setting}
-use Rattle.hy_bank.specs.Endings.{IsEndingOfBank, EndInFourWays, MadeEndInFourWays}
+use Rattle.hy_bank.specs.Endings.{IsEndingOfBank, MadeEndInFourWays}
 use Rattle.hy_bank.proofs.Turns.{all_so, all_both, all_in_front}
 use Rattle.hy_bank.proofs.EndRows.{IsModest, reads, moves, HoldsWithin, holds_wider, alone_within, none_goes_out}
 use Rattle.hy_bank.proofs.EndTxns.{CommitsModestly, AreModest, labelled_commits, labelled_are_modest, statement_is_modest, serial_within, made_commit}

@@ -14,12 +14,12 @@ use Rattle.hy_value.specs.declared.Value.TheVariants.{Int}
 use Rattle.hy_value.specs.Sorted.{sorted}
 use Rattle.hy_value.specs.Sorting.{sorted_permutes}
 use Rattle.hy_bound.specs.declared.Bound.{Bound}
-use Rattle.hy_bound.specs.declared.Bound.TheVariants.{Select, Group, Insert, Update, Delete}
+use Rattle.hy_bound.specs.declared.Bound.TheVariants.{Select, Update}
 use Rattle.hy_bound.specs.declared.Items.{Items}
 use Rattle.hy_bound.specs.declared.On.{On}
 use Rattle.hy_bound.specs.declared.Range.{Range}
 use Rattle.hy_bound.specs.declared.Shape.{Shape}
-use Rattle.hy_bound.specs.Assignment.{has_64_bits, number_of, value_of, set_column, assigned_to, assigned}
+use Rattle.hy_bound.specs.Assignment.{has_64_bits, set_column, assigned_to, assigned}
 use Rattle.hy_bound.specs.Condition.{Condition}
 use Rattle.hy_bound.specs.Expression.{Expression}
 use Rattle.hy_bound.specs.Predicate.{truth_of}

@@ -1,8 +1,7 @@
 -- The transactions of a script that is made close with COMMIT, and have at most three statements, each of which reads or
 -- adds at most 100 to a balance or takes it away.
-use Rattle.std.proofs.Common.{◌≡◌, ℕ, zero, suc, ◌+◌, ◌%◌, ◌*◌, ◌≤◌, Bool, true, false, cond}
-use Rattle.std.proofs.Common.{List, [], ◌∷◌, Option, Some, None, length, refl, map, arith, pos, neg_ℤ}
-use Rattle.std.specs.Prelude.{slice_get, slice_index_or, IfSome, take}
+use Rattle.std.proofs.Common.{◌≡◌, ℕ, zero, suc, ◌+◌, ◌*◌, ◌≤◌, Bool, true, false, cond, List, [], ◌∷◌, Option, Some, None, length, refl, arith, pos, neg_ℤ}
+use Rattle.std.specs.Prelude.{slice_get, slice_index_or, IfSome}
 use Rattle.std.specs.List.{AllByRecursion}
 use Rattle.std.proofs.lemmas.Int.{ints}
 use Rattle.hy_bound.specs.declared.Bound.{Bound}

@@ -52,10 +52,7 @@ fn statements_are_parsed(rt: HostRuntime) {
         ("DELETE FROM #", (2, 12)),
         ("DELETE FROM", (1, 11)),
         ("SELECT COUNT(*) FROM t JOIN u ON a = b;", (1, 23)),
-        (
-            "SELECT a, SUM(b) FROM t WHERE a = 'x' GROUP BY a;",
-            (0, 49),
-        ),
+        ("SELECT a, SUM(b) FROM t WHERE a = 'x' GROUP BY a;", (0, 49)),
         ("SELECT a, COUNT(*) FROM t;", (1, 25)),
         (
             "UPDATE t SET a = a * (b + 2) - 3, b = NULL WHERE a > 2;",
@@ -89,8 +86,18 @@ fn a_catalog_numbers_its_tables(rt: HostRuntime) -> Result<(), Fail> {
     for letter in b"abcdefghijklmnop" {
         assert!(rt; catalog.add(alloc, keyed(alloc, &[*letter])?).is_ok());
     }
-    assert!(rt; matches!(catalog.add(alloc, keyed(alloc, b"p")?), Err(AddError::Duplicate)));
-    assert!(rt; matches!(catalog.add(alloc, keyed(alloc, b"q")?), Err(AddError::Limit)));
+    assert!(rt;
+        matches!(
+            catalog.add(alloc, keyed(alloc, b"p")?),
+            Err(AddError::Duplicate)
+        )
+    );
+    assert!(rt;
+        matches!(
+            catalog.add(alloc, keyed(alloc, b"q")?),
+            Err(AddError::Limit)
+        )
+    );
     assert_eq!(rt; catalog.find(b"a"), Some(0));
     assert_eq!(rt; catalog.find(b"p"), Some(15));
     assert_eq!(rt; catalog.find(b"q"), None);

@@ -1,11 +1,7 @@
-//! The tests of what statements mean and read: transactions that run alone, answers, records of reads, plans.
+//! The tests of what statements mean: transactions that run alone, answers, their text, changes that hit reads.
 #![tactic(auto)]
 
 #[cfg(test)]
 mod given;
 #[cfg(test)]
 mod meanings;
-#[cfg(test)]
-mod plans;
-#[cfg(test)]
-mod reads;

@@ -1,6 +1,6 @@
 //! Plans of SELECTs, the log of reads, and joins of gathered rows.
 
-use crate::given::{compare, pair, printed, row};
+use crate::given::{compare, pair, row};
 use hy_bound::{Items, On, Pred, Query, Record, Reply, Shape, truth};
 use hy_join::answer;
 use hy_plan::{Gathered, Plan, ReadLog, plan_query};
@@ -100,6 +100,10 @@ fn gathered_rows_are_joined(rt: HostRuntime) -> Result<(), Fail> {
     let Reply::Rows(rows) = answer(alloc, &plan, &[acc, own])? else {
         return Err(Fail::from("columns are answered by rows"));
     };
-    assert_eq!(rt; printed(alloc, rows.as_slice())?.as_str(), "10 20 ");
+    let [first, second] = rows.as_slice() else {
+        return Err(Fail::from("two rows have their equals"));
+    };
+    assert!(rt; first.as_slice() == [Value::Int(10)].as_slice());
+    assert!(rt; second.as_slice() == [Value::Int(20)].as_slice());
     Ok(())
 }

@@ -1,0 +1,44 @@
+-- That wrong refusals are refused: conflicts, hits, and refusals for a number or for want of room.
+use Rattle.std.proofs.Common.{refl, arith}
+use Rattle.hy_cases.specs.Wrong.{WrongConflicts, WrongInvalids, WrongRefusals}
+use Rattle.hy_cases.proofs.Computed.{computed}
+use Rattle.hy_cases.proofs.Differ.{differ, not_true, not_false, same_option, same_cause}
+
+pub wrong_conflicts : WrongConflicts
+wrong_conflicts = record {
+  names_one_that_wrote_nothing = λ claim. not_true claim.refusals.1.0.wrote;
+  names_itself = λ claim. not_false claim.endings.1.0.rival;
+  names_one_of_its_session = λ claim. not_false claim.endings.1.0.rival;
+  names_nobody = λ claim. claim.endings.1.0.rival;
+  names_one_before_the_start = λ claim. not_false claim.refusals.1.0.not_before;
+  names_one_that_found_no_row = λ claim. not_true claim.refusals.1.0.found;
+  names_one_that_was_over = λ claim. not_true claim.refusals.1.1.0.overlaps;
+  at_a_row_that_is_not_selected = λ claim. not_true claim.refusals.1.0.selects;
+  at_a_row_that_it_wrote = λ claim. not_false claim.refusals.1.0.not_own;
+  in_another_table = λ claim. not_true claim.endings.1.0.changes;
+  of_a_select = λ claim. not_true claim.endings.1.0.changes;
+}
+
+pub wrong_invalids : WrongInvalids
+unfolding computed
+wrong_invalids = record {
+  without_a_hit = λ claim. differ (same_option same_cause) claim.refusals.1.0.hit refl refl;
+  names_the_second_hit = λ claim. differ (same_option same_cause) claim.refusals.1.0.hit refl refl;
+  names_another_position = λ claim. differ (same_option same_cause) claim.refusals.1.0.hit refl refl;
+  names_another_statement = λ claim. differ (same_option same_cause) claim.refusals.1.0.hit refl refl;
+  names_no_statement = λ claim. absurd (omega (arith, claim.endings.1.0.named.0));
+  names_one_before_the_start = λ claim. absurd (omega (arith, claim.endings.1.0.since));
+  names_one_that_came_later = λ claim. not_true claim.refusals.1.0.met;
+  of_a_reader = λ claim. absurd (omega (arith, claim.endings.1.0.wrote));
+  of_a_rollback = λ claim. not_true claim.endings.1.0.closes;
+}
+
+pub wrong_refusals : WrongRefusals
+wrong_refusals = record {
+  full_with_room_left = λ claim. absurd (omega (arith, claim.full.0));
+  full_for_an_update = λ claim. not_true claim.endings.0;
+  out_of_range_where_it_stays_in_range = λ claim. not_true claim.refusals.0.some;
+  out_of_range_at_another_row = λ claim. not_true claim.refusals.0.here;
+  out_of_range_at_a_row_that_it_wrote = λ claim. not_true claim.refusals.0.here;
+  out_of_range_for_a_delete = λ claim. not_true claim.endings.0;
+}

@@ -261,17 +261,20 @@ fits_session shapes txns e = record {
 
 -- the sessions of a script; its first rows too; its shapes too
 sessions_fit : Setting → Bool
+unfolding session_fits txn_fits fits within of_key is_not is_known key_number
 sessions_fit setting = nat_lt (length setting.programs) 65 && list_all (session_fits setting.shapes) setting.programs
 
 first_rows_fit : Setting → Bool
+unfolding sessions_fit tables_fit rows_fit of_key keys_ascend key_below is_known key_number
 first_rows_fit setting = tables_fit (setting.chunks * setting.rows) setting.shapes setting.first && sessions_fit setting
 
 shapes_fit : Setting → Bool
+unfolding first_rows_fit shape_fits of_key
 shapes_fit setting = list_all shape_fits setting.shapes && first_rows_fit setting
 
 -- whether a script fits, as far as this test knows
 unfoldable pub setting_fits : Setting → Bool
-unfolding left right within key_number is_known key_below keys_ascend of_key shape_fits rows_fit tables_fit is_not fits txn_fits session_fits sessions_fit first_rows_fit shapes_fit
+unfolding shapes_fit
 setting_fits setting = nat_lt (length setting.shapes) 17 && shapes_fit setting
 
 pub fits_setting : (setting : Setting) → IsTrue (setting_fits setting) → Fits setting.shapes (setting.chunks * setting.rows) setting.first setting.programs

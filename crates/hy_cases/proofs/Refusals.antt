@@ -2,7 +2,7 @@
 use Rattle.std.proofs.Common.{refl, arith}
 use Rattle.hy_cases.specs.Wrong.{WrongConflicts, WrongInvalids, WrongRefusals}
 use Rattle.hy_cases.proofs.Computed.{computed}
-use Rattle.hy_cases.proofs.Differ.{differ, not_true, not_false, same_option, same_cause}
+use Rattle.hy_cases.proofs.Differ.{differ, not_true, not_false, same_option, same_number, same_cause}
 
 pub wrong_conflicts : WrongConflicts
 wrong_conflicts = record {
@@ -27,8 +27,11 @@ wrong_invalids = record {
   names_another_position = λ claim. differ (same_option same_cause) claim.refusals.1.0.hit refl refl;
   names_another_statement = λ claim. differ (same_option same_cause) claim.refusals.1.0.hit refl refl;
   names_no_statement = λ claim. absurd (omega (arith, claim.endings.1.0.named.0));
+  names_a_statement_that_is_not_there = λ claim. absurd (omega (arith, claim.endings.1.0.named.1));
+  names_nobody = λ claim. claim.endings.1.0.since;
   names_one_before_the_start = λ claim. absurd (omega (arith, claim.endings.1.0.since));
   names_one_that_came_later = λ claim. not_true claim.refusals.1.0.met;
+  before_all_was_answered = λ claim. differ same_number claim.endings.1.0.answers refl refl;
   of_a_reader = λ claim. absurd (omega (arith, claim.endings.1.0.wrote));
   of_a_rollback = λ claim. not_true claim.endings.1.0.closes;
 }
@@ -36,6 +39,8 @@ wrong_invalids = record {
 pub wrong_refusals : WrongRefusals
 wrong_refusals = record {
   full_with_room_left = λ claim. absurd (omega (arith, claim.full.0));
+  full_though_the_place_was_given_back = λ claim. absurd (omega (arith, claim.full.1.1.0));
+  full_in_another_table = λ claim. not_true claim.endings.0;
   full_for_an_update = λ claim. not_true claim.endings.0;
   out_of_range_where_it_stays_in_range = λ claim. not_true claim.refusals.0.some;
   out_of_range_at_another_row = λ claim. not_true claim.refusals.0.here;

@@ -98,10 +98,6 @@ two_tables positions first second programs =
 abbrev pub goes : ℕ → Item
 goes session = record { session = session; whole = true }
 
--- a session takes one step
-abbrev pub steps : ℕ → Item
-steps session = record { session = session; whole = false }
-
 -- ---- outcomes
 
 -- the first transactions of the sessions, and the second one of some

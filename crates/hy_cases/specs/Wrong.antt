@@ -1,14 +1,17 @@
 -- Outcomes that the engine never gives, each made from a right one by what its name says.
 use Rattle.std.specs.Prelude.{[], ◌∷◌, None, Some, negsuc}
 use Rattle.hy_value.specs.declared.Value.TheVariants.{Int}
+use Rattle.hy_bound.specs.declared.Bound.TheVariants.{Insert}
 use Rattle.hy_bound.specs.declared.Reply.TheVariants.{Inserted, Duplicate, Updated, Deleted}
 use Rattle.hy_render.specs.declared.Ending.TheVariants.{Committed, Read, RolledBack, Conflict, Invalid, Range, Full}
 use Rattle.hy_cases.specs.Words.{int, row, overdrawn, a1, a2, b1, b2, c1, at, change, told, entry, rows, balance, total}
 use Rattle.hy_cases.specs.Words.{commits, rolls_back, read_all, read_balance, sum_balances, set_balance, add_to_balance}
 use Rattle.hy_cases.specs.Scripts.{hundreds}
-use Rattle.hy_cases.specs.Right.{reader, writer, own_write, own_delete, insert, came_and_went, all_written, duplicate, out_of_range, chunk_before, own_commit}
+use Rattle.hy_cases.specs.Right.{reader, writer, own_write, own_delete, insert, came_and_went, all_written, duplicate, no_room}
+use Rattle.hy_cases.specs.Right.{out_of_range, chunk_before, own_commit}
 use Rattle.hy_cases.specs.Right.{insert_undone, different_rows, old_reader, before_and_after, undone_unseen, conflict}
-use Rattle.hy_cases.specs.Right.{undone_rival, undone_before, place_given_back, skew_refused, phantom_refused, hit_without_effect, first_hit_named, refused_then_reads}
+use Rattle.hy_cases.specs.Right.{undone_rival, undone_before, place_given_back, skew_refused, phantom_refused}
+use Rattle.hy_cases.specs.Right.{hit_without_effect, first_hit_named, refused_then_reads, room_taken}
 use Rattle.hy_cases.specs.Cases.{IsUnlawful, IsNotSerial, with_programs, with_txns, with_order, with_tables}
 use Rattle.hy_cases.specs.Cases.{with_start, with_replies, with_ending, with_wrote, with_placed, with_changes}
 
@@ -137,8 +140,11 @@ pub record WrongInvalids : Type 0 where
   pub names_another_position : IsNotSerial (with_ending b1 (Invalid 0 1 a1 1) phantom_refused)
   pub names_another_statement : IsNotSerial (with_ending b1 (Invalid 0 0 a1 2) skew_refused)
   pub names_no_statement : IsUnlawful (with_ending b1 (Invalid 0 0 a1 0) skew_refused)
+  pub names_a_statement_that_is_not_there : IsUnlawful (with_ending b1 (Invalid 0 0 a1 3) skew_refused)
+  pub names_nobody : IsUnlawful (with_ending b1 (Invalid 0 0 c1 1) skew_refused)
   pub names_one_before_the_start : IsUnlawful (with_start b1 1 (with_replies b1 (total 50 ∷ Updated 1 ∷ []) skew_refused))
   pub names_one_that_came_later : IsNotSerial (with_start b2 0 (with_replies b2 (balance 100 ∷ []) refused_then_reads))
+  pub before_all_was_answered : IsUnlawful (with_replies b1 (total 200 ∷ []) skew_refused)
   pub of_a_reader : IsUnlawful (with_ending b1 (Invalid 0 0 a1 1) old_reader)
   pub of_a_rollback : IsUnlawful (with_programs
       ((commits (sum_balances 0 ∷ add_to_balance 0 1 (Int (negsuc 149)) ∷ []) ∷ [])
@@ -146,6 +152,12 @@ pub record WrongInvalids : Type 0 where
 
 pub record WrongRefusals : Type 0 where
   pub full_with_room_left : IsUnlawful (with_txns (told a1 0 [] (Full 0) [] (0 ∷ []) ∷ []) (with_order [] (with_tables (hundreds ∷ []) insert)))
+  pub full_though_the_place_was_given_back : IsUnlawful
+      (with_programs ((rolls_back (Insert 0 (row 2 50) ∷ []) ∷ commits (set_balance 0 1 90 ∷ []) ∷ []) ∷ (commits (Insert 0 (row 3 70) ∷ []) ∷ []) ∷ [])
+      (with_txns (told a1 0 (Inserted ∷ []) RolledBack (at 0 1 ∷ []) (1 ∷ []) ∷ told a2 0 (Updated 1 ∷ []) (Committed 0) (at 0 0 ∷ []) (0 ∷ [])
+      ∷ told b1 1 [] (Full 0) [] (0 ∷ []) ∷ [])
+      (with_order (entry a2 (change 0 0 (Some (row 1 100)) (Some (row 1 90)) ∷ []) ∷ []) (with_tables ((row 1 90 ∷ []) ∷ []) room_taken))))
+  pub full_in_another_table : IsUnlawful (with_ending a1 (Full 1) no_room)
   pub full_for_an_update : IsUnlawful (with_txns (told a1 0 [] (Full 0) [] (0 ∷ []) ∷ []) (with_order [] (with_tables (hundreds ∷ []) writer)))
   pub out_of_range_where_it_stays_in_range : IsNotSerial
       (with_txns (told a1 0 [] (Range 0 0) [] (0 ∷ []) ∷ []) (with_order [] (with_tables (hundreds ∷ []) writer)))

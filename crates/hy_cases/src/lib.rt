@@ -3,7 +3,8 @@
 #![tactic(auto)]
 
 ghost use Rattle.hy_cases.specs.Right.{RightOutcomes};
-ghost use Rattle.hy_cases.specs.Wrong.{WrongReplies, WrongStarts, WrongOrders, WrongCommits, WrongConflicts, WrongInvalids, WrongRefusals, WrongWrites, WrongChanges};
+ghost use Rattle.hy_cases.specs.Wrong.{WrongReplies, WrongStarts, WrongOrders, WrongCommits};
+ghost use Rattle.hy_cases.specs.Wrong.{WrongConflicts, WrongInvalids, WrongRefusals, WrongWrites, WrongChanges};
 
 use hy_lawful::runs_are_lawful;
 

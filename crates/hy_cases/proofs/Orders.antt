@@ -1,5 +1,5 @@
 -- That wrong orders and wrong final tables are refused.
-use Rattle.std.proofs.Common.{refl}
+use Rattle.std.proofs.Common.{refl, arith}
 use Rattle.hy_lawful.specs.Outcomes.{is_label}
 use Rattle.hy_cases.specs.Wrong.{WrongOrders}
 use Rattle.hy_cases.proofs.Differ.{differ, same_list, same_option, same_ending, same_rows}
@@ -15,12 +15,12 @@ wrong_orders = record {
   entries_exchanged = λ claim. differ (same_option is_label) claim.committed.0.stands refl refl;
   rank_of_another = λ claim. differ (same_option is_label) claim.committed.1.0.stands refl refl;
   rank_behind_the_end = λ claim. differ (same_option is_label) claim.committed.0.stands refl refl;
-  last_change_not_in_the_tables = λ claim. differ (same_list same_rows) claim.tables refl refl;
-  first_change_not_in_the_tables = λ claim. differ (same_list same_rows) claim.tables refl refl;
-  undone_change_in_the_tables = λ claim. differ (same_list same_rows) claim.tables refl refl;
-  undone_insert_in_the_tables = λ claim. differ (same_list same_rows) claim.tables refl refl;
-  deleted_row_in_the_tables = λ claim. differ (same_list same_rows) claim.tables refl refl;
-  rows_of_a_table_do_not_ascend = λ claim. differ (same_list same_rows) claim.tables refl refl;
-  table_missing = λ claim. differ (same_list same_rows) claim.tables refl refl;
-  table_too_many = λ claim. differ (same_list same_rows) claim.tables refl refl;
+  last_change_not_in_the_tables = record { lawful = search arith parts 12; refused = λ claim. differ (same_list same_rows) claim.tables refl refl };
+  first_change_not_in_the_tables = record { lawful = search arith parts 12; refused = λ claim. differ (same_list same_rows) claim.tables refl refl };
+  undone_change_in_the_tables = record { lawful = search arith parts 12; refused = λ claim. differ (same_list same_rows) claim.tables refl refl };
+  undone_insert_in_the_tables = record { lawful = search arith parts 12; refused = λ claim. differ (same_list same_rows) claim.tables refl refl };
+  deleted_row_in_the_tables = record { lawful = search arith parts 12; refused = λ claim. differ (same_list same_rows) claim.tables refl refl };
+  rows_of_a_table_do_not_ascend = record { lawful = search arith parts 12; refused = λ claim. differ (same_list same_rows) claim.tables refl refl };
+  table_missing = record { lawful = search arith parts 12; refused = λ claim. differ (same_list same_rows) claim.tables refl refl };
+  table_too_many = record { lawful = search arith parts 12; refused = λ claim. differ (same_list same_rows) claim.tables refl refl };
 }

@@ -29,12 +29,14 @@ pub record IsRight (case : Case) (schedule : List Item) : Type 0 where
   pub lawful : Lawful case.setting case.outcome
   pub serial : IsSerial case.setting case.outcome
 
--- the outcome is not lawful; it is not serializable
+-- the outcome is not lawful
 abbrev pub IsUnlawful : Case → Type 0
 IsUnlawful case = Lawful case.setting case.outcome → ⊥
 
-abbrev pub IsNotSerial : Case → Type 0
-IsNotSerial case = IsSerial case.setting case.outcome → ⊥
+-- the outcome is lawful, and still not serializable
+pub record IsNotSerial (case : Case) : Type 0 where
+  pub lawful : Lawful case.setting case.outcome
+  pub refused : IsSerial case.setting case.outcome → ⊥
 
 -- ---- a case with another script, other outcomes of transactions, another order, other final tables
 

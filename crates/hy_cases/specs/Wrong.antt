@@ -34,7 +34,7 @@ pub record WrongReplies : Type 0 where
   pub wrong_sum : IsNotSerial (with_replies a1 (rows (row 1 100 ∷ row 2 40 ∷ []) ∷ balance 40 ∷ total 141 ∷ []) reader)
   pub wrong_count : IsNotSerial (with_replies b1 (total 3 ∷ Updated 1 ∷ []) phantom_refused)
   pub replies_exchanged : IsNotSerial (with_replies a1 (rows (row 1 100 ∷ row 2 40 ∷ []) ∷ total 140 ∷ balance 40 ∷ []) reader)
-  pub reply_too_many : IsNotSerial (with_replies a1 (Updated 1 ∷ Updated 1 ∷ []) writer)
+  pub reply_too_many : IsUnlawful (with_replies a1 (Updated 1 ∷ Updated 1 ∷ []) writer)
   pub reply_too_few : IsUnlawful (with_replies a1 (rows (row 1 100 ∷ row 2 40 ∷ []) ∷ balance 40 ∷ []) reader)
   pub inserted_where_the_key_was_there : IsNotSerial (with_replies a1 (Inserted ∷ []) duplicate)
   pub duplicate_where_the_key_was_not_there : IsNotSerial (with_replies a1 (Duplicate ∷ []) insert)
@@ -174,7 +174,9 @@ pub record WrongWrites : Type 0 where
   pub position_too_few : IsNotSerial (with_wrote a1 [] undone_unseen)
   pub chunk_before_not_written : IsNotSerial (with_wrote a1 [] chunk_before)
   pub chunk_of_the_refusal_written : IsNotSerial (with_wrote a1 (at 0 0 ∷ at 0 1 ∷ []) chunk_before)
-  pub reader_wrote : IsNotSerial (with_wrote b1 (at 0 0 ∷ []) old_reader)
+  pub reader_wrote : IsNotSerial
+      (with_programs ((rolls_back (set_balance 0 1 90 ∷ []) ∷ []) ∷ (rolls_back (read_balance 0 1 ∷ []) ∷ []) ∷ [])
+      (with_ending b1 RolledBack (with_wrote b1 (at 0 0 ∷ []) undone_unseen)))
   pub position_behind_the_table : IsUnlawful (with_wrote a1 (at 0 3 ∷ []) insert_undone)
   pub position_of_no_table : IsUnlawful (with_wrote a1 (at 1 2 ∷ []) insert_undone)
   pub position_twice : IsUnlawful (with_wrote a1 (at 0 0 ∷ at 0 0 ∷ []) writer)
@@ -183,7 +185,8 @@ pub record WrongWrites : Type 0 where
   pub insert_placed_on_a_row : IsNotSerial (with_wrote a1 (at 0 0 ∷ []) insert_undone)
   pub placed_one_too_few : IsNotSerial (with_placed a1 (0 ∷ []) insert)
   pub placed_one_too_many : IsNotSerial (with_placed a1 (2 ∷ []) insert)
-  pub duplicate_placed : IsNotSerial (with_wrote a1 (at 0 2 ∷ []) (with_placed a1 (1 ∷ []) duplicate))
+  pub duplicate_placed : IsNotSerial (with_programs ((rolls_back (Insert 0 (row 1 50) ∷ []) ∷ []) ∷ [])
+      (with_ending a1 RolledBack (with_wrote a1 (at 0 2 ∷ []) (with_placed a1 (1 ∷ []) duplicate))))
 
 pub record WrongChanges : Type 0 where
   pub not_from_what_stands : IsNotSerial (with_changes b1 (change 0 1 (Some (row 2 99)) (Some (row 2 80)) ∷ []) different_rows)

@@ -18,6 +18,10 @@ pub reader : Comes right.reader by_itself
 unfolding computed
 reader = refl
 
+pub group_reader : Comes right.group_reader by_itself
+unfolding computed
+group_reader = refl
+
 pub writer : Comes right.writer by_itself
 unfolding computed
 writer = refl
@@ -137,6 +141,14 @@ first_hit_named = refl
 pub refused_then_reads : Comes right.refused_then_reads together
 unfolding computed
 refused_then_reads = refl
+
+pub join_refused : Comes right.join_refused together
+unfolding computed
+join_refused = refl
+
+pub join_passed_by : Comes right.join_passed_by together
+unfolding computed
+join_passed_by = refl
 
 pub room_taken : Comes right.room_taken together
 unfolding computed

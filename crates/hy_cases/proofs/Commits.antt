@@ -12,6 +12,7 @@ wrong_commits = record {
   write_skew_committed = record { lawful = search arith parts 12; refused = λ claim. differ same_replies claim.replays.1.0.gives refl refl };
   phantom_missed = record { lawful = search arith parts 12; refused = λ claim. differ same_replies claim.replays.1.0.gives refl refl };
   hit_passed_over = record { lawful = search arith parts 12; refused = λ claim. differ (same_option same_number) (claim.replays.1.0.passed 0 (omega arith) (omega arith)).missed.0 refl refl };
+  hit_of_a_join_passed_over = record { lawful = search arith parts 12; refused = λ claim. differ same_replies claim.replays.1.0.gives refl refl };
   reader_committed = λ claim. absurd (omega (arith, claim.endings.0.wrote));
   rollback_committed = λ claim. not_true claim.endings.0.closes;
   committed_before_all_was_answered = λ claim. differ same_number claim.endings.0.answers refl refl;

@@ -1,6 +1,6 @@
--- A test for scripts that fit: tables with ascending keys, statements of one table each, transactions that may write.
-use Rattle.std.proofs.Common.{◌≡◌, ◌≢◌, refl, ap, ℕ, zero, suc, ◌*◌, ◌<◌, ◌≤◌, Bool, true, false, List, [], ◌∷◌, length, pos, negsuc, subst, arith}
-use Rattle.std.specs.Prelude.{Option, None, Some, ◌&&◌, not, ◌==◌, nat_lt, IsTrue}
+-- A test for scripts that fit: tables with ascending keys, statements of one table, joins of two.
+use Rattle.std.proofs.Common.{◌≡◌, ◌≢◌, refl, sym, ap, ℕ, zero, suc, ◌+◌, ◌*◌, ◌<◌, ◌≤◌, Bool, true, false, List, [], ◌∷◌, length, take, pos, negsuc, subst, arith}
+use Rattle.std.specs.Prelude.{Option, None, Some, ◌&&◌, not, ◌==◌, nat_lt, IsTrue, slice_index_or}
 use Rattle.std.specs.List.{All, AllPairs, AllZip, AllByRecursion, list_all}
 use Rattle.std.proofs.lemmas.Bool.{ltb-true, eqb-true, eq-eqb}
 use Rattle.std.proofs.lemmas.List.Elements.{All-nil, All-cons, All-from_recursion}
@@ -9,14 +9,17 @@ use Rattle.hy_value.specs.declared.Value.{Value}
 use Rattle.hy_value.specs.declared.Value.TheVariants as values
 use Rattle.hy_bound.specs.declared.Assign.{Assign}
 use Rattle.hy_bound.specs.declared.Shape.{Shape}
+use Rattle.hy_bound.specs.declared.Aggregate.{Aggregate}
 use Rattle.hy_bound.specs.declared.Items.{Items}
+use Rattle.hy_bound.specs.declared.Items.TheVariants.{Columns, Sum, Count}
+use Rattle.hy_bound.specs.declared.On.{On}
 use Rattle.hy_bound.specs.declared.Txn.{Txn}
 use Rattle.hy_bound.specs.declared.Bound.{Bound}
 use Rattle.hy_bound.specs.declared.Bound.TheVariants.{Select, Group, Insert, Update, Delete}
 use Rattle.hy_bound.specs.Condition.{Condition}
 use Rattle.hy_bound.specs.Predicate.{column_of}
-use Rattle.hy_bound.specs.Records.{shape_of, columns_of, columns_shown, set_columns}
-use Rattle.hy_bound.specs.Fits.{LieWithin, MayStand, FitsShape, FitsRows, FitsSelect, FitsInsert, FitsUpdate, FitsStatement, FitsTxn, FitsSession, Fits}
+use Rattle.hy_bound.specs.Records.{shape_of, columns_of, columns_shown, columns_summed, on_columns, set_columns}
+use Rattle.hy_bound.specs.Fits.{LieWithin, MayStand, FitsShape, FitsRows, FitsSelect, FitsGroup, FitsInsert, FitsUpdate, FitsStatement, FitsTxn, FitsSession, Fits}
 use Rattle.hy_bound.specs.Fits.{joined_width}
 use Rattle.hy_machine.specs.declared.Setting.{Setting}
 
@@ -168,7 +171,21 @@ not_the_key : (column : ℕ) (key : Option ℕ) → IsTrue (of_key (is_not colum
 unfolding is_not
 not_the_key column key e is = not_both (column == column) (eq-eqb column column refl) (that_key (is_not column) key column e is)
 
+abbrev is_count : Items → Bool
+is_count (Columns columns) = false
+is_count (Sum column) = false
+is_count Count = true
+
+-- whether a SELECT of two tables with one ON fits
+join_fits : List Shape → ℕ → ℕ → On → Condition → Items → Bool
+join_fits shapes first second on pred items = nat_lt first (length shapes) && (nat_lt second (length shapes) && (not (second == first)
+    && (within (joined_width shapes (first ∷ second ∷ [])) (on_columns on) && (within (joined_width shapes (first ∷ second ∷ [])) (columns_of pred)
+    && (within (joined_width shapes (first ∷ second ∷ [])) (columns_shown items) && not (is_count items))))))
+
 fits : List Shape → Bound → Bool
+fits shapes (Select (first ∷ second ∷ []) (on ∷ []) pred items) = join_fits shapes first second on pred items
+fits shapes (Group table pred key aggregate) = nat_lt table (length shapes) && (nat_lt key (shape_of shapes table).width
+    && (within (shape_of shapes table).width (columns_summed aggregate) && within (shape_of shapes table).width (columns_of pred)))
 fits shapes (Select (table ∷ []) [] pred items) = nat_lt table (length shapes)
     && (within (joined_width shapes (table ∷ [])) (columns_of pred) && within (joined_width shapes (table ∷ [])) (columns_shown items))
 fits shapes (Insert table row) = nat_lt table (length shapes)
@@ -191,6 +208,53 @@ select_fits shapes table pred items e = record {
   filter = lie_within (joined_width shapes (table ∷ [])) (columns_of pred) (left _ _ (right _ _ e));
   shown = lie_within (joined_width shapes (table ∷ [])) (columns_shown items) (right _ _ (right _ _ e));
   counts_one = λ counts. refl;
+}
+
+numbers_differ : (m n : ℕ) → IsTrue (not (n == m)) → m ≢ n
+numbers_differ m n e same = not_both (n == m) (eq-eqb n m (sym same)) e
+
+fits_join : (shapes : List Shape) (first second : ℕ) (on : On) (pred : Condition) (items : Items) → IsTrue (join_fits shapes first second on pred items)
+    → FitsSelect shapes (first ∷ second ∷ []) (on ∷ []) pred items
+unfolding join_fits
+fits_join shapes first second on pred items e =
+    let one : IsTrue (nat_lt first (length shapes)) = search (left, right) depth 8 in
+    let two : IsTrue (nat_lt second (length shapes)) = search (left, right) depth 8 in
+    let apart : IsTrue (not (second == first)) = search (left, right) depth 8 in
+    let joined : IsTrue (within (joined_width shapes (first ∷ second ∷ [])) (on_columns on)) = search (left, right) depth 8 in
+    let filtered : IsTrue (within (joined_width shapes (first ∷ second ∷ [])) (columns_of pred)) = search (left, right) depth 8 in
+    let told : IsTrue (within (joined_width shapes (first ∷ second ∷ [])) (columns_shown items)) = search (left, right) depth 8 in
+    let other : IsTrue (not (is_count items)) = search (left, right) depth 8 in
+    record {
+      many = refl;
+      few = omega arith;
+      there = All-cons (λ table. table < length shapes) first (second ∷ []) (ltb-true first (length shapes) one)
+          (All-cons (λ table. table < length shapes) second [] (ltb-true second (length shapes) two) (All-nil (λ table. table < length shapes)));
+      differ = pairs_more (λ one other. one ≢ other) first (second ∷ [])
+          (All-cons (λ other. first ≢ other) second [] (numbers_differ first second apart) (All-nil (λ other. first ≢ other)))
+          (one_alone (λ one other. one ≢ other) second);
+      joins = only_one (λ number d. LieWithin (joined_width shapes (take (number + 2) (first ∷ second ∷ []))) (on_columns (slice_index_or (on ∷ []) number d)))
+          (λ d. lie_within (joined_width shapes (first ∷ second ∷ [])) (on_columns on) joined);
+      filter = lie_within (joined_width shapes (first ∷ second ∷ [])) (columns_of pred) filtered;
+      shown = lie_within (joined_width shapes (first ∷ second ∷ [])) (columns_shown items) told;
+      counts_one = λ counts. absurd (not_count items other counts);
+    }
+  where
+    only_one : (P : ℕ → On → Type 0) → ((d : On) → P 0 d) → (number : ℕ) (d : On) → number < 1 → P number d
+    only_one P h zero d below = h d
+    only_one P h (suc number) d below = absurd (omega (arith, below))
+
+    not_count : (items : Items) → IsTrue (not (is_count items)) → items ≡ Count → ⊥
+    not_count (Columns columns) e is = absurd cc
+    not_count (Sum column) e is = absurd cc
+    not_count Count e is = absurd cc
+
+group_fits : (shape : Shape) (key : ℕ) (aggregate : Aggregate) (pred : Condition)
+    → IsTrue (nat_lt key shape.width && (within shape.width (columns_summed aggregate) && within shape.width (columns_of pred)))
+    → FitsGroup shape pred key aggregate
+group_fits shape key aggregate pred e = record {
+  grouped = ltb-true key shape.width (left _ _ e);
+  summed = lie_within shape.width (columns_summed aggregate) (left _ _ (right _ _ e));
+  filter = lie_within shape.width (columns_of pred) (right _ _ (right _ _ e));
 }
 
 insert_fits : (shape : Shape) (row : List Value) → IsTrue ((length row == shape.width) && of_key (λ key. is_known (column_of row key)) shape.key)
@@ -216,6 +280,9 @@ update_fits shape set pred e = record {
 fits_statement : (shapes : List Shape) (statement : Bound) → IsTrue (fits shapes statement) → FitsStatement shapes statement
 unfolding fits
 fits_statement shapes (Select (table ∷ []) [] pred items) e = select_fits shapes table pred items e
+fits_statement shapes (Select (first ∷ second ∷ []) (on ∷ []) pred items) e = fits_join shapes first second on pred items e
+fits_statement shapes (Group table pred key aggregate) e =
+    (ltb-true table (length shapes) (left _ _ e), group_fits (shape_of shapes table) key aggregate pred (right _ _ e))
 fits_statement shapes (Insert table row) e = (ltb-true table (length shapes) (left _ _ e), insert_fits (shape_of shapes table) row (right _ _ e))
 fits_statement shapes (Update table (set ∷ []) pred) e =
     (ltb-true table (length shapes) (left _ _ e), update_fits (shape_of shapes table) set pred (right _ _ e))
@@ -223,30 +290,36 @@ fits_statement shapes (Delete table pred) e =
     (ltb-true table (length shapes) (left _ _ e), lie_within (shape_of shapes table).width (columns_of pred) (right _ _ e))
 fits_statement shapes statement e = absurd cc
 
-may_write : (shapes : List Shape) (statement : Bound) → IsTrue (fits shapes statement) → MayStand false statement
-unfolding fits
-may_write shapes (Select tables ons pred items) e = tt
-may_write shapes (Group table pred key aggregate) e = absurd cc
-may_write shapes (Insert table row) e = refl
-may_write shapes (Update table sets pred) e = refl
-may_write shapes (Delete table pred) e = refl
-
 -- ---- transactions and scripts
 
-txn_fits : List Shape → Txn → Bool
-txn_fits shapes txn = not txn.read_only && (nat_lt (length txn.statements) 257 && list_all (fits shapes) txn.statements)
+may_stand : Bool → Bound → Bool
+may_stand read_only (Select tables ons pred items) = true
+may_stand read_only (Group table pred key aggregate) = read_only
+may_stand read_only (Insert table row) = not read_only
+may_stand read_only (Update table sets pred) = not read_only
+may_stand read_only (Delete table pred) = not read_only
 
-is_false : (b : Bool) → IsTrue (not b) → false ≡ b
+is_false : (b : Bool) → IsTrue (not b) → b ≡ false
 is_false true e = absurd cc
 is_false false e = refl
+
+stands : (read_only : Bool) (statement : Bound) → IsTrue (may_stand read_only statement) → MayStand read_only statement
+unfolding may_stand
+stands read_only (Select tables ons pred items) e = tt
+stands read_only (Group table pred key aggregate) e = e
+stands read_only (Insert table row) e = is_false read_only e
+stands read_only (Update table sets pred) e = is_false read_only e
+stands read_only (Delete table pred) e = is_false read_only e
+
+txn_fits : List Shape → Txn → Bool
+txn_fits shapes txn = nat_lt (length txn.statements) 257 && (list_all (fits shapes) txn.statements && list_all (may_stand txn.read_only) txn.statements)
 
 fits_txn : (shapes : List Shape) (txn : Txn) → IsTrue (txn_fits shapes txn) → FitsTxn shapes txn
 unfolding txn_fits
 fits_txn shapes txn e = record {
-  few = at_most (length txn.statements) 256 (left _ _ (right _ _ e));
-  fit = all (FitsStatement shapes) (fits shapes) (fits_statement shapes) txn.statements (right _ _ (right _ _ e));
-  stand = subst (λ read_only. All (MayStand read_only) txn.statements) (is_false txn.read_only (left _ _ e))
-      (all (MayStand false) (fits shapes) (may_write shapes) txn.statements (right _ _ (right _ _ e)));
+  few = at_most (length txn.statements) 256 (left _ _ e);
+  fit = all (FitsStatement shapes) (fits shapes) (fits_statement shapes) txn.statements (left _ _ (right _ _ e));
+  stand = all (MayStand txn.read_only) (may_stand txn.read_only) (stands txn.read_only) txn.statements (right _ _ (right _ _ e));
 }
 
 session_fits : List Shape → List Txn → Bool
@@ -261,7 +334,7 @@ fits_session shapes txns e = record {
 
 -- the sessions of a script; its first rows too; its shapes too
 sessions_fit : Setting → Bool
-unfolding session_fits txn_fits fits within of_key is_not is_known key_number
+unfolding session_fits txn_fits may_stand fits join_fits within of_key is_not is_known key_number
 sessions_fit setting = nat_lt (length setting.programs) 65 && list_all (session_fits setting.shapes) setting.programs
 
 first_rows_fit : Setting → Bool

@@ -23,6 +23,7 @@ pub wrong_invalids : WrongInvalids
 unfolding computed
 wrong_invalids = record {
   without_a_hit = record { lawful = search arith parts 12; refused = λ claim. differ (same_option same_cause) claim.refusals.1.0.hit refl refl };
+  without_a_hit_of_a_join = record { lawful = search arith parts 12; refused = λ claim. differ (same_option same_cause) claim.refusals.1.0.hit refl refl };
   names_the_second_hit = record { lawful = search arith parts 12; refused = λ claim. differ (same_option same_cause) claim.refusals.1.0.hit refl refl };
   names_another_position = record { lawful = search arith parts 12; refused = λ claim. differ (same_option same_cause) claim.refusals.1.0.hit refl refl };
   names_another_statement = record { lawful = search arith parts 12; refused = λ claim. differ (same_option same_cause) claim.refusals.1.0.hit refl refl };

@@ -6,11 +6,11 @@ use Rattle.hy_cases.proofs.Differ.{differ, same_replies, same_number}
 pub wrong_replies : WrongReplies
 wrong_replies = record {
   newest_state_told_to_an_old_reader = record { lawful = search arith parts 12; refused = λ claim. differ same_replies claim.replies.1.0 refl refl };
-  repeated_read_differs = record { lawful = search arith parts 12; refused = λ claim. differ same_replies claim.replies.1.0 refl refl };
-  read_between_two_writes = record { lawful = search arith parts 12; refused = λ claim. differ same_replies claim.replies.1.0 refl refl };
+  non_repeatable_read = record { lawful = search arith parts 12; refused = λ claim. differ same_replies claim.replies.1.0 refl refl };
+  intermediate_read = record { lawful = search arith parts 12; refused = λ claim. differ same_replies claim.replies.1.0 refl refl };
   old_state_told_to_a_new_reader = record { lawful = search arith parts 12; refused = λ claim. differ same_replies claim.replies.1.1.0 refl refl };
-  undone_write_read = record { lawful = search arith parts 12; refused = λ claim. differ same_replies claim.replies.1.0 refl refl };
-  undone_insert_read = record { lawful = search arith parts 12; refused = λ claim. differ same_replies claim.replies.1.0 refl refl };
+  dirty_read = record { lawful = search arith parts 12; refused = λ claim. differ same_replies claim.replies.1.0 refl refl };
+  dirty_read_of_an_insert = record { lawful = search arith parts 12; refused = λ claim. differ same_replies claim.replies.1.0 refl refl };
   own_write_not_seen = record { lawful = search arith parts 12; refused = λ claim. differ same_replies claim.replies.0 refl refl };
   deleted_row_told = record { lawful = search arith parts 12; refused = λ claim. differ same_replies claim.replies.0 refl refl };
   row_left_out = record { lawful = search arith parts 12; refused = λ claim. differ same_replies claim.replies.0 refl refl };
@@ -23,6 +23,7 @@ wrong_replies = record {
   replies_exchanged = record { lawful = search arith parts 12; refused = λ claim. differ same_replies claim.replies.0 refl refl };
   reply_too_many = λ claim. differ same_number claim.endings.0.answers refl refl;
   reply_too_few = λ claim. differ same_number claim.endings.0.answers refl refl;
+  wrong_group = record { lawful = search arith parts 12; refused = λ claim. differ same_replies claim.replies.0 refl refl };
   inserted_where_the_key_was_there = record { lawful = search arith parts 12; refused = λ claim. differ same_replies claim.replies.0 refl refl };
   duplicate_where_the_key_was_not_there = record { lawful = search arith parts 12; refused = λ claim. differ same_replies claim.replies.0 refl refl };
   updated_two_for_one = record { lawful = search arith parts 12; refused = λ claim. differ same_replies claim.replies.0 refl refl };

@@ -31,6 +31,7 @@ pub right_outcomes : LawfulRuns → SerialRuns → RightOutcomes
 unfolding setting_fits
 right_outcomes lawful serial = record {
   reads = is_right lawful serial right.reader _ comes.reader (omega arith) refl;
+  reads_groups = is_right lawful serial right.group_reader _ comes.group_reader (omega arith) refl;
   writes = is_right lawful serial right.writer _ comes.writer (omega arith) refl;
   reads_its_own_write = is_right lawful serial right.own_write _ comes.own_write (omega arith) refl;
   does_not_read_its_own_delete = is_right lawful serial right.own_delete _ comes.own_delete (omega arith) refl;
@@ -61,5 +62,7 @@ right_outcomes lawful serial = record {
   refuses_a_hit_without_effect = is_right lawful serial right.hit_without_effect _ comes.hit_without_effect (omega arith) refl;
   names_the_first_hit = is_right lawful serial right.first_hit_named _ comes.first_hit_named (omega arith) refl;
   reads_after_it_was_refused = is_right lawful serial right.refused_then_reads _ comes.refused_then_reads (omega arith) refl;
+  refuses_a_hit_of_a_join = is_right lawful serial right.join_refused _ comes.join_refused (omega arith) refl;
+  passes_by_what_is_not_joined = is_right lawful serial right.join_passed_by _ comes.join_passed_by (omega arith) refl;
   has_no_room_beside_another = is_right lawful serial right.room_taken _ comes.room_taken (omega arith) refl;
 }

@@ -3,7 +3,7 @@ use Rattle.std.specs.Prelude.{List, [], ◌∷◌, None, Some}
 use Rattle.hy_bound.specs.declared.Reply.TheVariants.{Inserted, Duplicate, Updated, Deleted}
 use Rattle.hy_schedule.specs.declared.Item.{Item}
 use Rattle.hy_render.specs.declared.Ending.TheVariants.{Committed, Read, RolledBack, Conflict, Invalid, Range, Full}
-use Rattle.hy_cases.specs.Words.{int, row, overdrawn, goes, a1, a2, b1, b2, c1, at, change, told, entry, rows, balance, total}
+use Rattle.hy_cases.specs.Words.{int, row, overdrawn, goes, a1, a2, b1, b2, c1, at, change, told, entry, rows, balance, total, group, groups}
 use Rattle.hy_cases.specs.Scripts as script
 use Rattle.hy_cases.specs.Scripts.{hundreds}
 use Rattle.hy_cases.specs.Cases.{Case, IsRight}
@@ -18,6 +18,17 @@ reader = record {
     txns = told a1 0 (rows (row 1 100 ∷ row 2 40 ∷ []) ∷ balance 40 ∷ total 140 ∷ []) Read [] (0 ∷ []) ∷ [];
     order = [];
     tables = (row 1 100 ∷ row 2 40 ∷ []) ∷ [];
+  };
+}
+
+-- one that counts the rows of each balance
+abbrev pub group_reader : Case
+group_reader = record {
+  setting = script.reads_groups;
+  outcome = record {
+    txns = told a1 0 (groups (group 40 1 ∷ group 100 2 ∷ []) ∷ []) Read [] (0 ∷ []) ∷ [];
+    order = [];
+    tables = (row 1 100 ∷ row 2 40 ∷ row 3 100 ∷ []) ∷ [];
   };
 }
 
@@ -409,6 +420,34 @@ refused_then_reads = record {
   };
 }
 
+-- a change of a row that is joined: refused
+abbrev pub join_refused : Case
+join_refused = record {
+  setting = script.set_and_join 2;
+  outcome = record {
+    txns =
+        told a1 0 (Updated 1 ∷ []) (Committed 0) (at 0 1 ∷ []) (0 ∷ 0 ∷ [])
+        ∷ told b1 0 (total 100 ∷ Inserted ∷ []) (Invalid 0 1 a1 1) (at 1 1 ∷ []) (0 ∷ 1 ∷ []) ∷ [];
+    order = entry a1 (change 0 1 (Some (row 2 100)) (Some (row 2 90)) ∷ []) ∷ [];
+    tables = (row 1 100 ∷ row 2 90 ∷ []) ∷ (row 1 2 ∷ []) ∷ [];
+  };
+}
+
+-- a change of a row that is not joined: both commit
+abbrev pub join_passed_by : Case
+join_passed_by = record {
+  setting = script.set_and_join 1;
+  outcome = record {
+    txns =
+        told a1 0 (Updated 1 ∷ []) (Committed 0) (at 0 0 ∷ []) (0 ∷ 0 ∷ [])
+        ∷ told b1 0 (total 100 ∷ Inserted ∷ []) (Committed 1) (at 1 1 ∷ []) (0 ∷ 1 ∷ []) ∷ [];
+    order =
+        entry a1 (change 0 0 (Some (row 1 100)) (Some (row 1 90)) ∷ [])
+        ∷ entry b1 (change 1 1 None (Some (row 2 1)) ∷ []) ∷ [];
+    tables = (row 1 90 ∷ row 2 100 ∷ []) ∷ (row 1 2 ∷ row 2 1 ∷ []) ∷ [];
+  };
+}
+
 -- the last place is taken by one that undoes it later
 abbrev pub room_taken : Case
 room_taken = record {
@@ -434,6 +473,7 @@ together = goes 0 ∷ goes 1 ∷ []
 
 pub record RightOutcomes : Type 0 where
   pub reads : IsRight reader by_itself
+  pub reads_groups : IsRight group_reader by_itself
   pub writes : IsRight writer by_itself
   pub reads_its_own_write : IsRight own_write by_itself
   pub does_not_read_its_own_delete : IsRight own_delete by_itself
@@ -464,4 +504,6 @@ pub record RightOutcomes : Type 0 where
   pub refuses_a_hit_without_effect : IsRight hit_without_effect together
   pub names_the_first_hit : IsRight first_hit_named (goes 0 ∷ goes 1 ∷ goes 2 ∷ goes 0 ∷ goes 2 ∷ goes 0 ∷ goes 2 ∷ [])
   pub reads_after_it_was_refused : IsRight refused_then_reads together
+  pub refuses_a_hit_of_a_join : IsRight join_refused together
+  pub passes_by_what_is_not_joined : IsRight join_passed_by together
   pub has_no_room_beside_another : IsRight room_taken together

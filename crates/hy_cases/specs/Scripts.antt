@@ -1,10 +1,9 @@
 -- The scripts of the cases: tables of two or three places, and sessions a, b and c of one or two transactions.
-use Rattle.std.specs.Prelude.{negsuc, List, [], ◌∷◌}
+use Rattle.std.specs.Prelude.{ℕ, List, [], ◌∷◌}
 use Rattle.hy_value.specs.declared.Value.{Value}
-use Rattle.hy_value.specs.declared.Value.TheVariants.{Int}
 use Rattle.hy_machine.specs.declared.Setting.{Setting}
-use Rattle.hy_cases.specs.Words.{int, row, accounts, one_table, two_tables, commits, rolls_back, read_all, read_numbers, read_balance, sum_balances}
-use Rattle.hy_cases.specs.Words.{count_accounts, count_over, insert, set_balance, add_to_balance, add_to_all, delete}
+use Rattle.hy_cases.specs.Words.{int, minus, row, accounts, one_table, two_tables, commits, only_reads, rolls_back, read_all, read_numbers, read_balance, sum_balances}
+use Rattle.hy_cases.specs.Words.{count_accounts, count_over, count_by_balance, sum_of_named, insert, set_balance, add_to_balance, add_to_all, delete}
 
 -- the accounts 1 and 2 with 100 each
 abbrev pub hundreds : List (List Value)
@@ -14,6 +13,9 @@ hundreds = row 1 100 ∷ row 2 100 ∷ []
 
 abbrev pub reads : Setting
 reads = one_table 2 (row 1 100 ∷ row 2 40 ∷ []) ((commits (read_all 0 ∷ read_balance 0 2 ∷ sum_balances 0 ∷ []) ∷ []) ∷ [])
+
+abbrev pub reads_groups : Setting
+reads_groups = one_table 3 (row 1 100 ∷ row 2 40 ∷ row 3 100 ∷ []) ((only_reads (count_by_balance 0 ∷ []) ∷ []) ∷ [])
 
 abbrev pub writes : Setting
 writes = one_table 2 hundreds ((commits (set_balance 0 1 90 ∷ []) ∷ []) ∷ [])
@@ -107,8 +109,8 @@ undo_and_go_on = one_table 2 hundreds
 -- both sum all balances, and take 150 from one account each
 abbrev pub skew : Setting
 skew = one_table 2 hundreds
-    ((commits (sum_balances 0 ∷ add_to_balance 0 1 (Int (negsuc 149)) ∷ []) ∷ [])
-    ∷ (commits (sum_balances 0 ∷ add_to_balance 0 2 (Int (negsuc 149)) ∷ []) ∷ []) ∷ [])
+    ((commits (sum_balances 0 ∷ add_to_balance 0 1 (minus 150) ∷ []) ∷ [])
+    ∷ (commits (sum_balances 0 ∷ add_to_balance 0 2 (minus 150) ∷ []) ∷ []) ∷ [])
 
 -- a inserts an account; b counts the accounts and writes another
 abbrev pub count_and_insert : Setting
@@ -145,3 +147,8 @@ insert_where_one_was_undone = one_table 3 hundreds
 abbrev pub take_the_last_place : Setting
 take_the_last_place =
     one_table 2 (row 1 100 ∷ []) ((rolls_back (insert 0 (row 2 50) ∷ []) ∷ []) ∷ (commits (insert 0 (row 3 70) ∷ []) ∷ []) ∷ [])
+
+-- a sets the balance of an account; b sums the balances of the accounts that table 1 names, which is account 2, and inserts
+abbrev pub set_and_join : ℕ → Setting
+set_and_join account = two_tables 2 hundreds (row 1 2 ∷ [])
+    ((commits (set_balance 0 account 90 ∷ []) ∷ []) ∷ (commits (sum_of_named 1 ∷ insert 1 (row 2 1) ∷ []) ∷ []) ∷ [])

@@ -5,8 +5,10 @@ use Rattle.hy_value.specs.declared.Value.TheVariants.{Int}
 use Rattle.hy_value.specs.declared.Cmp.TheVariants.{Eq, Gt}
 use Rattle.hy_bound.specs.declared.predicate.Side.TheVariants as side
 use Rattle.hy_bound.specs.declared.Bound.{Bound}
-use Rattle.hy_bound.specs.declared.Bound.TheVariants.{Select, Insert, Update, Delete}
+use Rattle.hy_bound.specs.declared.Bound.TheVariants.{Select, Group, Insert, Update, Delete}
 use Rattle.hy_bound.specs.declared.Items.TheVariants.{Columns, Sum, Count}
+use Rattle.hy_bound.specs.declared.Aggregate.TheVariants as aggregate
+use Rattle.hy_bound.specs.declared.Grouped.{Grouped}
 use Rattle.hy_bound.specs.declared.Reply.{Reply}
 use Rattle.hy_bound.specs.declared.Reply.TheVariants as reply
 use Rattle.hy_bound.specs.declared.Shape.{Shape}
@@ -28,11 +30,14 @@ use Rattle.hy_machine.specs.Tables.{Cell}
 abbrev pub int : ℕ → Value
 int n = Int (pos n)
 
+abbrev pub minus : ℕ → Value
+minus n = Int (negsuc (n - 1))
+
 abbrev pub row : ℕ → ℕ → List Value
 row id balance = int id ∷ int balance ∷ []
 
 abbrev pub overdrawn : ℕ → ℕ → List Value
-overdrawn id debt = int id ∷ Int (negsuc (debt - 1)) ∷ []
+overdrawn id debt = int id ∷ minus debt ∷ []
 
 -- ---- statements
 
@@ -57,6 +62,13 @@ count_accounts table = Select (table ∷ []) [] True Count
 abbrev pub count_over : ℕ → ℕ → Bound
 count_over table balance = Select (table ∷ []) [] (Compare 1 Gt (side.Literal (int balance))) Count
 
+abbrev pub count_by_balance : ℕ → Bound
+count_by_balance table = Group table True 1 aggregate.Count
+
+-- the sum of the balances of those accounts of table 0 that the second column of the other table's rows names
+abbrev pub sum_of_named : ℕ → Bound
+sum_of_named table = Select (table ∷ 0 ∷ []) (record { left = 1; right = 2 } ∷ []) True (Sum 3)
+
 abbrev pub insert : ℕ → List Value → Bound
 insert table new = Insert table new
 
@@ -76,6 +88,9 @@ delete table id = Delete table (is_account id)
 
 abbrev pub commits : List Bound → Txn
 commits statements = record { read_only = false; commits = true; statements = statements }
+
+abbrev pub only_reads : List Bound → Txn
+only_reads statements = record { read_only = true; commits = true; statements = statements }
 
 abbrev pub rolls_back : List Bound → Txn
 rolls_back statements = record { read_only = false; commits = false; statements = statements }
@@ -138,3 +153,9 @@ balance n = reply.Rows ((int n ∷ []) ∷ [])
 
 abbrev pub total : ℕ → Reply
 total n = reply.Value (pos n)
+
+abbrev pub group : ℕ → ℕ → Grouped
+group balance count = record { value = int balance; total = pos count }
+
+abbrev pub groups : List Grouped → Reply
+groups all = reply.Groups all

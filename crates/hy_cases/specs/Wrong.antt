@@ -1,17 +1,16 @@
 -- Outcomes that the engine never gives, each made from a right one by what its name says.
-use Rattle.std.specs.Prelude.{[], ◌∷◌, None, Some, negsuc}
-use Rattle.hy_value.specs.declared.Value.TheVariants.{Int}
+use Rattle.std.specs.Prelude.{[], ◌∷◌, None, Some}
 use Rattle.hy_bound.specs.declared.Bound.TheVariants.{Insert}
 use Rattle.hy_bound.specs.declared.Reply.TheVariants.{Inserted, Duplicate, Updated, Deleted}
 use Rattle.hy_render.specs.declared.Ending.TheVariants.{Committed, Read, RolledBack, Conflict, Invalid, Range, Full}
-use Rattle.hy_cases.specs.Words.{int, row, overdrawn, a1, a2, b1, b2, c1, at, change, told, entry, rows, balance, total}
+use Rattle.hy_cases.specs.Words.{int, minus, row, overdrawn, a1, a2, b1, b2, c1, at, change, told, entry, rows, balance, total, group, groups}
 use Rattle.hy_cases.specs.Words.{commits, rolls_back, read_all, read_balance, sum_balances, set_balance, add_to_balance}
 use Rattle.hy_cases.specs.Scripts.{hundreds}
-use Rattle.hy_cases.specs.Right.{reader, writer, own_write, own_delete, insert, came_and_went, all_written, duplicate, no_room}
+use Rattle.hy_cases.specs.Right.{reader, group_reader, writer, own_write, own_delete, insert, came_and_went, all_written, duplicate, no_room}
 use Rattle.hy_cases.specs.Right.{out_of_range, chunk_before, own_commit}
 use Rattle.hy_cases.specs.Right.{insert_undone, different_rows, old_reader, before_and_after, undone_unseen, conflict}
 use Rattle.hy_cases.specs.Right.{undone_rival, undone_before, place_given_back, skew_refused, phantom_refused}
-use Rattle.hy_cases.specs.Right.{hit_without_effect, first_hit_named, refused_then_reads, room_taken}
+use Rattle.hy_cases.specs.Right.{hit_without_effect, first_hit_named, refused_then_reads, room_taken, join_refused, join_passed_by}
 use Rattle.hy_cases.specs.Cases.{IsUnlawful, IsNotSerial, with_programs, with_txns, with_order, with_tables}
 use Rattle.hy_cases.specs.Cases.{with_start, with_replies, with_ending, with_wrote, with_placed, with_changes}
 
@@ -19,11 +18,11 @@ use Rattle.hy_cases.specs.Cases.{with_start, with_replies, with_ending, with_wro
 
 pub record WrongReplies : Type 0 where
   pub newest_state_told_to_an_old_reader : IsNotSerial (with_replies b1 (balance 90 ∷ balance 90 ∷ []) old_reader)
-  pub repeated_read_differs : IsNotSerial (with_replies b1 (balance 100 ∷ balance 90 ∷ []) old_reader)
-  pub read_between_two_writes : IsNotSerial (with_replies b1 (balance 50 ∷ balance 50 ∷ []) old_reader)
+  pub non_repeatable_read : IsNotSerial (with_replies b1 (balance 100 ∷ balance 90 ∷ []) old_reader)
+  pub intermediate_read : IsNotSerial (with_replies b1 (balance 50 ∷ balance 50 ∷ []) old_reader)
   pub old_state_told_to_a_new_reader : IsNotSerial (with_replies b2 (balance 100 ∷ []) before_and_after)
-  pub undone_write_read : IsNotSerial (with_replies b1 (balance 90 ∷ []) undone_unseen)
-  pub undone_insert_read : IsNotSerial (with_replies b1 (rows (row 1 100 ∷ row 2 100 ∷ row 3 70 ∷ []) ∷ []) insert_undone)
+  pub dirty_read : IsNotSerial (with_replies b1 (balance 90 ∷ []) undone_unseen)
+  pub dirty_read_of_an_insert : IsNotSerial (with_replies b1 (rows (row 1 100 ∷ row 2 100 ∷ row 3 70 ∷ []) ∷ []) insert_undone)
   pub own_write_not_seen : IsNotSerial (with_replies a1 (Updated 1 ∷ balance 100 ∷ []) own_write)
   pub deleted_row_told : IsNotSerial (with_replies a1 (Deleted 1 ∷ rows hundreds ∷ []) own_delete)
   pub row_left_out : IsNotSerial (with_replies a1 (rows (row 1 100 ∷ []) ∷ balance 40 ∷ total 140 ∷ []) reader)
@@ -36,6 +35,7 @@ pub record WrongReplies : Type 0 where
   pub replies_exchanged : IsNotSerial (with_replies a1 (rows (row 1 100 ∷ row 2 40 ∷ []) ∷ total 140 ∷ balance 40 ∷ []) reader)
   pub reply_too_many : IsUnlawful (with_replies a1 (Updated 1 ∷ Updated 1 ∷ []) writer)
   pub reply_too_few : IsUnlawful (with_replies a1 (rows (row 1 100 ∷ row 2 40 ∷ []) ∷ balance 40 ∷ []) reader)
+  pub wrong_group : IsNotSerial (with_replies a1 (groups (group 40 2 ∷ group 100 2 ∷ []) ∷ []) group_reader)
   pub inserted_where_the_key_was_there : IsNotSerial (with_replies a1 (Inserted ∷ []) duplicate)
   pub duplicate_where_the_key_was_not_there : IsNotSerial (with_replies a1 (Duplicate ∷ []) insert)
   pub updated_two_for_one : IsNotSerial (with_replies a1 (Updated 2 ∷ []) writer)
@@ -45,9 +45,10 @@ pub record WrongReplies : Type 0 where
 -- ---- who has an outcome, and where it starts
 
 pub record WrongStarts : Type 0 where
-  pub transaction_missing : IsUnlawful (with_txns (told a1 0 (Updated 1 ∷ []) (Committed 0) (at 0 0 ∷ []) (0 ∷ []) ∷ []) before_and_after)
-  pub transaction_twice : IsUnlawful
-      (with_txns (told b1 0 (balance 100 ∷ []) Read [] (0 ∷ []) ∷ told b1 0 (balance 100 ∷ []) Read [] (0 ∷ []) ∷ []) undone_unseen)
+  pub transaction_missing : IsUnlawful
+      (with_txns (told a1 0 (Updated 1 ∷ []) (Committed 0) (at 0 0 ∷ []) (0 ∷ []) ∷ told b1 0 (balance 100 ∷ []) Read [] (0 ∷ []) ∷ []) before_and_after)
+  pub transaction_twice : IsUnlawful (with_txns (told a1 0 (Updated 1 ∷ []) RolledBack (at 0 0 ∷ []) (0 ∷ [])
+      ∷ told b1 0 (balance 100 ∷ []) Read [] (0 ∷ []) ∷ told b1 0 (balance 100 ∷ []) Read [] (0 ∷ []) ∷ []) undone_unseen)
   pub transactions_exchanged : IsUnlawful
       (with_txns (told b1 0 (balance 100 ∷ []) Read [] (0 ∷ []) ∷ told a1 0 (Updated 1 ∷ []) RolledBack (at 0 0 ∷ []) (0 ∷ []) ∷ []) undone_unseen)
   pub start_behind_the_end : IsUnlawful (with_start b1 1 undone_unseen)
@@ -100,6 +101,9 @@ pub record WrongCommits : Type 0 where
   pub hit_passed_over : IsNotSerial (with_ending b1 (Committed 1)
       (with_order (entry a1 (change 0 0 (Some (row 1 100)) (Some (row 1 90)) ∷ []) ∷ entry b1 (change 0 1 (Some (row 2 100)) (Some (row 2 80)) ∷ []) ∷ [])
       (with_tables ((row 1 90 ∷ row 2 80 ∷ []) ∷ []) hit_without_effect)))
+  pub hit_of_a_join_passed_over : IsNotSerial (with_ending b1 (Committed 1)
+      (with_order (entry a1 (change 0 1 (Some (row 2 100)) (Some (row 2 90)) ∷ []) ∷ entry b1 (change 1 1 None (Some (row 2 1)) ∷ []) ∷ [])
+      (with_tables ((row 1 100 ∷ row 2 90 ∷ []) ∷ (row 1 2 ∷ row 2 1 ∷ []) ∷ []) join_refused)))
   pub reader_committed : IsUnlawful (with_ending a1 (Committed 0) (with_order (entry a1 [] ∷ []) reader))
   pub rollback_committed : IsUnlawful (with_ending a1 (Committed 0)
       (with_order (entry a1 (change 0 0 (Some (row 1 100)) (Some (row 1 90)) ∷ []) ∷ []) (with_tables ((row 1 90 ∷ row 2 100 ∷ []) ∷ []) undone_unseen)))
@@ -136,6 +140,9 @@ pub record WrongConflicts : Type 0 where
 pub record WrongInvalids : Type 0 where
   pub without_a_hit : IsNotSerial (with_ending b1 (Invalid 0 0 a1 1)
       (with_order (entry a1 (change 0 0 (Some (row 1 100)) (Some (row 1 90)) ∷ []) ∷ []) (with_tables ((row 1 90 ∷ row 2 100 ∷ []) ∷ []) different_rows)))
+  pub without_a_hit_of_a_join : IsNotSerial (with_ending b1 (Invalid 0 0 a1 1)
+      (with_order (entry a1 (change 0 0 (Some (row 1 100)) (Some (row 1 90)) ∷ []) ∷ [])
+      (with_tables ((row 1 90 ∷ row 2 100 ∷ []) ∷ (row 1 2 ∷ []) ∷ []) join_passed_by)))
   pub names_the_second_hit : IsNotSerial (with_ending b1 (Invalid 0 1 c1 1) first_hit_named)
   pub names_another_position : IsNotSerial (with_ending b1 (Invalid 0 1 a1 1) phantom_refused)
   pub names_another_statement : IsNotSerial (with_ending b1 (Invalid 0 0 a1 2) skew_refused)
@@ -147,8 +154,8 @@ pub record WrongInvalids : Type 0 where
   pub before_all_was_answered : IsUnlawful (with_replies b1 (total 200 ∷ []) skew_refused)
   pub of_a_reader : IsUnlawful (with_ending b1 (Invalid 0 0 a1 1) old_reader)
   pub of_a_rollback : IsUnlawful (with_programs
-      ((commits (sum_balances 0 ∷ add_to_balance 0 1 (Int (negsuc 149)) ∷ []) ∷ [])
-      ∷ (rolls_back (sum_balances 0 ∷ add_to_balance 0 2 (Int (negsuc 149)) ∷ []) ∷ []) ∷ []) skew_refused)
+      ((commits (sum_balances 0 ∷ add_to_balance 0 1 (minus 150) ∷ []) ∷ [])
+      ∷ (rolls_back (sum_balances 0 ∷ add_to_balance 0 2 (minus 150) ∷ []) ∷ []) ∷ []) skew_refused)
 
 pub record WrongRefusals : Type 0 where
   pub full_with_room_left : IsUnlawful (with_txns (told a1 0 [] (Full 0) [] (0 ∷ []) ∷ []) (with_order [] (with_tables (hundreds ∷ []) insert)))

@@ -34,9 +34,9 @@ pub own_delete : Comes right.own_delete by_itself
 unfolding computed
 own_delete = refl
 
-pub insert : Comes right.insert by_itself
+pub new_row : Comes right.new_row by_itself
 unfolding computed
-insert = refl
+new_row = refl
 
 pub came_and_went : Comes right.came_and_went by_itself
 unfolding computed

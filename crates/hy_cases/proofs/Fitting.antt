@@ -217,7 +217,7 @@ fits_join : (shapes : List Shape) (first second : ℕ) (on : On) (pred : Conditi
     → FitsSelect shapes (first ∷ second ∷ []) (on ∷ []) pred items
 unfolding join_fits
 fits_join shapes first second on pred items e =
-    let one : IsTrue (nat_lt first (length shapes)) = search (left, right) depth 8 in
+    let one : IsTrue (nat_lt first (length shapes)) = search left in
     let two : IsTrue (nat_lt second (length shapes)) = search (left, right) depth 8 in
     let apart : IsTrue (not (second == first)) = search (left, right) depth 8 in
     let joined : IsTrue (within (joined_width shapes (first ∷ second ∷ [])) (on_columns on)) = search (left, right) depth 8 in

@@ -66,8 +66,8 @@ own_delete = record {
 }
 
 -- an INSERT at a free place
-abbrev pub insert : Case
-insert = record {
+abbrev pub new_row : Case
+new_row = record {
   setting = script.inserts;
   outcome = record {
     txns = told a1 0 (Inserted ∷ []) (Committed 0) (at 0 2 ∷ []) (1 ∷ []) ∷ [];
@@ -477,7 +477,7 @@ pub record RightOutcomes : Type 0 where
   pub writes : IsRight writer by_itself
   pub reads_its_own_write : IsRight own_write by_itself
   pub does_not_read_its_own_delete : IsRight own_delete by_itself
-  pub inserts : IsRight insert by_itself
+  pub inserts : IsRight new_row by_itself
   pub inserts_and_deletes : IsRight came_and_went by_itself
   pub writes_all : IsRight all_written by_itself
   pub is_told_of_a_duplicate : IsRight duplicate by_itself

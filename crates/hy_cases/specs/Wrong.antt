@@ -1,12 +1,11 @@
 -- Outcomes that the engine never gives, each made from a right one by what its name says.
 use Rattle.std.specs.Prelude.{[], ◌∷◌, None, Some}
-use Rattle.hy_bound.specs.declared.Bound.TheVariants.{Insert}
 use Rattle.hy_bound.specs.declared.Reply.TheVariants.{Inserted, Duplicate, Updated, Deleted}
 use Rattle.hy_render.specs.declared.Ending.TheVariants.{Committed, Read, RolledBack, Conflict, Invalid, Range, Full}
 use Rattle.hy_cases.specs.Words.{int, minus, row, overdrawn, a1, a2, b1, b2, c1, at, change, told, entry, rows, balance, total, group, groups}
-use Rattle.hy_cases.specs.Words.{commits, rolls_back, read_all, read_balance, sum_balances, set_balance, add_to_balance}
+use Rattle.hy_cases.specs.Words.{commits, rolls_back, read_all, read_balance, sum_balances, insert, set_balance, add_to_balance}
 use Rattle.hy_cases.specs.Scripts.{hundreds}
-use Rattle.hy_cases.specs.Right.{reader, group_reader, writer, own_write, own_delete, insert, came_and_went, all_written, duplicate, no_room}
+use Rattle.hy_cases.specs.Right.{reader, group_reader, writer, own_write, own_delete, new_row, came_and_went, all_written, duplicate, no_room}
 use Rattle.hy_cases.specs.Right.{out_of_range, chunk_before, own_commit}
 use Rattle.hy_cases.specs.Right.{insert_undone, different_rows, old_reader, before_and_after, undone_unseen, conflict}
 use Rattle.hy_cases.specs.Right.{undone_rival, undone_before, place_given_back, skew_refused, phantom_refused}
@@ -37,7 +36,7 @@ pub record WrongReplies : Type 0 where
   pub reply_too_few : IsUnlawful (with_replies a1 (rows (row 1 100 ∷ row 2 40 ∷ []) ∷ balance 40 ∷ []) reader)
   pub wrong_group : IsNotSerial (with_replies a1 (groups (group 40 2 ∷ group 100 2 ∷ []) ∷ []) group_reader)
   pub inserted_where_the_key_was_there : IsNotSerial (with_replies a1 (Inserted ∷ []) duplicate)
-  pub duplicate_where_the_key_was_not_there : IsNotSerial (with_replies a1 (Duplicate ∷ []) insert)
+  pub duplicate_where_the_key_was_not_there : IsNotSerial (with_replies a1 (Duplicate ∷ []) new_row)
   pub updated_two_for_one : IsNotSerial (with_replies a1 (Updated 2 ∷ []) writer)
   pub deleted_none_for_one : IsNotSerial (with_replies a1 (Deleted 0 ∷ rows (row 2 100 ∷ []) ∷ []) own_delete)
   pub deleted_for_updated : IsNotSerial (with_replies a1 (Deleted 1 ∷ []) writer)
@@ -158,9 +157,9 @@ pub record WrongInvalids : Type 0 where
       ∷ (rolls_back (sum_balances 0 ∷ add_to_balance 0 2 (minus 150) ∷ []) ∷ []) ∷ []) skew_refused)
 
 pub record WrongRefusals : Type 0 where
-  pub full_with_room_left : IsUnlawful (with_txns (told a1 0 [] (Full 0) [] (0 ∷ []) ∷ []) (with_order [] (with_tables (hundreds ∷ []) insert)))
+  pub full_with_room_left : IsUnlawful (with_txns (told a1 0 [] (Full 0) [] (0 ∷ []) ∷ []) (with_order [] (with_tables (hundreds ∷ []) new_row)))
   pub full_though_the_place_was_given_back : IsUnlawful
-      (with_programs ((rolls_back (Insert 0 (row 2 50) ∷ []) ∷ commits (set_balance 0 1 90 ∷ []) ∷ []) ∷ (commits (Insert 0 (row 3 70) ∷ []) ∷ []) ∷ [])
+      (with_programs ((rolls_back (insert 0 (row 2 50) ∷ []) ∷ commits (set_balance 0 1 90 ∷ []) ∷ []) ∷ (commits (insert 0 (row 3 70) ∷ []) ∷ []) ∷ [])
       (with_txns (told a1 0 (Inserted ∷ []) RolledBack (at 0 1 ∷ []) (1 ∷ []) ∷ told a2 0 (Updated 1 ∷ []) (Committed 0) (at 0 0 ∷ []) (0 ∷ [])
       ∷ told b1 1 [] (Full 0) [] (0 ∷ []) ∷ [])
       (with_order (entry a2 (change 0 0 (Some (row 1 100)) (Some (row 1 90)) ∷ []) ∷ []) (with_tables ((row 1 90 ∷ []) ∷ []) room_taken))))
@@ -190,9 +189,9 @@ pub record WrongWrites : Type 0 where
   pub positions_do_not_ascend : IsUnlawful (with_wrote a1 (at 0 1 ∷ at 0 0 ∷ []) all_written)
   pub place_of_an_insert_not_written : IsNotSerial (with_wrote a1 [] insert_undone)
   pub insert_placed_on_a_row : IsNotSerial (with_wrote a1 (at 0 0 ∷ []) insert_undone)
-  pub placed_one_too_few : IsNotSerial (with_placed a1 (0 ∷ []) insert)
-  pub placed_one_too_many : IsNotSerial (with_placed a1 (2 ∷ []) insert)
-  pub duplicate_placed : IsNotSerial (with_programs ((rolls_back (Insert 0 (row 1 50) ∷ []) ∷ []) ∷ [])
+  pub placed_one_too_few : IsNotSerial (with_placed a1 (0 ∷ []) new_row)
+  pub placed_one_too_many : IsNotSerial (with_placed a1 (2 ∷ []) new_row)
+  pub duplicate_placed : IsNotSerial (with_programs ((rolls_back (insert 0 (row 1 50) ∷ []) ∷ []) ∷ [])
       (with_ending a1 RolledBack (with_wrote a1 (at 0 2 ∷ []) (with_placed a1 (1 ∷ []) duplicate))))
 
 pub record WrongChanges : Type 0 where
@@ -202,7 +201,7 @@ pub record WrongChanges : Type 0 where
   pub where_nothing_was_written : IsNotSerial
       (with_changes a1 (change 0 0 (Some (row 1 100)) (Some (row 1 90)) ∷ change 0 1 (Some (row 2 100)) (Some (row 2 100)) ∷ []) writer)
   pub to_another_row : IsNotSerial (with_changes a1 (change 0 0 (Some (row 1 100)) (Some (row 1 91)) ∷ []) writer)
-  pub to_another_row_than_inserted : IsNotSerial (with_changes a1 (change 0 2 None (Some (row 3 71)) ∷ []) insert)
+  pub to_another_row_than_inserted : IsNotSerial (with_changes a1 (change 0 2 None (Some (row 3 71)) ∷ []) new_row)
   pub to_nothing_for_an_update : IsNotSerial (with_changes a1 (change 0 0 (Some (row 1 100)) None ∷ []) writer)
   pub missing : IsNotSerial (with_changes a1 [] writer)
   pub missing_where_the_row_stays_as_it_was : IsNotSerial (with_programs ((commits (set_balance 0 1 100 ∷ []) ∷ []) ∷ [])
@@ -211,4 +210,4 @@ pub record WrongChanges : Type 0 where
       (change 0 0 (Some (row 1 100)) (Some (row 1 90)) ∷ change 0 0 (Some (row 1 90)) (Some (row 1 90)) ∷ []) writer)
   pub do_not_ascend : IsUnlawful (with_changes a1
       (change 0 1 (Some (row 2 100)) (Some (row 2 101)) ∷ change 0 0 (Some (row 1 100)) (Some (row 1 101)) ∷ []) all_written)
-  pub behind_the_table : IsUnlawful (with_changes a1 (change 0 3 None (Some (row 3 70)) ∷ []) insert)
+  pub behind_the_table : IsUnlawful (with_changes a1 (change 0 3 None (Some (row 3 70)) ∷ []) new_row)

@@ -2,6 +2,7 @@
 use Rattle.std.proofs.Common.{refl, arith}
 use Rattle.hy_cases.specs.Wrong.{WrongCommits}
 use Rattle.hy_cases.proofs.Computed.{computed}
+use Rattle.hy_cases.proofs.Serial.{commit_undone_is_serial}
 use Rattle.hy_cases.proofs.Differ.{differ, not_true, not_false, same_option, same_number, same_replies, same_row}
 
 pub wrong_commits : WrongCommits
@@ -18,6 +19,6 @@ wrong_commits = record {
   committed_before_all_was_answered = λ claim. differ same_number claim.endings.0.answers refl refl;
   writer_only_read = λ claim. differ same_number claim.endings.0.wrote refl refl;
   rollback_only_read = λ claim. not_true claim.endings.0.closes;
-  commit_rolled_back = λ claim. not_true claim.endings.0.closes;
+  commit_rolled_back = record { serial = commit_undone_is_serial; refused = λ claim. not_true claim.endings.0.closes };
   rolled_back_before_all_was_answered = λ claim. differ same_number claim.endings.0.answers refl refl;
 }

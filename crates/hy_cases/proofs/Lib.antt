@@ -3,6 +3,7 @@ pub mod Comes
 pub mod Fitting
 pub mod Right
 pub mod Differ
+pub mod Serial
 pub mod Replies
 pub mod Starts
 pub mod Orders

@@ -2,6 +2,7 @@
 use Rattle.std.proofs.Common.{refl, arith}
 use Rattle.hy_cases.specs.Wrong.{WrongConflicts, WrongInvalids, WrongRefusals}
 use Rattle.hy_cases.proofs.Computed.{computed}
+use Rattle.hy_cases.proofs.Serial.{full_with_room_is_serial}
 use Rattle.hy_cases.proofs.Differ.{differ, not_true, not_false, same_option, same_number, same_cause}
 
 pub wrong_conflicts : WrongConflicts
@@ -39,7 +40,7 @@ wrong_invalids = record {
 
 pub wrong_refusals : WrongRefusals
 wrong_refusals = record {
-  full_with_room_left = λ claim. absurd (omega (arith, claim.full.0));
+  full_with_room_left = record { serial = full_with_room_is_serial; refused = λ claim. absurd (omega (arith, claim.full.0)) };
   full_though_the_place_was_given_back = λ claim. absurd (omega (arith, claim.full.1.1.0));
   full_in_another_table = λ claim. not_true claim.endings.0;
   full_for_an_update = λ claim. not_true claim.endings.0;

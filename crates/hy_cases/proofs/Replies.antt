@@ -1,6 +1,7 @@
 -- That wrong replies are refused: they are not those of the start.
 use Rattle.std.proofs.Common.{refl, arith}
 use Rattle.hy_cases.specs.Wrong.{WrongReplies}
+use Rattle.hy_cases.proofs.Serial.{not_all_answered_is_serial}
 use Rattle.hy_cases.proofs.Differ.{differ, same_replies, same_number}
 
 pub wrong_replies : WrongReplies
@@ -22,7 +23,7 @@ wrong_replies = record {
   wrong_count = record { lawful = search arith parts 12; refused = λ claim. differ same_replies claim.replies.1.0 refl refl };
   replies_exchanged = record { lawful = search arith parts 12; refused = λ claim. differ same_replies claim.replies.0 refl refl };
   reply_too_many = λ claim. differ same_number claim.endings.0.answers refl refl;
-  reply_too_few = λ claim. differ same_number claim.endings.0.answers refl refl;
+  reply_too_few = record { serial = not_all_answered_is_serial; refused = λ claim. differ same_number claim.endings.0.answers refl refl };
   wrong_group = record { lawful = search arith parts 12; refused = λ claim. differ same_replies claim.replies.0 refl refl };
   inserted_where_the_key_was_there = record { lawful = search arith parts 12; refused = λ claim. differ same_replies claim.replies.0 refl refl };
   duplicate_where_the_key_was_not_there = record { lawful = search arith parts 12; refused = λ claim. differ same_replies claim.replies.0 refl refl };

@@ -29,7 +29,7 @@ pub record IsRight (case : Case) (schedule : List Item) : Type 0 where
   pub lawful : Lawful case.setting case.outcome
   pub serial : IsSerial case.setting case.outcome
 
--- the outcome is not lawful
+-- the outcome is not lawful, whether serializable or not
 abbrev pub IsUnlawful : Case → Type 0
 IsUnlawful case = Lawful case.setting case.outcome → ⊥
 
@@ -37,6 +37,11 @@ IsUnlawful case = Lawful case.setting case.outcome → ⊥
 pub record IsNotSerial (case : Case) : Type 0 where
   pub lawful : Lawful case.setting case.outcome
   pub refused : IsSerial case.setting case.outcome → ⊥
+
+-- the outcome is serializable, and still not lawful
+pub record IsNotLawful (case : Case) : Type 0 where
+  pub serial : IsSerial case.setting case.outcome
+  pub refused : Lawful case.setting case.outcome → ⊥
 
 -- ---- a case with another script, other outcomes of transactions, another order, other final tables
 

@@ -10,7 +10,7 @@ use Rattle.hy_cases.specs.Right.{out_of_range, chunk_before, own_commit}
 use Rattle.hy_cases.specs.Right.{insert_undone, different_rows, old_reader, before_and_after, undone_unseen, conflict}
 use Rattle.hy_cases.specs.Right.{undone_rival, undone_before, place_given_back, skew_refused, phantom_refused}
 use Rattle.hy_cases.specs.Right.{hit_without_effect, first_hit_named, refused_then_reads, room_taken, join_refused, join_passed_by}
-use Rattle.hy_cases.specs.Cases.{IsUnlawful, IsNotSerial, with_programs, with_txns, with_order, with_tables}
+use Rattle.hy_cases.specs.Cases.{IsUnlawful, IsNotLawful, IsNotSerial, with_programs, with_txns, with_order, with_tables}
 use Rattle.hy_cases.specs.Cases.{with_start, with_replies, with_ending, with_wrote, with_placed, with_changes}
 
 -- ---- what is told
@@ -33,7 +33,7 @@ pub record WrongReplies : Type 0 where
   pub wrong_count : IsNotSerial (with_replies b1 (total 3 ∷ Updated 1 ∷ []) phantom_refused)
   pub replies_exchanged : IsNotSerial (with_replies a1 (rows (row 1 100 ∷ row 2 40 ∷ []) ∷ total 140 ∷ balance 40 ∷ []) reader)
   pub reply_too_many : IsUnlawful (with_replies a1 (Updated 1 ∷ Updated 1 ∷ []) writer)
-  pub reply_too_few : IsUnlawful (with_replies a1 (rows (row 1 100 ∷ row 2 40 ∷ []) ∷ balance 40 ∷ []) reader)
+  pub reply_too_few : IsNotLawful (with_replies a1 (rows (row 1 100 ∷ row 2 40 ∷ []) ∷ balance 40 ∷ []) reader)
   pub wrong_group : IsNotSerial (with_replies a1 (groups (group 40 2 ∷ group 100 2 ∷ []) ∷ []) group_reader)
   pub inserted_where_the_key_was_there : IsNotSerial (with_replies a1 (Inserted ∷ []) duplicate)
   pub duplicate_where_the_key_was_not_there : IsNotSerial (with_replies a1 (Duplicate ∷ []) new_row)
@@ -53,7 +53,7 @@ pub record WrongStarts : Type 0 where
   pub start_behind_the_end : IsUnlawful (with_start b1 1 undone_unseen)
   pub start_falls_in_a_session : IsUnlawful
       (with_start b1 1 (with_replies b1 (balance 90 ∷ []) (with_start b2 0 (with_replies b2 (balance 100 ∷ []) before_and_after))))
-  pub start_before_the_commit_of_the_session : IsUnlawful (with_start a2 0 (with_replies a2 (balance 100 ∷ []) own_commit))
+  pub start_before_the_commit_of_the_session : IsNotLawful (with_start a2 0 (with_replies a2 (balance 100 ∷ []) own_commit))
   pub start_behind_the_own_commit : IsUnlawful (with_start a1 1 writer)
 
 -- ---- the commit order and the final tables
@@ -109,7 +109,7 @@ pub record WrongCommits : Type 0 where
   pub committed_before_all_was_answered : IsUnlawful (with_replies a1 (Updated 1 ∷ []) own_write)
   pub writer_only_read : IsUnlawful (with_ending a1 Read (with_order [] (with_tables (hundreds ∷ []) writer)))
   pub rollback_only_read : IsUnlawful (with_programs ((rolls_back (read_all 0 ∷ read_balance 0 2 ∷ sum_balances 0 ∷ []) ∷ []) ∷ []) reader)
-  pub commit_rolled_back : IsUnlawful (with_ending a1 RolledBack (with_order [] (with_tables (hundreds ∷ []) writer)))
+  pub commit_rolled_back : IsNotLawful (with_ending a1 RolledBack (with_order [] (with_tables (hundreds ∷ []) writer)))
   pub rolled_back_before_all_was_answered : IsUnlawful (with_replies a1 [] insert_undone)
 
 -- ---- who is refused
@@ -157,7 +157,7 @@ pub record WrongInvalids : Type 0 where
       ∷ (rolls_back (sum_balances 0 ∷ add_to_balance 0 2 (minus 150) ∷ []) ∷ []) ∷ []) skew_refused)
 
 pub record WrongRefusals : Type 0 where
-  pub full_with_room_left : IsUnlawful (with_txns (told a1 0 [] (Full 0) [] (0 ∷ []) ∷ []) (with_order [] (with_tables (hundreds ∷ []) new_row)))
+  pub full_with_room_left : IsNotLawful (with_txns (told a1 0 [] (Full 0) [] (0 ∷ []) ∷ []) (with_order [] (with_tables (hundreds ∷ []) new_row)))
   pub full_though_the_place_was_given_back : IsUnlawful
       (with_programs ((rolls_back (insert 0 (row 2 50) ∷ []) ∷ commits (set_balance 0 1 90 ∷ []) ∷ []) ∷ (commits (insert 0 (row 3 70) ∷ []) ∷ []) ∷ [])
       (with_txns (told a1 0 (Inserted ∷ []) RolledBack (at 0 1 ∷ []) (1 ∷ []) ∷ told a2 0 (Updated 1 ∷ []) (Committed 0) (at 0 0 ∷ []) (0 ∷ [])

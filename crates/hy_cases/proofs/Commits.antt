@@ -9,10 +9,16 @@ pub wrong_commits : WrongCommits
 unfolding computed
 wrong_commits = record {
   lost_update_committed = record { lawful = search arith parts 12; refused = λ claim. differ (same_option same_row) claim.changes.1.0.0.before refl refl };
-  update_over_one_that_was_not_seen = record { lawful = search arith parts 12; refused = λ claim. not_false (claim.replays.1.0.passed 0 (omega arith) (omega arith)).apart.0 };
+  update_over_one_that_was_not_seen = record {
+    lawful = search arith parts 12;
+    refused = λ claim. not_false (claim.replays.1.0.passed 0 (omega arith) (omega arith)).apart.0;
+  };
   write_skew_committed = record { lawful = search arith parts 12; refused = λ claim. differ same_replies claim.replays.1.0.gives refl refl };
   phantom_missed = record { lawful = search arith parts 12; refused = λ claim. differ same_replies claim.replays.1.0.gives refl refl };
-  hit_passed_over = record { lawful = search arith parts 12; refused = λ claim. differ (same_option same_number) (claim.replays.1.0.passed 0 (omega arith) (omega arith)).missed.0 refl refl };
+  hit_passed_over = record {
+    lawful = search arith parts 12;
+    refused = λ claim. differ (same_option same_number) (claim.replays.1.0.passed 0 (omega arith) (omega arith)).missed.0 refl refl;
+  };
   hit_of_a_join_passed_over = record { lawful = search arith parts 12; refused = λ claim. differ same_replies claim.replays.1.0.gives refl refl };
   reader_committed = λ claim. absurd (omega (arith, claim.endings.0.wrote));
   rollback_committed = λ claim. not_true claim.endings.0.closes;

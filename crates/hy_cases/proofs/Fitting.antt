@@ -1,5 +1,6 @@
 -- A test for scripts that fit: tables with ascending keys, statements of one table, joins of two.
-use Rattle.std.proofs.Common.{◌≡◌, ◌≢◌, refl, sym, ap, ℕ, zero, suc, ◌+◌, ◌*◌, ◌<◌, ◌≤◌, Bool, true, false, List, [], ◌∷◌, length, take, pos, negsuc, subst, arith}
+use Rattle.std.proofs.Common.{◌≡◌, ◌≢◌, refl, sym, ap, ℕ, zero, suc, ◌+◌, ◌*◌, ◌<◌, ◌≤◌, Bool, true, false, List, [], ◌∷◌, length, take, pos, negsuc}
+use Rattle.std.proofs.Common.{subst, arith}
 use Rattle.std.specs.Prelude.{Option, None, Some, ◌&&◌, not, ◌==◌, nat_lt, IsTrue, slice_index_or}
 use Rattle.std.specs.List.{All, AllPairs, AllZip, AllByRecursion, list_all}
 use Rattle.std.proofs.lemmas.Bool.{ltb-true, eqb-true, eq-eqb}
@@ -19,7 +20,8 @@ use Rattle.hy_bound.specs.declared.Bound.TheVariants.{Select, Group, Insert, Upd
 use Rattle.hy_bound.specs.Condition.{Condition}
 use Rattle.hy_bound.specs.Predicate.{column_of}
 use Rattle.hy_bound.specs.Records.{shape_of, columns_of, columns_shown, columns_summed, on_columns, set_columns}
-use Rattle.hy_bound.specs.Fits.{LieWithin, MayStand, FitsShape, FitsRows, FitsSelect, FitsGroup, FitsInsert, FitsUpdate, FitsStatement, FitsTxn, FitsSession, Fits}
+use Rattle.hy_bound.specs.Fits.{LieWithin, MayStand, FitsShape, FitsRows, FitsSelect, FitsGroup, FitsInsert, FitsUpdate, FitsStatement, FitsTxn}
+use Rattle.hy_bound.specs.Fits.{FitsSession, Fits}
 use Rattle.hy_bound.specs.Fits.{joined_width}
 use Rattle.hy_machine.specs.declared.Setting.{Setting}
 

@@ -12,6 +12,9 @@ wrong_starts = record {
   transactions_exchanged = λ claim. differ (same_list is_label) claim.transactions refl refl;
   start_behind_the_end = λ claim. absurd (omega (arith, claim.starts.1.0));
   start_falls_in_a_session = λ claim. absurd (omega (arith, claim.sessions.1.0.0.start));
-  start_before_the_commit_of_the_session = record { serial = own_commit_not_seen_is_serial; refused = λ claim. absurd (omega (arith, claim.sessions.0.0.behind)) };
+  start_before_the_commit_of_the_session = record {
+    serial = own_commit_not_seen_is_serial;
+    refused = λ claim. absurd (omega (arith, claim.sessions.0.0.behind));
+  };
   start_behind_the_own_commit = λ claim. absurd (omega (arith, claim.committed.0.later));
 }

@@ -24,11 +24,17 @@ wrong_writes = record {
 pub wrong_changes : WrongChanges
 wrong_changes = record {
   not_from_what_stands = record { lawful = search arith parts 12; refused = λ claim. differ (same_option same_row) claim.changes.1.0.0.before refl refl };
-  from_nothing_where_a_row_stands = record { lawful = search arith parts 12; refused = λ claim. differ (same_option same_row) claim.changes.0.0.before refl refl };
+  from_nothing_where_a_row_stands = record {
+    lawful = search arith parts 12;
+    refused = λ claim. differ (same_option same_row) claim.changes.0.0.before refl refl;
+  };
   from_nothing_to_nothing = record { lawful = search arith parts 12; refused = λ claim. not_true claim.changes.0.0.changes };
   where_nothing_was_written = record { lawful = search arith parts 12; refused = λ claim. not_true claim.entries.0.1.0 };
   to_another_row = record { lawful = search arith parts 12; refused = λ claim. differ (same_option same_row) claim.leaves.0.0 refl refl };
-  to_another_row_than_inserted = record { lawful = search arith parts 12; refused = λ claim. differ (same_list same_rows) (claim.history 1 (omega arith)) refl refl };
+  to_another_row_than_inserted = record {
+    lawful = search arith parts 12;
+    refused = λ claim. differ (same_list same_rows) (claim.history 1 (omega arith)) refl refl;
+  };
   to_nothing_for_an_update = record { lawful = search arith parts 12; refused = λ claim. differ (same_option same_row) claim.leaves.0.0 refl refl };
   missing = record { lawful = search arith parts 12; refused = λ claim. differ (same_list same_rows) (claim.history 1 (omega arith)) refl refl };
   missing_where_the_row_stays_as_it_was = record { lawful = search arith parts 12; refused = λ claim. not_true (claim.changed.0 0 0 refl) };

@@ -2,7 +2,8 @@
 use Rattle.std.specs.Prelude.{ℕ, List, [], ◌∷◌}
 use Rattle.hy_value.specs.declared.Value.{Value}
 use Rattle.hy_machine.specs.declared.Setting.{Setting}
-use Rattle.hy_cases.specs.Words.{int, minus, row, accounts, one_table, two_tables, commits, only_reads, rolls_back, read_all, read_numbers, read_balance, sum_balances}
+use Rattle.hy_cases.specs.Words.{int, minus, row, accounts, one_table, two_tables, commits, only_reads, rolls_back, read_all, read_numbers}
+use Rattle.hy_cases.specs.Words.{read_balance, sum_balances}
 use Rattle.hy_cases.specs.Words.{count_accounts, count_over, count_by_balance, sum_of_named, insert, set_balance, add_to_balance, add_to_all, delete}
 
 -- the accounts 1 and 2 with 100 each

@@ -31,15 +31,17 @@ column_kept width named row column few fits is_of_them =
     let there : is_named named (0 + column) ≡ true = subst (λ (n : ℕ). is_named named n ≡ true) e is_of_them in
     subst P fits (ap (λ (r : Row). column_of r column) (spread_projected mask row) ∙ named_kept 0 width named row column fits few there)
 
-columns_kept : (width : ℕ) (named columns : List ℕ) (row : Row) → width ≤ 32 → length row ≡ width → Among named columns → Agree columns (spread_again width named row) row
+columns_kept : (width : ℕ) (named columns : List ℕ) (row : Row) → width ≤ 32 → length row ≡ width → Among named columns
+    → Agree columns (spread_again width named row) row
 columns_kept width named [] row few fits among = tt
 columns_kept width named (column ∷ columns) row few fits among =
     (column_kept width named row column few fits among.0, columns_kept width named columns row few fits among.1)
 
 -- gathered rows, spread again
-rows_spread : (mask : ColMask) (width : ℕ) (rows : Table) → map (spread mask width) (map (projected mask) rows) ≡ map (λ row. spread mask width (projected mask row)) rows
-rows_spread mask width [] = refl
-rows_spread mask width (row ∷ rows) = ap (λ (rs : Table). spread mask width (projected mask row) ∷ rs) (rows_spread mask width rows)
+rows_spread : (width : ℕ) (named : List ℕ) (rows : Table)
+    → map (spread (named_columns 0 width named) width) (map (projected (named_columns 0 width named)) rows) ≡ map (spread_again width named) rows
+rows_spread width named [] = refl
+rows_spread width named (row ∷ rows) = ap (λ (rs : Table). spread_again width named row ∷ rs) (rows_spread width named rows)
 
 -- without WHERE all rows are grouped
 all_selected : (rows : Table) → filter (truth_of True) rows ≡ rows
@@ -50,11 +52,10 @@ all_selected (row ∷ rows) = ap (λ (rs : Table). row ∷ rs) (all_selected row
 pub gathered_groups : GatheredGroups
 gathered_groups shape table pred key aggregate rows fits =
     let named : List ℕ = key ∷ columns_summed aggregate in
+    let mask : ColMask = named_columns 0 shape.width named in
     let those : Table = filter (truth_of pred) rows in
     ap Groups
-    (ap (groups_of key aggregate)
-    (all_selected (map (spread (named_columns 0 shape.width named) shape.width) (map (projected (named_columns 0 shape.width named)) those))
-    ∙ rows_spread (named_columns 0 shape.width named) shape.width those)
+    (ap (groups_of key aggregate) (all_selected (map (spread mask shape.width) (map (projected mask) those)) ∙ rows_spread shape.width named those)
     ∙ groups_made (spread_again shape.width named) key aggregate those
     (each_weaker (λ row. length row ≡ shape.width) (λ row. Agree named (spread_again shape.width named row) row) those
     (λ row fit. columns_kept shape.width named named row fits.0 fit (among_self named))

@@ -11,7 +11,8 @@ use Rattle.hy_plan.specs.Members.{has_named}
 use Rattle.hy_group.specs.Laws.{GatheredIsRecorded}
 
 -- more columns are named by a longer list
-more_named : (width : ℕ) (xs ys : List ℕ) (column : ℕ) → has_column (named_columns 0 width xs) column ≡ true → has_column (named_columns 0 width (xs ++ ys)) column ≡ true
+more_named : (width : ℕ) (xs ys : List ℕ) (column : ℕ) → has_column (named_columns 0 width xs) column ≡ true
+    → has_column (named_columns 0 width (xs ++ ys)) column ≡ true
 more_named width xs ys column has =
     let near = and_parts (nat_lt column 32) (nat_lt column width && is_named xs (0 + column)) (sym (has_named 0 width xs column) ∙ has) in
     let within = and_parts (nat_lt column width) (is_named xs (0 + column)) near.1 in

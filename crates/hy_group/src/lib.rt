@@ -49,7 +49,7 @@ pub fn plan_group(
         table: *table,
         width: table_shape(shapes, *table).width,
         pred: pred.copy(alloc)?,
-        // WHERE has been asked of what is gathered, so that its columns needn't be.
+        // WHERE is asked before a row is gathered, so that its columns need not be kept.
         columns: looked_at(alloc, shapes, *table, Pred::always(), *key, *aggregate)?,
         lookup: None,
     };

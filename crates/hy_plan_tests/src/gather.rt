@@ -63,7 +63,9 @@ pub fn gather_part(
 
 /// How many columns are gathered of a part.
 fn count(part: &PlanPart) -> usize {
-    (0..part.width).filter(|column| part.columns.has(*column)).count()
+    (0..part.width)
+        .filter(|column| part.columns.has(*column))
+        .count()
 }
 
 /// Whether a row has one of the keys, if there are keys.

@@ -9,6 +9,7 @@ use std::alloc::{AllocError, Global};
 
 /// How many tables there are, and how many columns each has.
 const TABLES: u32 = 3;
+
 const WIDTH: u32 = 3;
 
 /// The generator's state.
@@ -28,8 +29,10 @@ impl Random {
         requires { 0 < bound }
         ensures { result < bound }
     {
-        self.state =
-            self.state.wrapping_mul(6364136223846793005).wrapping_add(1442695040888963407);
+        self.state = self
+            .state
+            .wrapping_mul(6364136223846793005)
+            .wrapping_add(1442695040888963407);
         ((self.state >> 33) % u64::from(bound)) as u32
     }
 }

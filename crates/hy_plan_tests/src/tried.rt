@@ -80,9 +80,24 @@ fn try_select(rt: &impl Abort, alloc: Global, case: &Case, number: u32) -> Resul
     let reply = answer(alloc, &plan, gathered.as_slice())?;
     assert!(rt; are_same(&reply, &wanted), "the reply to SELECT {number}");
     let spread = spread_all(alloc, parts, gathered.as_slice())?;
-    let wanted = records(alloc, case.shapes.as_slice(), &case.select, 1, whole.as_slice())?;
-    let logged = records(alloc, case.shapes.as_slice(), &case.select, 1, spread.as_slice())?;
-    assert!(rt; are_same_records(&logged, &wanted, case.tables.as_slice()), "the records of SELECT {number}");
+    let wanted = records(
+        alloc,
+        case.shapes.as_slice(),
+        &case.select,
+        1,
+        whole.as_slice(),
+    )?;
+    let logged = records(
+        alloc,
+        case.shapes.as_slice(),
+        &case.select,
+        1,
+        spread.as_slice(),
+    )?;
+    assert!(rt;
+        are_same_records(&logged, &wanted, case.tables.as_slice()),
+        "the records of SELECT {number}"
+    );
     Ok(Tried { gathered, reply })
 }
 
@@ -125,16 +140,17 @@ fn are_same(one: &Reply, other: &Reply) -> bool {
 /// Whether rows are the same.
 fn are_same_rows(one: &[Row], other: &[Row]) -> bool {
     one.len() == other.len()
-        && one.iter().zip(other).all(|(row, other)| row.as_slice() == other.as_slice())
+        && one
+            .iter()
+            .zip(other)
+            .all(|(row, other)| row.as_slice() == other.as_slice())
 }
 
 /// Whether groups are the same.
 fn are_same_groups(one: &[Grouped], other: &[Grouped]) -> bool {
     one.len() == other.len()
-        && one
-            .iter()
-            .zip(other)
-            .all(|(group, other)| group.value == other.value && group.total == other.total)
+        && one.iter().zip(other).all(|(group, other)| group.value == other.value
+            && group.total == other.total)
 }
 
 /// Whether records are of the same tables and columns, and say the same of each of these tables' rows.

@@ -2,14 +2,15 @@
 
 use crate::gather::{gather, gather_part, rows_of, spread};
 use crate::random::{Random, group, select, shapes, tables};
-use hy_bound::{Bound, Grouped, Items, On, Pred, Records, Reply, Rows, Shape, Shapes, truth};
+use hy_bound::{
+    Bound, Grouped, Items, On, Pred, Record, Records, Reply, Rows, Shape, Shapes, truth,
+};
 use hy_group::{answer_groups, plan_group};
 use hy_join::answer;
 use hy_meaning::{Tables, copy_rows};
-use hy_plan::{Gathered, PlanPart, plan_statement, records};
+use hy_plan::{Gathered, Plan, PlanPart, plan_statement, records};
 use hy_value::{Row, Seq, Value};
 use std::alloc::{AllocError, Global};
-use std::process::Abort;
 use std::test::Fail;
 
 /// Tables, and a SELECT over them.
@@ -23,44 +24,60 @@ struct Case {
     select: Bound,
 }
 
-/// What was gathered, and what was told of it.
-#[derive(Drop)]
-struct Tried {
-    /// The rows of each table, by its part.
-    gathered: Vec<Gathered>,
-    /// The reply.
-    reply: Reply,
-}
-
 #[test]
 fn gathered_rows_are_enough_for_a_select(rt: HostRuntime) -> Result<(), Fail> {
     let alloc = rt.alloc();
     let mut random = Random::new(1);
-    let mut joins = false;
     for number in 0..400u32 {
-        let shapes = shapes(alloc, &mut random)?;
-        let case = Case {
-            tables: tables(alloc, &mut random)?,
-            select: select(alloc, &mut random, shapes.as_slice())?,
-            shapes,
-        };
-        let tried = try_select(&rt, alloc, &case, number)?;
-        joins = joins || tried.gathered.len() == 3 && shows(&tried.reply);
+        assert!(rt; next_select_agrees(alloc, &mut random)?, "SELECT {number}");
     }
-    assert!(rt; joins, "rows of three tables are joined");
     Ok(())
 }
 
-/// Whether rows are shown.
-fn shows(reply: &Reply) -> bool {
-    match reply {
-        Reply::Rows(rows) => rows.len() > 0,
-        _ => false,
-    }
+/// Whether the next SELECT without groups agrees.
+fn next_select_agrees(alloc: Global, random: &mut Random) -> Result<bool, AllocError> {
+    let case = random_select(alloc, random)?;
+    select_agrees(alloc, &case)
 }
 
-/// Asserts that a SELECT without groups has the same reply and the same records from what is gathered.
-fn try_select(rt: &impl Abort, alloc: Global, case: &Case, number: u32) -> Result<Tried, Fail> {
+/// A SELECT without groups.
+fn random_select(alloc: Global, random: &mut Random) -> Result<Case, AllocError> {
+    let shapes = shapes(alloc, random)?;
+    let tables = tables(alloc, random)?;
+    let select = select(alloc, random, shapes.as_slice())?;
+    Ok(Case {
+        shapes,
+        tables,
+        select,
+    })
+}
+
+/// Whether a SELECT without groups has the same reply and the same records from what is gathered for its plan as
+/// from its whole tables.
+fn select_agrees(alloc: Global, case: &Case) -> Result<bool, AllocError> {
+    let Some(plan) = plan_statement(alloc, case.shapes.as_slice(), &case.select)? else {
+        return Ok(false);
+    };
+    let gathered = gather(alloc, plan.parts.as_slice(), case.tables.as_slice())?;
+    Ok(
+        reply_agrees(alloc, case, &plan, gathered.as_slice())?
+            && records_agree(alloc, case, plan.parts.as_slice(), gathered.as_slice())?,
+    )
+}
+
+/// Whether the reply is the same.
+fn reply_agrees(
+    alloc: Global,
+    case: &Case,
+    plan: &Plan,
+    gathered: &[Gathered],
+) -> Result<bool, AllocError> {
+    let wanted = whole_answer(alloc, case, plan.parts.as_slice())?;
+    Ok(are_same(&answer(alloc, plan, gathered)?, &wanted))
+}
+
+/// The reply from the whole tables.
+fn whole_answer(alloc: Global, case: &Case, parts: &[PlanPart]) -> Result<Reply, AllocError> {
     let Bound::Select {
         tables: _,
         ons,
@@ -68,37 +85,29 @@ fn try_select(rt: &impl Abort, alloc: Global, case: &Case, number: u32) -> Resul
         items,
     } = &case.select
     else {
-        return Err(Fail::from("a SELECT without groups"));
+        return Err(AllocError);
     };
-    let Some(plan) = plan_statement(alloc, case.shapes.as_slice(), &case.select)? else {
-        return Err(Fail::from("it has a plan"));
-    };
-    let parts = plan.parts.as_slice();
-    let gathered = gather(alloc, parts, case.tables.as_slice())?;
     let whole = whole(alloc, parts, case.tables.as_slice())?;
-    let wanted = hy_meaning::answer(alloc, ons.as_slice(), pred, items, whole.as_slice())?;
-    let reply = answer(alloc, &plan, gathered.as_slice())?;
-    assert!(rt; are_same(&reply, &wanted), "the reply to SELECT {number}");
-    let spread = spread_all(alloc, parts, gathered.as_slice())?;
-    let wanted = records(
-        alloc,
-        case.shapes.as_slice(),
-        &case.select,
-        1,
-        whole.as_slice(),
-    )?;
-    let logged = records(
-        alloc,
-        case.shapes.as_slice(),
-        &case.select,
-        1,
-        spread.as_slice(),
-    )?;
-    assert!(rt;
-        are_same_records(&logged, &wanted, case.tables.as_slice()),
-        "the records of SELECT {number}"
-    );
-    Ok(Tried { gathered, reply })
+    hy_meaning::answer(alloc, ons.as_slice(), pred, items, whole.as_slice())
+}
+
+/// Whether the records are the same.
+fn records_agree(
+    alloc: Global,
+    case: &Case,
+    parts: &[PlanPart],
+    gathered: &[Gathered],
+) -> Result<bool, AllocError> {
+    let whole = whole(alloc, parts, case.tables.as_slice())?;
+    let wanted = logged(alloc, case, whole.as_slice())?;
+    let spread = spread_all(alloc, parts, gathered)?;
+    let all = logged(alloc, case, spread.as_slice())?;
+    Ok(are_same_records(all.as_slice(), wanted.as_slice(), case.tables.as_slice()))
+}
+
+/// What the SELECT logs, its tables having these rows.
+fn logged(alloc: Global, case: &Case, rows: &[Rows]) -> Result<Records, AllocError> {
+    records(alloc, case.shapes.as_slice(), &case.select, 1, rows)
 }
 
 /// The rows of the parts' tables.
@@ -153,16 +162,22 @@ fn are_same_groups(one: &[Grouped], other: &[Grouped]) -> bool {
             && group.total == other.total)
 }
 
-/// Whether records are of the same tables and columns, and say the same of each of these tables' rows.
-fn are_same_records(one: &Records, other: &Records, tables: &[Rows]) -> bool {
+/// Whether records are the same, one by one.
+fn are_same_records(one: &[Record], other: &[Record], tables: &[Rows]) -> bool {
     one.len() == other.len()
-        && one.as_slice().iter().zip(other.as_slice()).all(|(of, other)| {
-            of.table == other.table
-                && of.columns == other.columns
-                && rows_of(tables, of.table)
-                    .iter()
-                    .all(|row| truth(&of.pred, row) == truth(&other.pred, row))
-        })
+        && one
+            .iter()
+            .zip(other)
+            .all(|(of, other)| is_same_record(of, other, tables))
+}
+
+/// Whether records are of the same table and columns, and say the same of each of the table's rows.
+fn is_same_record(one: &Record, other: &Record, tables: &[Rows]) -> bool {
+    one.table == other.table
+        && one.columns == other.columns
+        && rows_of(tables, one.table)
+            .iter()
+            .all(|row| truth(&one.pred, row) == truth(&other.pred, row))
 }
 
 #[test]
@@ -170,61 +185,22 @@ fn gathered_rows_are_enough_for_groups(rt: HostRuntime) -> Result<(), Fail> {
     let alloc = rt.alloc();
     let mut random = Random::new(2);
     for number in 0..400u32 {
-        let case = Case {
-            shapes: shapes(alloc, &mut random)?,
-            tables: tables(alloc, &mut random)?,
-            select: group(alloc, &mut random)?,
-        };
-        try_group(&rt, alloc, &case, number)?;
+        assert!(rt; next_groups_agree(alloc, &mut random)?, "SELECT {number}");
     }
     Ok(())
 }
 
-/// Asserts that a SELECT with GROUP BY has the same reply from what is gathered.
-fn try_group(rt: &impl Abort, alloc: Global, case: &Case, number: u32) -> Result<(), Fail> {
-    let Bound::Group {
-        table,
-        pred,
-        key,
-        aggregate,
-    } = &case.select
-    else {
-        return Err(Fail::from("a SELECT with GROUP BY"));
-    };
-    let Some(plan) = plan_group(alloc, case.shapes.as_slice(), &case.select)? else {
-        return Err(Fail::from("it has a plan"));
-    };
-    let rows = rows_of(case.tables.as_slice(), *table);
-    let gathered = gather_part(alloc, &plan.part, None, rows)?;
-    let wanted = hy_meaning::group(alloc, pred, *key, *aggregate, rows)?;
-    let reply = answer_groups(alloc, &plan, &gathered)?;
-    assert!(rt; are_same(&reply, &wanted), "the groups of SELECT {number}");
-    Ok(())
+/// Whether the next SELECT with GROUP BY agrees.
+fn next_groups_agree(alloc: Global, random: &mut Random) -> Result<bool, AllocError> {
+    let case = random_group(alloc, random)?;
+    groups_agree(alloc, &case)
 }
 
-/// A join of a table of so many different numbers, and NULL, with one that is looked up by its key: of its three
-/// rows the first table has the numbers of two.
-fn look_up(alloc: Global, numbers: i64) -> Result<Case, AllocError> {
-    let mut first = Seq::new(alloc);
-    first.push(one_value(alloc, Value::Null)?)?;
-    for number in 0..numbers {
-        first.push(one_value(alloc, Value::Int(number))?)?;
-    }
-    let mut second = Seq::new(alloc);
-    for number in [7, 5, -1] {
-        second.push(one_value(alloc, Value::Int(number))?)?;
-    }
-    let (mut tables, mut shapes) = (Seq::new(alloc), Seq::new(alloc));
-    for (rows, key) in [(first, None), (second, Some(0))] {
-        tables.push(rows)?;
-        shapes.push(Shape { width: 1, key })?;
-    }
-    let select = Bound::Select {
-        tables: Seq::from_slice(alloc, &[0, 1])?,
-        ons: Seq::from_slice(alloc, &[On { left: 0, right: 1 }])?,
-        pred: Pred::always(),
-        items: Items::Columns(Seq::from_slice(alloc, &[0, 1])?),
-    };
+/// A SELECT with GROUP BY.
+fn random_group(alloc: Global, random: &mut Random) -> Result<Case, AllocError> {
+    let shapes = shapes(alloc, random)?;
+    let tables = tables(alloc, random)?;
+    let select = group(alloc, random)?;
     Ok(Case {
         shapes,
         tables,
@@ -232,24 +208,93 @@ fn look_up(alloc: Global, numbers: i64) -> Result<Case, AllocError> {
     })
 }
 
-/// A row of one value.
-fn one_value(alloc: Global, value: Value) -> Result<Row, AllocError> {
-    let mut row = Seq::new(alloc);
-    row.push(value)?;
-    Ok(row)
+/// Whether a SELECT with GROUP BY has the same reply from what is gathered for its plan as from its whole table.
+fn groups_agree(alloc: Global, case: &Case) -> Result<bool, AllocError> {
+    let Some(plan) = plan_group(alloc, case.shapes.as_slice(), &case.select)? else {
+        return Ok(false);
+    };
+    let rows = rows_of(case.tables.as_slice(), plan.part.table);
+    let gathered = gather_part(alloc, &plan.part, None, rows)?;
+    let reply = answer_groups(alloc, &plan, &gathered)?;
+    Ok(are_same(&reply, &whole_groups(alloc, case)?))
+}
+
+/// The groups of the whole table.
+fn whole_groups(alloc: Global, case: &Case) -> Result<Reply, AllocError> {
+    let Bound::Group {
+        table,
+        pred,
+        key,
+        aggregate,
+    } = &case.select
+    else {
+        return Err(AllocError);
+    };
+    let rows = rows_of(case.tables.as_slice(), *table);
+    hy_meaning::group(alloc, pred, *key, *aggregate, rows)
 }
 
 #[test]
 fn over_so_many_keys_all_rows_are_gathered(rt: HostRuntime) -> Result<(), Fail> {
     let alloc = rt.alloc();
     for (numbers, wanted) in [(1024, 2), (1025, 3)] {
-        let case = look_up(alloc, numbers)?;
-        let tried = try_select(&rt, alloc, &case, 0)?;
-        let [_, second] = tried.gathered.as_slice() else {
-            return Err(Fail::from("two tables have two parts"));
-        };
-        assert_eq!(rt; second.len(), wanted, "{numbers}");
-        assert!(rt; shows(&tried.reply));
+        assert!(rt; look_up_gathers(alloc, numbers, wanted)?, "{numbers}");
     }
     Ok(())
+}
+
+/// Whether a look-up by so many numbers agrees and gathers so many rows.
+fn look_up_gathers(alloc: Global, numbers: i64, wanted: usize) -> Result<bool, AllocError> {
+    let case = look_up(alloc, numbers)?;
+    Ok(select_agrees(alloc, &case)? && last_gathered(alloc, &case)? == wanted)
+}
+
+/// A join of a table of so many numbers from 0 on with one of the numbers -1, 0 and 1, which is looked up by its
+/// key.
+fn look_up(alloc: Global, numbers: i64) -> Result<Case, AllocError> {
+    let mut tables = Seq::new(alloc);
+    tables.push(number_rows(alloc, 0, numbers)?)?;
+    tables.push(number_rows(alloc, -1, 2)?)?;
+    let (width, key) = (1, Some(0));
+    let shapes = Seq::from_slice(alloc, &[Shape { width, key: None }, Shape { width, key }])?;
+    Ok(Case {
+        shapes,
+        tables,
+        select: join(alloc)?,
+    })
+}
+
+/// Rows of one number each, from one number to another, which is left out.
+fn number_rows(alloc: Global, from: i64, to: i64) -> Result<Rows, AllocError> {
+    let mut rows = Seq::new(alloc);
+    for number in from..to {
+        let mut row = Seq::new(alloc);
+        row.push(Value::Int(number))?;
+        rows.push(row)?;
+    }
+    Ok(rows)
+}
+
+/// SELECT of the only columns of the first two tables, where ON makes them equal.
+fn join(alloc: Global) -> Result<Bound, AllocError> {
+    let items = Items::Columns(Seq::from_slice(alloc, &[0, 1])?);
+    let ons = Seq::from_slice(alloc, &[On { left: 0, right: 1 }])?;
+    Ok(Bound::Select {
+        tables: Seq::from_slice(alloc, &[0, 1])?,
+        ons,
+        pred: Pred::always(),
+        items,
+    })
+}
+
+/// How many rows are gathered of the last table.
+fn last_gathered(alloc: Global, case: &Case) -> Result<usize, AllocError> {
+    let Some(plan) = plan_statement(alloc, case.shapes.as_slice(), &case.select)? else {
+        return Ok(0);
+    };
+    let gathered = gather(alloc, plan.parts.as_slice(), case.tables.as_slice())?;
+    Ok(match gathered.last() {
+        Some(last) => last.len(),
+        None => 0,
+    })
 }

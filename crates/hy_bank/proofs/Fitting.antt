@@ -144,7 +144,7 @@ txns_fit zero state = All-nil (FitsTxn bank_shapes)
 txns_fit (suc count) state =
     All-cons (FitsTxn bank_shapes) (txn_from state) (txns_from count (state_after_txn state)) (txn_fits state) (txns_fit count (state_after_txn state))
 
-many_txns : (count state : ℕ) → length (txns_from count state) ≡ count
+pub many_txns : (count state : ℕ) → length (txns_from count state) ≡ count
 unfolding txns_from
 many_txns zero state = refl
 many_txns (suc count) state = ap suc (many_txns count (state_after_txn state))

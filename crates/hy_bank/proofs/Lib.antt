@@ -7,3 +7,9 @@ pub mod Audits
 pub mod Turns
 pub mod Outcomes
 pub mod OutcomeAudits
+pub mod EndRows
+pub mod EndTxns
+pub mod EndFirst
+pub mod EndOrder
+pub mod EndOutcomes
+pub mod EndCounts

@@ -42,10 +42,10 @@ ran pred number rows (Some after) rest h = record { after = after; there = refl;
 
 -- ---- transactions
 
-withdrawn : (amount : ℕ) → Adds (neg_ℤ (pos amount)) (Sub (Column 1) (Literal (int amount)))
+pub withdrawn : (amount : ℕ) → Adds (neg_ℤ (pos amount)) (Sub (Column 1) (Literal (int amount)))
 withdrawn amount id n = refl
 
-deposited : (amount : ℕ) → Adds (pos amount) (Add (Column 1) (Literal (int amount)))
+pub deposited : (amount : ℕ) → Adds (pos amount) (Add (Column 1) (Literal (int amount)))
 deposited amount id n = refl
 
 back_again : (total : ℤ) (amount : ℕ) → (total +ℤ neg_ℤ (pos amount)) +ℤ pos amount ≡ total

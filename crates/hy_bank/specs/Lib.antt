@@ -1,3 +1,4 @@
 pub mod Fitting
 pub mod Bank
 pub mod Outcomes
+pub mod Endings

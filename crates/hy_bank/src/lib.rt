@@ -6,6 +6,7 @@ ghost use Rattle.hy_gen.specs.Made.{made};
 ghost use Rattle.hy_bank.specs.Bank.{AreOfBank, KeepsMoney, AuditsAgree};
 ghost use Rattle.hy_bank.specs.Fitting.{MadeFits};
 ghost use Rattle.hy_bank.specs.Outcomes.{MadeOutcomesKeepTheMoney, MadeAuditsTellTheMoney};
+ghost use Rattle.hy_bank.specs.Endings.{MadeEndInFourWays, MadeEndingsAddUp};
 
 /// A script that is made, of at most 64 sessions of at most 1000 transactions each, can be run: its statements
 /// name tables and columns that are there and set no key, no two of its first rows have the same key, and 4
@@ -37,4 +38,14 @@ pub fn audits_agree()
 pub fn made_outcomes_keep_the_money()
     ensures money { MadeOutcomesKeepTheMoney }
     ensures audits { MadeAuditsTellTheMoney }
+{}
+
+/// Every transaction ends as the bank's do: where an outcome of a script that is made, of at most 64 sessions of at
+/// most 1000 transactions each, is lawful and serializable, each of its transactions is committed, has only read, is
+/// in conflict or is invalid; so the counts of these four come to how many there are. None is rolled back or told that
+/// a table is full, since none asks for either; none is told that a balance is out of range, since the balances lie
+/// within what so many transfers of at most 100 can make of 1000.
+pub fn made_transactions_end_in_four_ways()
+    ensures endings { MadeEndInFourWays }
+    ensures counts { MadeEndingsAddUp }
 {}

@@ -7,3 +7,5 @@ mod chains;
 mod columns;
 #[cfg(test)]
 mod cores;
+#[cfg(test)]
+mod predicate_tree;

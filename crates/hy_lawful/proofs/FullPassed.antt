@@ -48,6 +48,7 @@ use Rattle.hy_lawful.proofs.FullRoom.{Accounted, accounted_goes, AtWork, taken_a
 use Rattle.hy_lawful.proofs.FullOverlaps.{Meets, Reaches, reaches_later, overlap_later, open_reaches}
 use Rattle.hy_lawful.proofs.Grows.{grows_by, label_within}
 use Rattle.hy_lawful.proofs.FullSince.{StandsSince, since_goes, opponent_since}
+use Rattle.hy_lawful.proofs.FoundRows.{FindsToo, finds_go, opponent_finds}
 use Rattle.hy_lawful.proofs.Opponents.{label_dropped}
 use Rattle.hy_lawful.proofs.FullKeeps.{Goes}
 
@@ -63,17 +64,19 @@ pub record Met (state : State) (number before : ℕ) (other : Label) : Type 0 wh
   pub stands : label_at state.order rank ≡ Some other
   pub reaches : Reaches state number before (rank + 1)
 
--- a transaction may have been open with the one of a label, which does not stand in the order before its start
-pub record Rivals (state : State) (number before prefix : ℕ) (other : Label) : Type 0 where
+-- a transaction may have been open with the one of a label, which does not stand in the order before its start, and found
+-- a row at a position if the other one did
+pub record Rivals (setting : Setting) (state : State) (number before prefix table pos : ℕ) (other : Label) : Type 0 where
   pub meets : Meets state number before prefix other
   pub since : StandsSince state prefix other
+  pub found : FindsToo setting state prefix table pos other
 
 -- where a table is full, all of its positions; who is named may have been open with the refused one
 abbrev pub EndRoom : Setting → State → ℕ → ℕ → ℕ → Ending → Type 0
 EndRoom setting state number before prefix (ways.Committed rank) = Unit {0}
 EndRoom setting state number before prefix ways.Read = Unit {0}
 EndRoom setting state number before prefix ways.RolledBack = Unit {0}
-EndRoom setting state number before prefix (ways.Conflict table pos other) = Rivals state number before prefix other
+EndRoom setting state number before prefix (ways.Conflict table pos other) = Rivals setting state number before prefix table pos other
 EndRoom setting state number before prefix (ways.Invalid table pos other statement) = Met state number before other
 EndRoom setting state number before prefix (ways.Range table pos) = Unit {0}
 EndRoom setting state number before prefix (ways.Full table) = RoomBelow setting state number before prefix table (capacity setting)
@@ -126,9 +129,9 @@ met_goes setting state later g number before other m = record {
   reaches = reaches_later state later g.starts number before (m.rank + 1) (omega (arith, label_within state.order m.rank other m.stands)) m.reaches;
 }
 
-rivals_go : (setting : Setting) (state later : State) → Goes state later → (number before prefix : ℕ) (other : Label)
-    → Rivals state number before prefix other → Rivals later number before prefix other
-rivals_go setting state later g number before prefix other h = record {
+rivals_go : (setting : Setting) (state later : State) → Goes state later → (number before prefix table pos : ℕ) (other : Label)
+    → Rivals setting state number before prefix table pos other → Rivals setting later number before prefix table pos other
+rivals_go setting state later g number before prefix table pos other h = record {
   meets = record {
     after = h.meets.after;
     begin = h.meets.begin;
@@ -136,6 +139,7 @@ rivals_go setting state later g number before prefix other h = record {
     overlap = overlap_later state later g.starts number before prefix other.session h.meets.after h.meets.begin h.meets.overlap;
   };
   since = since_goes setting state later g prefix other h.meets.overlap.within h.since;
+  found = finds_go setting state later g prefix table pos other h.meets.overlap.within h.found;
 }
 
 end_goes : (setting : Setting) (state later : State) → Goes state later → (number before prefix : ℕ) (ending : Ending)
@@ -143,7 +147,8 @@ end_goes : (setting : Setting) (state later : State) → Goes state later → (n
 end_goes setting state later g number before prefix (ways.Committed rank) h = tt
 end_goes setting state later g number before prefix ways.Read h = tt
 end_goes setting state later g number before prefix ways.RolledBack h = tt
-end_goes setting state later g number before prefix (ways.Conflict table pos other) h = rivals_go setting state later g number before prefix other h
+end_goes setting state later g number before prefix (ways.Conflict table pos other) h =
+    rivals_go setting state later g number before prefix table pos other h
 end_goes setting state later g number before prefix (ways.Invalid table pos other statement) h = met_goes setting state later g number before other h
 end_goes setting state later g number before prefix (ways.Range table pos) h = tt
 end_goes setting state later g number before prefix (ways.Full table) h =
@@ -285,20 +290,23 @@ insert_room setting state number current w visited table row h = elim (cases_Boo
 ]
 
 refusal_room : (setting : Setting) (state : State) (number before prefix : ℕ) (kind : WriteKind) (table pos : ℕ) (opponent : Option Label) (cause : Cause)
-    → ((other : Label) → opponent ≡ Some other → Rivals state number before prefix other)
+    → ((other : Label) → opponent ≡ Some other → Rivals setting state number before prefix table pos other)
     → Refuses kind table pos opponent cause → EndRoom setting state number before prefix (ending_of cause)
 refusal_room setting state number before prefix kind table pos opponent RolledBack meets r = tt
-refusal_room setting state number before prefix kind table pos opponent (Conflict of at other) meets r = meets other r.1
+refusal_room setting state number before prefix kind table pos opponent (Conflict of at other) meets r =
+    subst (λ (n : ℕ). Rivals setting state number before prefix n at other) r.0
+    (subst (λ (n : ℕ). Rivals setting state number before prefix table n other) r.2 (meets other r.1))
 refusal_room setting state number before prefix kind table pos opponent (Invalid of at other statement) meets r = absurd r
 refusal_room setting state number before prefix kind table pos opponent (Range of at) meets r = tt
 refusal_room setting state number before prefix kind table pos opponent (Full of) meets r = absurd r
 
 opponent_rivals : (setting : Setting) (state : State) (number : ℕ) (current : Open) → AtWork setting state number current → (table pos : ℕ)
     (other : Label) → opponent setting state number current.begun.prefix table pos ≡ Some other
-    → Rivals state number (length (session_at state number).done) current.begun.prefix other
+    → Rivals setting state number (length (session_at state number).done) current.begun.prefix table pos other
 opponent_rivals setting state number current w table pos other e = record {
   meets = opponent_meets setting state number current w table pos other e;
   since = opponent_since setting state number current w table pos other e;
+  found = opponent_finds setting state number current w table pos other e;
 }
 
 -- statements that take no room
@@ -316,7 +324,8 @@ read_room setting state number before prefix begun visited from statement gather
 
 write_room : (setting : Setting) (state : State) (number before prefix : ℕ) (begun : Begun) (visited count : ℕ) (statement : Bound) (kind : WriteKind)
     (pred : Condition) (table : ℕ) → Roomless setting state number before prefix (Some statement)
-    → ((pos : ℕ) (other : Label) → opponent setting state number begun.prefix table pos ≡ Some other → Rivals state number before prefix other)
+    → ((pos : ℕ) (other : Label) → opponent setting state number begun.prefix table pos ≡ Some other
+    → Rivals setting state number before prefix table pos other)
     → (result : Result (List Write) Cause) → swept setting state number begun kind pred table visited ≡ result
     → RoomTurn setting state number before prefix (Some statement) (write_turn setting begun visited count statement kind result)
 write_room setting state number before prefix begun visited count statement kind pred table h meets (Err cause) e =

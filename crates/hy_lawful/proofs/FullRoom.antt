@@ -30,11 +30,12 @@ use Rattle.hy_lawful.proofs.Fits.{label_at, EndsAs, OpenFits, NowFits, PhaseFits
 use Rattle.hy_lawful.proofs.Grows.{grows_by}
 use Rattle.hy_lawful.proofs.Followers.{done_fits}
 use Rattle.hy_lawful.proofs.Opponents.{holder_is, changer_is, label_dropped, held_open, ranked_apart}
-use Rattle.hy_lawful.proofs.PassStates.{Passed, EndPasses, OpenPasses, NowPasses, PhasePasses, Passes}
+use Rattle.hy_lawful.proofs.PassStates.{Passed, still_there, EndPasses, OpenPasses, NowPasses, PhasePasses, Passes}
 use Rattle.hy_lawful.proofs.Lists.{one_of, or_some}
 use Rattle.hy_lawful.proofs.PassTables.{cell_at, pair_at, cell_next, tables_grow}
 use Rattle.hy_lawful.proofs.FullKeeps.{beguns_from, beguns_of, HasBegun, ended_begun, open_begun, StillHas, Goes}
 use Rattle.hy_lawful.proofs.FullMarks.{AllBefore}
+use Rattle.hy_lawful.proofs.FoundLows.{AllLow}
 use Rattle.hy_lawful.proofs.FullOverlaps.{Overlap, overlap_later, open_overlap, MeetsOne, meets_ranked, meets_open}
 
 -- ---- what is accounted for
@@ -82,16 +83,6 @@ accounted_goes setting state later g number before prefix table pos (of_rival ot
     (placed_goes setting state later g other after table pos p)
 
 -- ---- the transaction of an entry
-
-stays_to : (setting : Setting) (state : State) → Fits setting state → (prefix more table pos : ℕ)
-    → ((at : ℕ) → prefix ≤ at → at < prefix + more → pair_at state.order at table pos ≡ None)
-    → cell_at setting state.order (prefix + more) table pos ≡ cell_at setting state.order prefix table pos
-stays_to setting state fits prefix zero table pos none =
-    ap (λ (n : ℕ). cell_at setting state.order n table pos) (let e : prefix + 0 ≡ prefix = omega arith in e)
-stays_to setting state fits prefix (suc more) table pos none =
-    ap (λ (n : ℕ). cell_at setting state.order n table pos) (let e : prefix + suc more ≡ suc (prefix + more) = omega arith in e)
-    ∙ (cell_next setting state.order fits.cells (prefix + more) table pos None (none (prefix + more) (omega arith) (omega arith))
-    ∙ stays_to setting state fits prefix more table pos (λ at from below. none at from (omega (arith, below))))
 
 -- whose entry stands at a rank
 record EntryOf (setting : Setting) (state : State) (label : Label) (rank : ℕ) : Type 0 where
@@ -152,10 +143,6 @@ label_there [] rank table pos pair e = absurd cc
 label_there (entry ∷ order) zero table pos pair e = (entry.label, refl)
 label_there (entry ∷ order) (suc rank) table pos pair e = label_there order rank table pos pair e
 
-not_both : (item : Option Cell) → item ≡ None → is_some item ≡ true → ⊥
-not_both None e h = absurd cc
-not_both (Some cell) e h = absurd cc
-
 entry_placed : (setting : Setting) (state : State) → Fits setting state → Passes setting state → (rank : ℕ) (label : Label)
     → (o : EntryOf setting state label rank) → (table pos : ℕ) (pair : Pair) → pair_at state.order rank table pos ≡ Some pair → pair.before ≡ None
     → Placed setting state label.session o.after table pos
@@ -166,18 +153,8 @@ entry_placed setting state fits passes rank label o table pos pair e b =
       has = o.has;
       start = omega (arith, o.later, o.passed.within);
       wrote = own;
-      empty = sym (stays_to setting state fits o.begun.prefix (rank - o.begun.prefix) table pos
-          (λ at from below. untouched at from (omega (arith, below, o.later)) own (pair_at state.order at table pos) refl))
-          ∙ (ap (λ (n : ℕ). cell_at setting state.order n table pos)
-          (let same : o.begun.prefix + (rank - o.begun.prefix) ≡ rank = omega (arith, o.later) in same)
-          ∙ (sym (passes.befores rank table pos pair e) ∙ b));
+      empty = sym (still_there setting state.order fits.cells o.begun rank o.later o.passed table pos own) ∙ (sym (passes.befores rank table pos pair e) ∙ b);
     }
-  where
-    untouched : (at : ℕ) → o.begun.prefix ≤ at → at < rank → is_some (item_at o.begun.own table pos) ≡ true → (item : Option Pair)
-        → pair_at state.order at table pos ≡ item → item ≡ None
-    untouched at from below own None e = refl
-    untouched at from below own (Some pair) e =
-        absurd (not_both (item_at o.begun.own table pos) (o.passed.passes at from below table pos pair e).apart own)
 
 -- ---- an open transaction
 
@@ -188,6 +165,7 @@ pub record AtWork (setting : Setting) (state : State) (number : ℕ) (current : 
   pub is : (session_at state number).now ≡ Some current
   pub free : state.mark ≡ Some number → ⊥
   pub before : AllBefore state
+  pub lows : AllLow state
 
 abbrev pub IsAccounted : Setting → State → ℕ → Open → ℕ → ℕ → Type 0
 IsAccounted setting state number current table pos =

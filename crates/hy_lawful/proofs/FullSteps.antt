@@ -35,6 +35,7 @@ use Rattle.hy_lawful.proofs.PassSteps.{reached_passes, reached_step}
 use Rattle.hy_lawful.proofs.Reached.{fresh_at, is_there, reached_fits}
 use Rattle.hy_lawful.proofs.Turns.{FitsTurn, phase_fits}
 use Rattle.hy_lawful.proofs.FullMarks.{AllBefore, reached_before}
+use Rattle.hy_lawful.proofs.FoundLows.{AllLow, reached_low}
 use Rattle.hy_lawful.proofs.FullKeeps.{Goes, step_goes}
 use Rattle.hy_lawful.proofs.FullPassed.{WorkRoom, PhaseRoom, NowRoom, DoneRoom, SessionRoom, AllRoom, EndRoom, RoomTurn, present_statement, now_goes}
 use Rattle.hy_lawful.proofs.FullPassed.{done_goes, ended_goes}
@@ -53,20 +54,27 @@ work_zero setting state number before prefix (Some (Insert table row)) =
 work_zero setting state number before prefix (Some (Update table sets pred)) = tt
 work_zero setting state number before prefix (Some (Delete table pred)) = tt
 
-phase_room : (setting : Setting) (state : State) → Fits setting state → Passes setting state → AllBefore state
+phase_room : (setting : Setting) (state : State) → Fits setting state → Passes setting state → AllBefore state → AllLow state
     → (number : ℕ) (txn : Txn) (begun : Begun) (phase : Phase)
     → (session_at state number).now ≡ Some (record { begun = begun; phase = phase })
     → AllByRecursion (λ (of : Record). IsNumbered (length begun.replies) of.statement) begun.records
     → PhaseRoom setting state number (length (session_at state number).done) begun.prefix (present_statement txn.statements begun) phase
     → RoomTurn setting state number (length (session_at state number).done) begun.prefix (present_statement txn.statements begun)
     (phase_turn setting state number txn begun phase)
-phase_room setting state fits passes all number txn begun (Working visited count) is records h =
+phase_room setting state fits passes all lows number txn begun (Working visited count) is records h =
     working_room setting state number txn (record { begun = begun; phase = Working visited count })
-    (record { fits = fits; passes = passes; is = is; free = λ m. subst NowStamps is (fits.marked number m); before = all }) records visited count
-    (present_statement txn.statements begun) h
-phase_room setting state fits passes all number txn begun (Stamping visited) is records h =
+    (record {
+      fits = fits;
+      passes = passes;
+      is = is;
+      free = λ m. subst NowStamps is (fits.marked number m);
+      before = all;
+      lows = lows;
+    })
+    records visited count (present_statement txn.statements begun) h
+phase_room setting state fits passes all lows number txn begun (Stamping visited) is records h =
     stamp_room setting state number (length (session_at state number).done) begun.prefix (present_statement txn.statements begun) begun visited
-phase_room setting state fits passes all number txn begun (Undoing visited cause) is records h =
+phase_room setting state fits passes all lows number txn begun (Undoing visited cause) is records h =
     undo_room setting state number (length (session_at state number).done) begun.prefix (present_statement txn.statements begun) begun visited cause h
 
 -- ---- a session moves
@@ -155,17 +163,17 @@ begins_unless setting state number None all h g = h g
 begins_unless setting state number (Some by) all h g = all
 
 session_room : (setting : Setting) (state : State) (number : ℕ) (txn : Txn) → Fits setting state → Passes setting state
-    → AllBefore state → AllRoom setting state
+    → AllBefore state → AllLow state → AllRoom setting state
     → txn_at setting number (session_at state number) ≡ Some txn → (now : Option Open) → (session_at state number).now ≡ now
     → Goes state (after_turn setting state number (session_turn setting state number (Some txn) now)).0
     → AllRoom setting (after_turn setting state number (session_turn setting state number (Some txn) now)).0
-session_room setting state number txn fits passes starts all e None is g =
+session_room setting state number txn fits passes starts lows all e None is g =
     begins_unless setting state number (blocker state number) all
     (goes_on setting state state.order state.mark number (record { begun = beginning setting state; phase = Working 0 0 })
     (is_there setting state number txn fits e) all
     (work_zero setting state number (length (session_at state number).done) (length state.order)
     (present_statement (statements_at setting number (length (session_at state number).done)) (beginning setting state)))) g
-session_room setting state number txn fits passes starts all e (Some current) is g =
+session_room setting state number txn fits passes starts lows all e (Some current) is g =
     let before : ℕ = length (session_at state number).done in
     let present : OpenFits setting state.order state.mark number (session_at state number).done current =
     subst (NowFits setting state.order state.mark number (session_at state number).done) is (fits.sessions number).now in
@@ -181,18 +189,18 @@ session_room setting state number txn fits passes starts all e (Some current) is
     (λ m. subst NowStamps is (fits.marked number m)))
     (subst (λ (of : List Bound). RoomTurn setting state number before current.begun.prefix (present_statement of current.begun)
     (phase_turn setting state number txn current.begun current.phase)) (sym same)
-    (phase_room setting state fits passes starts number txn current.begun current.phase is present.records
+    (phase_room setting state fits passes starts lows number txn current.begun current.phase is present.records
     (subst (λ (of : List Bound). PhaseRoom setting state number before current.begun.prefix (present_statement of current.begun) current.phase) same
     room))) g
 
-by_txn : (setting : Setting) (state : State) (number : ℕ) → Fits setting state → Passes setting state → AllBefore state → AllRoom setting state
-    → (txn : Option Txn)
+by_txn : (setting : Setting) (state : State) (number : ℕ) → Fits setting state → Passes setting state → AllBefore state → AllLow state
+    → AllRoom setting state → (txn : Option Txn)
     → txn_at setting number (session_at state number) ≡ txn
     → Goes state (after_turn setting state number (session_turn setting state number txn (session_at state number).now)).0
     → AllRoom setting (after_turn setting state number (session_turn setting state number txn (session_at state number).now)).0
-by_txn setting state number fits passes starts all None e g = all
-by_txn setting state number fits passes starts all (Some txn) e g =
-    session_room setting state number txn fits passes starts all e (session_at state number).now refl g
+by_txn setting state number fits passes starts lows all None e g = all
+by_txn setting state number fits passes starts lows all (Some txn) e g =
+    session_room setting state number txn fits passes starts lows all e (session_at state number).now refl g
 
 steps_room : (setting : Setting) (state : State) (numbers : List ℕ) → IsReached setting state → AllRoom setting state
     → AllRoom setting (after_steps setting state numbers)
@@ -200,7 +208,7 @@ steps_room setting state [] r all = all
 steps_room setting state (number ∷ numbers) r all =
     steps_room setting (step_of setting state number).0 numbers (reached_step setting state number r)
     (by_txn setting state number (reached_fits setting state r) (reached_passes setting state r)
-    (reached_before setting state r) all (txn_at setting number (session_at state number)) refl
+    (reached_before setting state r) (reached_low setting state r) all (txn_at setting number (session_at state number)) refl
     (step_goes setting state number (reached_fits setting state r)))
 
 pub reached_room : (setting : Setting) (state : State) → IsReached setting state → AllRoom setting state

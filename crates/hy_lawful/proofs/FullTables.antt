@@ -148,14 +148,14 @@ places_few setting state r fits number before finished e table =
 -- ---- what is accounted for
 
 -- in the end what was begun has ended
-begun_ended : (done : List Finished) (now : Option Open) → now ≡ None → (before : ℕ) (begun : Begun) → slice_get (beguns_from done now) before ≡ Some begun
+pub begun_ended : (done : List Finished) (now : Option Open) → now ≡ None → (before : ℕ) (begun : Begun) → slice_get (beguns_from done now) before ≡ Some begun
     → (finished : Finished) × ((slice_get done before ≡ Some finished) × (finished.begun ≡ begun))
 begun_ended [] None n before begun e = absurd cc
 begun_ended [] (Some current) n before begun e = absurd cc
 begun_ended (first ∷ done) now n zero begun e = (first, (refl, same_Some first.begun begun e))
 begun_ended (first ∷ done) now n (suc before) begun e = begun_ended done now n before begun e
 
-now_none : (setting : Setting) (state : State) → IsOver setting state → (number : ℕ) (now : Option Open) → (session_at state number).now ≡ now → now ≡ None
+pub now_none : (setting : Setting) (state : State) → IsOver setting state → (number : ℕ) (now : Option Open) → (session_at state number).now ≡ now → now ≡ None
 now_none setting state over number None e = refl
 now_none setting state over number (Some current) e =
     let present : OpenFits setting state.order state.mark number (session_at state number).done current =

@@ -51,7 +51,7 @@ unchanged table pos (entry ∷ entries) e zero =
 unchanged table pos (entry ∷ entries) e (suc i) =
     unchanged table pos entries (or_none (last_some (changer_at table pos) entries) (changer_at table pos entry) e).0 i
 
-none_there : {X : Type 0} (item : Option X) → is_some item ≡ false → item ≡ None
+pub none_there : {X : Type 0} (item : Option X) → is_some item ≡ false → item ≡ None
 none_there None e = refl
 none_there (Some x) e = absurd cc
 

@@ -1,5 +1,5 @@
 -- What a transaction may write: where nobody else holds a position, and no entry from its start on does anything there.
-use Rattle.std.proofs.Common.{◌≡◌, ℕ, suc, ◌+◌, ◌-◌, ◌≤◌, List, [], ◌∷◌, Option, None, Some, Bool, true, false, not, is_some, Result, Ok, Err, zero}
+use Rattle.std.proofs.Common.{◌≡◌, ℕ, suc, ◌+◌, ◌-◌, ◌≤◌, List, [], ◌∷◌, Option, None, Some, Bool, true, false, not, is_some, Result, Ok, Err, zero, length}
 use Rattle.std.proofs.Common.{drop, cond, refl, ap, sym, ◌∙◌, subst, arith, inl, inr, add-zero}
 use Rattle.std.specs.Prelude.{find, ◌&&◌}
 use Rattle.std.specs.List.{AllByRecursion, list_any}
@@ -19,20 +19,22 @@ use Rattle.hy_machine.specs.declared.Pair.{Pair}
 use Rattle.hy_machine.specs.declared.Write.{Write}
 use Rattle.hy_machine.specs.declared.Cause.{Cause}
 use Rattle.hy_machine.specs.Positions.{item_at, last_some}
-use Rattle.hy_machine.specs.Tables.{Cell, covered, positions_in}
+use Rattle.hy_machine.specs.Tables.{Cell, covered, opening_tables, positions_in}
 use Rattle.hy_machine.specs.Sessions.{session_at, view, snapshot}
 use Rattle.hy_machine.specs.Holding.{holds, holder_from, changes_row, changer_at, opponent, is_held, has_pair, is_free}
 use Rattle.hy_machine.specs.Visits.{new_cell, judged, verdict, and_write, sweep, verdict_at, swept}
 use Rattle.hy_lawful.proofs.Fits.{FitsTables, Fits}
 use Rattle.hy_lawful.proofs.PassTables.{cell_at, pair_at, tables_are, covered_at, AllFit, cell_next}
-use Rattle.hy_lawful.proofs.PassHits.{from_dropped, dropped_pair, unchanged_by, or_none, unchanged, unwritten}
+use Rattle.hy_lawful.proofs.PassHits.{from_dropped, dropped_pair, unchanged_by, or_none, none_there, unchanged, unwritten}
 use Rattle.hy_lawful.proofs.PassHolds.{no_holder, unheld, held_by_none}
-use Rattle.hy_lawful.proofs.PassStates.{Clear, Befores, Passes}
+use Rattle.hy_lawful.proofs.PassStates.{EmptyAt, Clear, Befores, Passes}
+use Rattle.hy_lawful.proofs.RunFree.{kept_since}
 
 -- a transaction may write at a position, or has written there
 pub record MayWrite (setting : Setting) (state : State) (number : ℕ) (begun : Begun) (table pos : ℕ) : Type 0 where
   pub clear : Clear state.order begun table pos
   pub alone : (other : ℕ) → (other ≡ number → ⊥) → holds setting table pos (session_at state other).now ≡ true → ⊥
+  pub empty : EmptyAt setting state.order begun table pos
 
 abbrev pub OwnMay : Setting → State → ℕ → Begun → Type 0
 OwnMay setting state number begun = (table pos : ℕ) → is_some (item_at begun.own table pos) ≡ true → MayWrite setting state number begun table pos
@@ -46,6 +48,7 @@ pub record IsAtWork (setting : Setting) (state : State) (number : ℕ) (begun : 
   pub passes : Passes setting state
   pub own : FitsTables setting begun.own
   pub low : begun.low ≤ begun.prefix
+  pub start : begun.prefix ≤ length state.order
   pub may : OwnMay setting state number begun
 
 -- nobody is in the way where one may write
@@ -98,6 +101,7 @@ row_may setting state number begun table pos row fits passes free e =
           (from_dropped (λ (item : Option Pair). changes_row item ≡ false) begun.prefix state.order table pos
           (unchanged table pos (drop begun.prefix state.order) parts.1)) (rank - begun.prefix)).1;
       alone = λ other apart. unheld setting number table pos 0 state.sessions parts.0 other (λ same. apart (omega (arith, same)));
+      empty = λ none rank from to. absurd (let never : Some row ≡ None = sym e ∙ none in cc);
     }
 
 seen_may : (setting : Setting) (state : State) (number : ℕ) (begun : Begun) (table pos : ℕ) (row : List Value) → IsAtWork setting state number begun
@@ -185,4 +189,9 @@ free_may setting state number begun table pos low e =
           (unwritten table pos (drop begun.low state.order) (not-true (list_any (has_pair table pos) (drop begun.low state.order)) parts.2))
           rank (omega (arith, low, h));
       alone = λ other apart. held_by_none setting table pos state.sessions (not-true (is_held setting state table pos) parts.0) other;
+      empty = λ none rank from to.
+          kept_since (opening_tables setting) state.order begun.low rank table pos from
+          (not-true (list_any (has_pair table pos) (drop begun.low state.order)) parts.2)
+          ∙ none_there (item_at (snapshot setting state begun.low) table pos)
+          (not-true (is_some (item_at (snapshot setting state begun.low) table pos)) parts.1);
     }

@@ -27,7 +27,7 @@ use Rattle.hy_lawful.proofs.PassHits.{dropped_pair}
 use Rattle.hy_lawful.proofs.PassWritten.{WrittenIn, by_ended, by_open, HasWritten}
 use Rattle.hy_lawful.proofs.PassStates.{Passed, EndPasses, PhasePasses, NowPasses, Passes}
 
-changer_pair : (P : Label → Type 0) (table pos : ℕ) (entries : List Entry) (label : Label)
+pub changer_pair : (P : Label → Type 0) (table pos : ℕ) (entries : List Entry) (label : Label)
     → ((i : ℕ) (one : Label) (pair : Pair) → label_at entries i ≡ Some one → pair_at entries i table pos ≡ Some pair → P one)
     → last_some (changer_at table pos) entries ≡ Some label → P label
 changer_pair P table pos [] label f e = absurd cc

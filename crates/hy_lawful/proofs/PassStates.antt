@@ -1,7 +1,7 @@
 -- What is kept along steps for those that committed to be passed unseen: no entry from the start of an open transaction on
 -- does anything at the positions that it holds, no other holds these, and what was passed unseen stays so.
-use Rattle.std.proofs.Common.{◌≡◌, ℕ, zero, suc, ◌+◌, ◌-◌, ◌<◌, ◌≤◌, List, [], ◌∷◌, ◌++◌, Option, None, Some, true, is_some, length, map, drop, refl, ap, sym}
-use Rattle.std.proofs.Common.{◌∙◌, subst, arith, inl, inr, ◌⊎◌}
+use Rattle.std.proofs.Common.{◌≡◌, ℕ, zero, suc, ◌+◌, ◌-◌, ◌<◌, ◌≤◌, List, [], ◌∷◌, ◌++◌, Option, None, Some, true, false}
+use Rattle.std.proofs.Common.{is_some, length, map, drop, refl, ap, sym, ◌∙◌, subst, arith, inl, inr, ◌⊎◌}
 use Rattle.std.specs.Prelude.{IfSome}
 use Rattle.std.specs.List.{AllByRecursion}
 use Rattle.std.proofs.lemmas.List.{length-append}
@@ -30,7 +30,7 @@ use Rattle.hy_replay.specs.Laws.{IsUnseenAt, DifferUnseen}
 use Rattle.hy_lawful.specs.Outcomes.{committed_at}
 use Rattle.hy_lawful.proofs.Lists.{all_so}
 use Rattle.hy_lawful.proofs.Moves.{moved_to, sessions_moved}
-use Rattle.hy_lawful.proofs.PassTables.{tables_at, cell_at, pair_at, AllFit, cell_next, cell_stays, tables_grow, more_pairs, entry_item, entry_lays}
+use Rattle.hy_lawful.proofs.PassTables.{tables_at, cell_at, pair_at, AllFit, cell_next, stays_to, cell_stays, tables_grow, more_pairs, entry_item, entry_lays}
 use Rattle.hy_lawful.proofs.PassWritten.{Keeps, SessionNames, names_moved}
 use Rattle.hy_lawful.proofs.PassHits.{from_dropped, pair_missed, hit_stays}
 
@@ -41,7 +41,18 @@ pub record PassesAt (begun : Begun) (table pos : ℕ) (pair : Pair) : Type 0 whe
   pub apart : item_at begun.own table pos ≡ None
   pub missed : record_hit begun.records table pair.before pair.after ≡ None
 
--- what stands before the place of a transaction in an order, from its start on, is unseen by it; its entry lays what it wrote
+-- where nothing stood at a position at a transaction's start, nothing stood there from its watermark on
+abbrev pub EmptyAt : Setting → List Entry → Begun → ℕ → ℕ → Type 0
+EmptyAt setting order begun table pos = cell_at setting order begun.prefix table pos ≡ None
+    → (rank : ℕ) → begun.low ≤ rank → rank ≤ begun.prefix → cell_at setting order rank table pos ≡ None
+
+-- a transaction placed rows only at such positions
+pub record BornEmpty (setting : Setting) (order : List Entry) (begun : Begun) : Type 0 where
+  pub start : begun.prefix ≤ length order
+  pub empty : (table pos : ℕ) → is_some (item_at begun.own table pos) ≡ true → EmptyAt setting order begun table pos
+
+-- what stands before the place of a transaction in an order, from its start on, is unseen by it; its entry lays what it
+-- wrote, and does something there and nowhere else
 pub record Passed (setting : Setting) (order : List Entry) (begun : Begun) (rank : ℕ) : Type 0 where
   pub within : suc rank ≤ length order
   pub unseen : (at : ℕ) → begun.prefix ≤ at → at < rank
@@ -50,6 +61,29 @@ pub record Passed (setting : Setting) (order : List Entry) (begun : Begun) (rank
   pub passes : (at : ℕ) → begun.prefix ≤ at → at < rank → (table pos : ℕ) (pair : Pair) → pair_at order at table pos ≡ Some pair
       → PassesAt begun table pos pair
   pub wrote : (table pos : ℕ) (pair : Pair) → pair_at order rank table pos ≡ Some pair → is_some (item_at begun.own table pos) ≡ true
+  pub has : (table pos : ℕ) → is_some (item_at begun.own table pos) ≡ true → is_some (pair_at order rank table pos) ≡ true
+  pub born : BornEmpty setting order begun
+
+-- so no entry from its start on before its place does anything where it wrote
+pub untouched : (setting : Setting) (order : List Entry) (begun : Begun) (rank : ℕ) → Passed setting order begun rank → (table pos : ℕ)
+    → is_some (item_at begun.own table pos) ≡ true → (at : ℕ) → begun.prefix ≤ at → at < rank → pair_at order at table pos ≡ None
+untouched setting order begun rank passed table pos own at from below = by_item (pair_at order at table pos) refl
+  where
+    by_item : (item : Option Pair) → pair_at order at table pos ≡ item → item ≡ None
+    by_item None e = refl
+    by_item (Some pair) e =
+        let passes : PassesAt begun table pos pair = passed.passes at from below table pos pair e in
+        let never : is_some (item_at begun.own table pos) ≡ false = ap is_some passes.apart in
+        absurd (cc (never, own))
+
+-- and what stood there at its start still stands there before its entry
+pub still_there : (setting : Setting) (order : List Entry) → AllFit setting order → (begun : Begun) (rank : ℕ) → begun.prefix ≤ rank
+    → Passed setting order begun rank → (table pos : ℕ) → is_some (item_at begun.own table pos) ≡ true
+    → cell_at setting order rank table pos ≡ cell_at setting order begun.prefix table pos
+still_there setting order fit begun rank later passed table pos own =
+    ap (λ (n : ℕ). cell_at setting order n table pos) (let same : rank ≡ begun.prefix + (rank - begun.prefix) = omega (arith, later) in same)
+    ∙ stays_to setting order fit begun.prefix table pos (rank - begun.prefix)
+    (λ at from below. untouched setting order begun rank passed table pos own at from (omega (arith, below, later)))
 
 -- one that is in conflict has not written that position; one that is invalid names the first hit of its records by the
 -- entries from its start on
@@ -82,6 +116,7 @@ PhasePasses setting order begun (Undoing visited cause) =
 
 pub record OpenPasses (setting : Setting) (order : List Entry) (current : Open) : Type 0 where
   pub low : current.begun.low ≤ current.begun.prefix
+  pub born : BornEmpty setting order current.begun
   pub phase : PhasePasses setting order current.begun current.phase
 
 abbrev pub NowPasses : Setting → List Entry → Option Open → Type 0
@@ -134,6 +169,15 @@ pair_stays [] more rank table pos below = absurd (omega (arith, below))
 pair_stays (entry ∷ order) more zero table pos below = refl
 pair_stays (entry ∷ order) more (suc rank) table pos below = pair_stays order more rank table pos (omega (arith, below))
 
+pub born_grows : (setting : Setting) (order more : List Entry) (begun : Begun) → BornEmpty setting order begun → BornEmpty setting (order ++ more) begun
+born_grows setting order more begun h = record {
+  start = omega (arith, h.start, length-append order more);
+  empty = λ table pos own none rank from to.
+      ap (λ (tables : Tables). item_at tables table pos) (tables_grow setting order more rank (omega (arith, to, h.start)))
+      ∙ h.empty table pos own
+      (sym (ap (λ (tables : Tables). item_at tables table pos) (tables_grow setting order more begun.prefix h.start)) ∙ none) rank from to;
+}
+
 pub passed_grows : (setting : Setting) (order more : List Entry) (begun : Begun) (rank : ℕ) → Passed setting order begun rank
     → Passed setting (order ++ more) begun rank
 passed_grows setting order more begun rank p = record {
@@ -147,6 +191,8 @@ passed_grows setting order more begun rank p = record {
   passes = λ at from to table pos pair e. p.passes at from to table pos pair
       (sym (pair_stays order more at table pos (omega (arith, to, p.within))) ∙ e);
   wrote = λ table pos pair e. p.wrote table pos pair (sym (pair_stays order more rank table pos p.within) ∙ e);
+  has = λ table pos own. ap is_some (pair_stays order more rank table pos p.within) ∙ p.has table pos own;
+  born = born_grows setting order more begun p.born;
 }
 
 refusal_grows : (order more : List Entry) (begun : Begun) (ending : Ending) → IsRefusal order begun ending → IsRefusal (order ++ more) begun ending
@@ -201,6 +247,7 @@ now_grows : (setting : Setting) (order : List Entry) (entry : Entry) (now : Opti
 now_grows setting order entry None h s = tt
 now_grows setting order entry (Some current) h s = record {
   low = h.low;
+  born = born_grows setting order (entry ∷ []) current.begun h.born;
   phase = phase_grows setting order entry current.begun current.phase h.phase s.0 s.1;
 }
 
@@ -225,7 +272,7 @@ OwnClear order begun = (table pos : ℕ) → is_some (item_at begun.own table po
 pub record IsEntry (setting : Setting) (order : List Entry) (begun : Begun) (entry : Entry) : Type 0 where
   pub fit : AllFit setting order
   pub befores : Befores setting order
-  pub start : begun.prefix ≤ length order
+  pub born : BornEmpty setting order begun
   pub clear : OwnClear order begun
   pub cells : entry.cells ≡ entry_cells (tables_at setting order begun.prefix) 0 begun.own
 
@@ -249,7 +296,7 @@ befores_grow setting order begun entry is rank table pos pair e = elim (more_pai
       ∙ ap (λ (tables : Tables). item_at tables table pos) (sym (tables_grow setting order (entry ∷ []) rank (omega (arith, old.0))))
   | inr new ↦
       let parts = entry_pair setting order begun entry is table pos pair new.1 in
-      let last : begun.prefix + (length order - begun.prefix) ≡ rank = omega (arith, is.start, new.0) in
+      let last : begun.prefix + (length order - begun.prefix) ≡ rank = omega (arith, is.born.start, new.0) in
       sym parts.1 ∙ (sym (cell_stays setting order is.fit begun.prefix table pos (is.clear table pos parts.0) (length order - begun.prefix))
       ∙ (ap (λ (n : ℕ). cell_at setting order n table pos) last
       ∙ ap (λ (tables : Tables). item_at tables table pos) (sym (tables_grow setting order (entry ∷ []) rank (omega (arith, new.0))))))
@@ -299,6 +346,22 @@ wrote_at setting order begun entry is table pos pair e = elim (more_pairs order 
   | inr new ↦ (entry_pair setting order begun entry is table pos pair new.1).0
 ]
 
+last_pair : (order : List Entry) (entry : Entry) (table pos : ℕ) → pair_at (order ++ entry ∷ []) (length order) table pos ≡ item_at entry.cells table pos
+last_pair [] entry table pos = refl
+last_pair (first ∷ order) entry table pos = last_pair order entry table pos
+
+pair_of_own : (before : Cell) (own : Option Cell) → is_some own ≡ true → is_some (pair_of before own) ≡ true
+pair_of_own before None h = absurd cc
+pair_of_own before (Some cell) h = refl
+
+has_at : (setting : Setting) (order : List Entry) (begun : Begun) (entry : Entry) → IsEntry setting order begun entry → (table pos : ℕ)
+    → is_some (item_at begun.own table pos) ≡ true → is_some (pair_at (order ++ entry ∷ []) (length order) table pos) ≡ true
+has_at setting order begun entry is table pos own =
+    ap is_some (last_pair order entry table pos
+    ∙ (ap (λ (cells : List (List (Option Pair))). item_at cells table pos) is.cells
+    ∙ entry_item (tables_at setting order begun.prefix) begun.own table pos))
+    ∙ pair_of_own (cell_at setting order begun.prefix table pos) (item_at begun.own table pos) own
+
 pub entered_passed : (setting : Setting) (order : List Entry) (begun : Begun) (entry : Entry) → IsEntry setting order begun entry
     → first_hit begun.records (map committed_of (drop begun.prefix order)) ≡ None → Passed setting (order ++ entry ∷ []) begun (length order)
 entered_passed setting order begun entry is hit = record {
@@ -311,4 +374,6 @@ entered_passed setting order begun entry is hit = record {
   passes = λ at from to table pos pair e. passes_at setting order begun entry is hit at from table pos pair
       (sym (pair_stays order (entry ∷ []) at table pos to) ∙ e);
   wrote = wrote_at setting order begun entry is;
+  has = has_at setting order begun entry is;
+  born = born_grows setting order (entry ∷ []) begun is.born;
 }

@@ -36,6 +36,7 @@ use Rattle.hy_lawful.proofs.Moves.{moved_to}
 use Rattle.hy_lawful.proofs.Turns.{FitsTurn, phase_fits}
 use Rattle.hy_lawful.proofs.Reached.{is_there, reached_fits}
 use Rattle.hy_lawful.proofs.PassTables.{pair_at}
+use Rattle.hy_lawful.proofs.PassStates.{BornEmpty, born_grows}
 use Rattle.hy_lawful.proofs.PassStates.{Passed, EndPasses, OpenPasses, NowPasses, SessionPasses, Passes, passes_moved, done_grows, session_grows, NowSpared}
 use Rattle.hy_lawful.proofs.PassStates.{IsEntry, entry_pair, befores_grow, entered_passed}
 use Rattle.hy_lawful.proofs.PassWritten.{keeps_open, keeps_begun, keeps_ended, writes_keep, Names, NowNames, SessionNames}
@@ -48,7 +49,7 @@ with_below : (least : ℕ) (now : Option Open) → least_with least now ≤ leas
 with_below least None = omega arith
 with_below least (Some current) = omega arith
 
-least_below : (least : ℕ) (sessions : List Session) → least_prefix least sessions ≤ least
+pub least_below : (least : ℕ) (sessions : List Session) → least_prefix least sessions ≤ least
 least_below least [] = omega arith
 least_below least (session ∷ sessions) = omega (arith, least_below (least_with least session.now) sessions, with_below least session.now)
 
@@ -67,14 +68,17 @@ blank_items n [] table pos = refl
 blank_items n (one ∷ rows) zero pos = blank_cells n pos
 blank_items n (one ∷ rows) (suc table) pos = blank_items n rows table pos
 
-blank_free : (setting : Setting) (state : State) (table pos : ℕ)
-    → holds setting table pos (Some (record { begun = beginning setting state; phase = Working 0 0 })) ≡ true → ⊥
-blank_free setting state table pos h =
-    let some : is_some (item_at (blank_own setting) table pos) ≡ true = (and_parts (is_some (item_at (blank_own setting) table pos))
-    (is_among (written_chunks setting (blank_own setting)) table (chunk_of setting pos)) h).0 in
+blank_not : (setting : Setting) (table pos : ℕ) → is_some (item_at (blank_own setting) table pos) ≡ true → ⊥
+blank_not setting table pos some =
     let none : item_at (blank_own setting) table pos ≡ None = blank_items (capacity setting) setting.first table pos in
     let never : is_some (item_at (blank_own setting) table pos) ≡ false = ap is_some none in
     absurd cc
+
+blank_free : (setting : Setting) (state : State) (table pos : ℕ)
+    → holds setting table pos (Some (record { begun = beginning setting state; phase = Working 0 0 })) ≡ true → ⊥
+blank_free setting state table pos h =
+    blank_not setting table pos (and_parts (is_some (item_at (blank_own setting) table pos))
+    (is_among (written_chunks setting (blank_own setting)) table (chunk_of setting pos)) h).0
 
 begins : (setting : Setting) (state : State) (number : ℕ) → Passes setting state → number < length state.sessions
     → (session_at state number).now ≡ None → Passes setting (after_turn setting state number Begins).0
@@ -85,6 +89,10 @@ begins setting state number passes there is =
       done = (passes.sessions number).done;
       now = record {
         low = least_below (length state.order) state.sessions;
+        born = record {
+          start = let whole : length state.order ≤ length state.order = omega arith in whole;
+          empty = λ table pos own. absurd (blank_not setting table pos own);
+        };
         phase = λ table pos h rank from. past_order state.order rank table pos from;
       };
     })
@@ -100,8 +108,8 @@ record IsOpen (setting : Setting) (state : State) (number : ℕ) (current : Open
   passes : Passes setting state
   there : number < length state.sessions
   is : (session_at state number).now ≡ Some current
-  start : current.begun.prefix ≤ length state.order
   low : current.begun.low ≤ current.begun.prefix
+  born : BornEmpty setting state.order current.begun
 
 goes : (setting : Setting) (state : State) (number : ℕ) (current new : Open) → IsOpen setting state number current → GoesOn setting state number new
     → ((table pos : ℕ) → is_some (item_at current.begun.own table pos) ≡ true → is_some (item_at new.begun.own table pos) ≡ true)
@@ -129,6 +137,7 @@ enters setting state number current o may hit free =
       done = done_grows setting state.order (entry ∷ []) (session_at state number).done (o.passes.sessions number).done;
       now = record {
         low = o.low;
+        born = born_grows setting state.order (entry ∷ []) current.begun o.born;
         phase = subst (Passed setting (state.order ++ entry ∷ []) current.begun)
             (let e : length state.order ≡ length (state.order ++ entry ∷ []) - 1 = omega (arith, length-append state.order (entry ∷ [])) in e)
             (entered_passed setting state.order current.begun entry is_entry hit);
@@ -149,7 +158,7 @@ enters setting state number current o may hit free =
     is_entry = record {
       fit = o.fits.cells;
       befores = o.passes.befores;
-      start = o.start;
+      born = o.born;
       clear = λ table pos own. (may table pos own).clear;
       cells = refl;
     }
@@ -232,8 +241,8 @@ session_passes setting state number txn fits passes e (Some current) is =
       passes = passes;
       there = is_there setting state number txn fits e;
       is = is;
-      start = present.start;
       low = passing.low;
+      born = passing.born;
     })
     (phase_turn setting state number txn current.begun current.phase)
     (phase_fits setting state fits number txn current.begun e present.above present.records current.phase present.phase

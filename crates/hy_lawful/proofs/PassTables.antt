@@ -119,15 +119,21 @@ cell_next setting order fit rank table pos pair e =
     next_in setting (opening_tables setting) order rank table pos (opening_are setting) fit
     ∙ ap (covered (λ (pair : Pair). pair.after) (cell_at setting order rank table pos)) e
 
--- a cell stays where no entry does anything
+-- a cell stays from one rank to another where no entry between them does anything
+pub stays_to : (setting : Setting) (order : List Entry) → AllFit setting order → (prefix table pos more : ℕ)
+    → ((rank : ℕ) → prefix ≤ rank → rank < prefix + more → pair_at order rank table pos ≡ None)
+    → cell_at setting order (prefix + more) table pos ≡ cell_at setting order prefix table pos
+stays_to setting order fit prefix table pos zero none = ap (λ (n : ℕ). cell_at setting order n table pos) (add-zero prefix)
+stays_to setting order fit prefix table pos (suc more) none =
+    ap (λ (n : ℕ). cell_at setting order n table pos) (let e : prefix + suc more ≡ suc (prefix + more) = omega arith in e)
+    ∙ (cell_next setting order fit (prefix + more) table pos None (none (prefix + more) (omega arith) (omega arith))
+    ∙ stays_to setting order fit prefix table pos more (λ rank from below. none rank from (omega (arith, below))))
+
+-- a cell stays where no entry from a rank on does anything
 pub cell_stays : (setting : Setting) (order : List Entry) → AllFit setting order → (prefix table pos : ℕ)
     → ((rank : ℕ) → prefix ≤ rank → pair_at order rank table pos ≡ None) → (more : ℕ)
     → cell_at setting order (prefix + more) table pos ≡ cell_at setting order prefix table pos
-cell_stays setting order fit prefix table pos none zero = ap (λ (n : ℕ). cell_at setting order n table pos) (add-zero prefix)
-cell_stays setting order fit prefix table pos none (suc more) =
-    ap (λ (n : ℕ). cell_at setting order n table pos) (let e : prefix + suc more ≡ suc (prefix + more) = omega arith in e)
-    ∙ (cell_next setting order fit (prefix + more) table pos None (none (prefix + more) (omega arith))
-    ∙ cell_stays setting order fit prefix table pos none more)
+cell_stays setting order fit prefix table pos none more = stays_to setting order fit prefix table pos more (λ rank from below. none rank from)
 
 -- ---- an entry more
 

@@ -43,7 +43,8 @@ use Rattle.hy_lawful.specs.Outcomes.{committed_at}
 use Rattle.hy_lawful.proofs.Fits.{FitsTables, Fits}
 use Rattle.hy_lawful.proofs.Refusals.{sweep_refuses, verdict_fails, is_invalid}
 use Rattle.hy_lawful.proofs.PassHolds.{own_among, fewer_among, written_is}
-use Rattle.hy_lawful.proofs.PassStates.{Passed, IsRefusal, EndPasses, PhasePasses, HeldClear, OpenPasses, HoldsAlone, Passes}
+use Rattle.hy_lawful.proofs.PassTables.{cell_at}
+use Rattle.hy_lawful.proofs.PassStates.{BornEmpty, Passed, IsRefusal, EndPasses, PhasePasses, HeldClear, OpenPasses, HoldsAlone, Passes}
 use Rattle.hy_lawful.proofs.PassWritten.{Names, PhaseNames}
 use Rattle.hy_lawful.proofs.PassRivals.{opponent_wrote}
 use Rattle.hy_lawful.proofs.PassMays.{OwnMay, AllMay, MayWrite, IsAtWork, no_opponent, swept_may, found_is, free_may}
@@ -262,17 +263,25 @@ goes_on : (setting : Setting) (state : State) (number : ℕ) (begun : Begun) (wr
 goes_on setting state number begun writes new w all own prefix low n = (
   record {
     low = omega (arith, w.low, prefix, low);
-    phase = phase_clear setting state new.begun new.phase n (λ table pos h rank from. (may table pos h).clear rank (omega (arith, from, prefix)));
+    born = record {
+      start = omega (arith, w.start, prefix);
+      empty = λ table pos wrote none rank from to. (may table pos wrote).empty
+          (ap (λ (n : ℕ). cell_at setting state.order n table pos) (sym prefix) ∙ none) rank (omega (arith, from, low)) (omega (arith, to, prefix));
+    };
+    phase = phase_clear setting state new.begun new.phase n
+        (λ table pos h rank from. (may table pos (held table pos h)).clear rank (omega (arith, from, prefix)));
   },
-  λ other table pos apart h. (may table pos h).alone other apart,
+  λ other table pos apart h. (may table pos (held table pos h)).alone other apart,
   phase_names state new.begun new.phase n,
 )
   where
-    may : (table pos : ℕ) → holds setting table pos (Some new) ≡ true → MayWrite setting state number begun table pos
+    held : (table pos : ℕ) → holds setting table pos (Some new) ≡ true → is_some (item_at new.begun.own table pos) ≡ true
+    held table pos h = (and_parts (is_some (item_at new.begun.own table pos))
+        (is_among (drop (undone new.phase) (written_chunks setting new.begun.own)) table (chunk_of setting pos)) h).0
+
+    may : (table pos : ℕ) → is_some (item_at new.begun.own table pos) ≡ true → MayWrite setting state number begun table pos
     may table pos h = written_is (MayWrite setting state number begun) writes begun.own all w.may table pos
-        (ap (λ (own : Own). is_some (item_at own table pos)) (sym own)
-        ∙ (and_parts (is_some (item_at new.begun.own table pos))
-        (is_among (drop (undone new.phase) (written_chunks setting new.begun.own)) table (chunk_of setting pos)) h).0)
+        (ap (λ (own : Own). is_some (item_at own table pos)) (sym own) ∙ h)
 
 writes_pass : (setting : Setting) (state : State) (number : ℕ) (current : Open) → IsAtWork setting state number current.begun → (turn : Turn)
     → WorkTurn setting state number current.begun turn → PassesTurn setting state number current turn
@@ -303,12 +312,12 @@ holds_less setting begun visited cause table pos h =
     parts.0 (fewer_among visited (written_chunks setting begun.own) table (chunk_of setting pos) parts.1)
 
 undo_passes : (setting : Setting) (state : State) (number : ℕ) (begun : Begun) (visited : ℕ) (cause : Cause) → begun.low ≤ begun.prefix
-    → PhasePasses setting state.order begun (Undoing visited cause) → Names state (ending_of cause)
+    → BornEmpty setting state.order begun → PhasePasses setting state.order begun (Undoing visited cause) → Names state (ending_of cause)
     → HoldsAlone setting state number (Some (record { begun = begun; phase = Undoing visited cause }))
     → PassesTurn setting state number (record { begun = begun; phase = Undoing visited cause }) (undo_turn setting state number begun visited cause)
-undo_passes setting state number begun visited cause low h named alone = elim (cases_Bool (ltb visited (length (written_chunks setting begun.own)))) [
+undo_passes setting state number begun visited cause low born h named alone = elim (cases_Bool (ltb visited (length (written_chunks setting begun.own)))) [
   | inl t ↦ rw t (
-    record { low = low; phase = (λ table pos held. h.0 table pos (holds_less setting begun visited cause table pos held), h.1) },
+    record { low = low; born = born; phase = (λ table pos held. h.0 table pos (holds_less setting begun visited cause table pos held), h.1) },
     λ other table pos apart held. alone other table pos apart (holds_less setting begun visited cause table pos held),
     named,
   )
@@ -318,11 +327,11 @@ undo_passes setting state number begun visited cause low h named alone = elim (c
 ]
 
 stamp_passes : (setting : Setting) (state : State) (number : ℕ) (begun : Begun) (visited : ℕ) → begun.low ≤ begun.prefix
-    → Passed setting state.order begun (length state.order - 1)
+    → BornEmpty setting state.order begun → Passed setting state.order begun (length state.order - 1)
     → HoldsAlone setting state number (Some (record { begun = begun; phase = Stamping visited }))
     → PassesTurn setting state number (record { begun = begun; phase = Stamping visited }) (stamp_turn setting state begun visited)
-stamp_passes setting state number begun visited low passed alone = elim (cases_Bool (ltb visited (length (written_chunks setting begun.own)))) [
-  | inl t ↦ rw t (record { low = low; phase = passed }, alone, tt)
+stamp_passes setting state number begun visited low born passed alone = elim (cases_Bool (ltb visited (length (written_chunks setting begun.own)))) [
+  | inl t ↦ rw t (record { low = low; born = born; phase = passed }, alone, tt)
   | inr f ↦ rw f ((passed, tt), tt)
 ]
 
@@ -337,16 +346,21 @@ phase_passes setting state fits passes number txn begun own (Working visited cou
       passes = passes;
       own = own;
       low = present.low;
+      start = present.born.start;
       may = λ table pos e.
           let held : holds setting table pos (Some (record { begun = begun; phase = Working visited count })) ≡ true =
           and_from (is_some (item_at begun.own table pos)) (is_among (written_chunks setting begun.own) table (chunk_of setting pos)) e
           (own_among setting begun.own table pos own e) in
-          record { clear = present.phase table pos held; alone = λ other apart. alone other table pos apart held };
+          record {
+            clear = present.phase table pos held;
+            alone = λ other apart. alone other table pos apart held;
+            empty = present.born.empty table pos e;
+          };
     } in
     writes_pass setting state number (record { begun = begun; phase = Working visited count }) works
     (working_turn setting state number txn begun visited count (slice_get txn.statements (length begun.replies)))
     (working_writes setting state number txn begun visited count works (slice_get txn.statements (length begun.replies)))
 phase_passes setting state fits passes number txn begun own (Stamping visited) present alone named =
-    stamp_passes setting state number begun visited present.low present.phase alone
+    stamp_passes setting state number begun visited present.low present.born present.phase alone
 phase_passes setting state fits passes number txn begun own (Undoing visited cause) present alone named =
-    undo_passes setting state number begun visited cause present.low present.phase named alone
+    undo_passes setting state number begun visited cause present.low present.born present.phase named alone

@@ -3,8 +3,10 @@ use Rattle.std.proofs.Common.{◌≡◌, ℕ, zero, suc, ◌+◌, ◌<◌, List,
 use Rattle.std.proofs.Common.{false, is_some, get_or, cond, refl, ap, sym, ◌∙◌}
 use Rattle.std.proofs.Common.{subst, arith, inl, inr, ◌⊎◌, zero-add, add-zero}
 use Rattle.std.specs.Prelude.{◌&&◌, ◌||◌, ◌==◌, IfSome}
-use Rattle.std.specs.List.{AllByRecursion}
-use Rattle.std.proofs.lemmas.Bool.{and_left, and_right, and_from, eq-eqb, ne_eqb}
+use Rattle.std.specs.List.{AllByRecursion, list_any}
+use Rattle.std.proofs.lemmas.Bool.{and_left, and_right, and_from, or_left, or_right, eq-eqb, ne_eqb}
+use Rattle.std.proofs.lemmas.List.Folds.{list_any-append}
+use Rattle.std.proofs.lemmas.Option.{same_Some}
 use Rattle.hy_change.specs.declared.Change.{Change}
 use Rattle.hy_machine.specs.declared.Pair.{Pair}
 use Rattle.hy_machine.specs.Positions.{item_at, by_position, by_table, by_place}
@@ -42,6 +44,42 @@ pub all_by_place : {A B : Type 0} (P : B → Type 0) (f : ℕ → ℕ → A → 
     → ((table pos : ℕ) (item : A) → item_at lists table pos ≡ Some item → AllByRecursion P (f table pos item)) → AllByRecursion P (by_place f lists)
 all_by_place P f lists h = all_in_tables P f 0 lists
     (λ table pos item e. subst (λ (n : ℕ). AllByRecursion P (f n pos item)) (sym (zero-add table)) (h table pos item e))
+
+any_in_table : {A B : Type 0} (test : B → Bool) (f : ℕ → A → List B) (at : ℕ) (items : List (Option A)) (i : ℕ) (item : A)
+    → get_or items i None ≡ Some item → list_any test (f (at + i) item) ≡ true → list_any test (by_position f at items) ≡ true
+any_in_table test f at [] i item e h = absurd cc
+any_in_table test f at (None ∷ items) zero item e h = absurd cc
+any_in_table test f at (None ∷ items) (suc i) item e h = any_in_table test f (suc at) items i item e
+    (ap (λ (n : ℕ). list_any test (f n item)) (let same : suc at + i ≡ at + suc i = omega arith in same) ∙ h)
+any_in_table {A = A} test f at (Some one ∷ items) zero item e h =
+    list_any-append test (f at one) (by_position f (suc at) items)
+    ∙ or_left (list_any test (f at one)) (list_any test (by_position f (suc at) items))
+    (ap (λ (x : A). list_any test (f at x)) (same_Some one item e) ∙ (ap (λ (n : ℕ). list_any test (f n item)) (sym (add-zero at)) ∙ h))
+any_in_table test f at (Some one ∷ items) (suc i) item e h =
+    list_any-append test (f at one) (by_position f (suc at) items)
+    ∙ or_right (list_any test (f at one)) (list_any test (by_position f (suc at) items))
+    (any_in_table test f (suc at) items i item e
+    (ap (λ (n : ℕ). list_any test (f n item)) (let same : suc at + i ≡ at + suc i = omega arith in same) ∙ h))
+
+any_in_tables : {A B : Type 0} (test : B → Bool) (f : ℕ → ℕ → A → List B) (first : ℕ) (lists : List (List (Option A))) (table pos : ℕ) (item : A)
+    → item_at lists table pos ≡ Some item → list_any test (f (first + table) pos item) ≡ true → list_any test (by_table f first lists) ≡ true
+any_in_tables test f first [] table pos item e h = absurd cc
+any_in_tables test f first (items ∷ lists) zero pos item e h =
+    list_any-append test (by_position (f first) 0 items) (by_table f (suc first) lists)
+    ∙ or_left (list_any test (by_position (f first) 0 items)) (list_any test (by_table f (suc first) lists))
+    (any_in_table test (f first) 0 items pos item e
+    (ap (λ (n : ℕ). list_any test (f first n item)) (zero-add pos) ∙ (ap (λ (n : ℕ). list_any test (f n pos item)) (sym (add-zero first)) ∙ h)))
+any_in_tables test f first (items ∷ lists) (suc table) pos item e h =
+    list_any-append test (by_position (f first) 0 items) (by_table f (suc first) lists)
+    ∙ or_right (list_any test (by_position (f first) 0 items)) (list_any test (by_table f (suc first) lists))
+    (any_in_tables test f (suc first) lists table pos item e
+    (ap (λ (n : ℕ). list_any test (f n pos item)) (let same : suc first + table ≡ first + suc table = omega arith in same) ∙ h))
+
+-- what one position gives is among what all give
+pub any_by_place : {A B : Type 0} (test : B → Bool) (f : ℕ → ℕ → A → List B) (lists : List (List (Option A))) (table pos : ℕ) (item : A)
+    → item_at lists table pos ≡ Some item → list_any test (f table pos item) ≡ true → list_any test (by_place f lists) ≡ true
+any_by_place test f lists table pos item e h =
+    any_in_tables test f 0 lists table pos item e (ap (λ (n : ℕ). list_any test (f n pos item)) (zero-add table) ∙ h)
 
 between : (P : Change → Type 0) (table pos : ℕ) (before after : Cell)
     → ((is_some before || is_some after) ≡ true → P (record { table = table; pos = pos; before = before; after = after }))

@@ -1,23 +1,22 @@
 -- The places that a transaction wrote, and the entries that pass by them or lie in them.
-use Rattle.std.proofs.Common.{◌≡◌, ℕ, zero, suc, ◌+◌, ◌<◌, ◌≤◌, List, [], ◌∷◌, ◌++◌, Option, None, Some, Bool, true}
-use Rattle.std.proofs.Common.{false, is_some, length, map, get_or, refl, ap, sym, ◌∙◌}
-use Rattle.std.proofs.Common.{arith, inl, inr, zero-add}
-use Rattle.std.specs.Prelude.{slice_get, ◌&&◌, ◌==◌, ◌||◌, IfSome, IsTrue, IsFalse}
+use Rattle.std.proofs.Common.{◌≡◌, ℕ, zero, suc, ◌<◌, ◌≤◌, List, [], ◌∷◌, Option, None, Some, Bool, true}
+use Rattle.std.proofs.Common.{false, is_some, length, map, refl, ap, sym, ◌∙◌}
+use Rattle.std.proofs.Common.{arith, inl, inr}
+use Rattle.std.specs.Prelude.{slice_get, ◌&&◌, ◌==◌, IfSome, IsTrue, IsFalse}
 use Rattle.std.specs.List.{AllByRecursion, list_any}
 use Rattle.std.specs.Option.{IsSomeAnd}
-use Rattle.std.proofs.lemmas.Bool.{cases_Bool, and_parts, and_from, or_left, or_right, or_from, eqb-true, eq-eqb}
-use Rattle.std.proofs.lemmas.List.Folds.{list_any-append}
+use Rattle.std.proofs.lemmas.Bool.{cases_Bool, and_parts, and_from, or_left, or_from, eqb-true, eq-eqb}
 use Rattle.hy_change.specs.declared.Change.{Change}
 use Rattle.hy_render.specs.declared.Place.{Place}
 use Rattle.hy_machine.specs.declared.Setting.{Setting}
 use Rattle.hy_machine.specs.declared.Begun.{Begun}
 use Rattle.hy_machine.specs.declared.Entry.{Entry}
-use Rattle.hy_machine.specs.Positions.{item_at, by_position, by_table}
+use Rattle.hy_machine.specs.Positions.{item_at}
 use Rattle.hy_machine.specs.Tables.{Cell, Own}
 use Rattle.hy_machine.specs.Writes.{place_at, written}
 use Rattle.hy_machine.specs.Validation.{committed_of, record_hit}
 use Rattle.hy_lawful.specs.Passing.{has_place, PassesBy, ChangesLieIn}
-use Rattle.hy_lawful.proofs.PrintedChanges.{all_by_place, all_changes}
+use Rattle.hy_lawful.proofs.PrintedChanges.{all_by_place, any_by_place, all_changes}
 use Rattle.hy_lawful.proofs.PrintedTables.{pair_there}
 use Rattle.hy_lawful.proofs.PassStates.{Passed}
 
@@ -42,38 +41,14 @@ place_missing own table pos none = none_any (λ (place : Place). place.table == 
           ∙ (ap (item_at own at) (sym (eqb-true other pos parts.1)) ∙ e)) in cc)
     ]
 
-found_in_table : (table pos at : ℕ) (cells : List (Option Cell)) (i : ℕ) → at + i ≡ pos → is_some (get_or cells i None) ≡ true
-    → has_place (by_position (place_at table) at cells) table pos ≡ true
-found_in_table table pos at [] i e h = absurd cc
-found_in_table table pos at (None ∷ cells) zero e h = absurd cc
-found_in_table table pos at (None ∷ cells) (suc i) e h =
-    found_in_table table pos (suc at) cells i (let same : suc at + i ≡ pos = omega (arith, e) in same) h
-found_in_table table pos at (Some cell ∷ cells) zero e h =
-    or_left (table == table && at == pos) (has_place (by_position (place_at table) (suc at) cells) table pos)
-    (and_from (table == table) (at == pos) (eq-eqb table table refl) (eq-eqb at pos (let same : at ≡ pos = omega (arith, e) in same)))
-found_in_table table pos at (Some cell ∷ cells) (suc i) e h =
-    or_right (table == table && at == pos) (has_place (by_position (place_at table) (suc at) cells) table pos)
-    (found_in_table table pos (suc at) cells i (let same : suc at + i ≡ pos = omega (arith, e) in same) h)
-
-has_joined : (places others : List Place) (table pos : ℕ) → has_place (places ++ others) table pos ≡ (has_place places table pos || has_place others table pos)
-has_joined places others table pos = list_any-append (λ (place : Place). place.table == table && place.pos == pos) places others
-
-found_in_tables : (table pos first : ℕ) (own : Own) (k : ℕ) → first + k ≡ table → is_some (item_at own k pos) ≡ true
-    → has_place (by_table place_at first own) table pos ≡ true
-found_in_tables table pos first [] k e h = absurd cc
-found_in_tables table pos first (cells ∷ own) zero e h =
-    has_joined (by_position (place_at first) 0 cells) (by_table place_at (suc first) own) table pos
-    ∙ or_left (has_place (by_position (place_at first) 0 cells) table pos) (has_place (by_table place_at (suc first) own) table pos)
-    (ap (λ (n : ℕ). has_place (by_position (place_at n) 0 cells) table pos) (let same : first ≡ table = omega (arith, e) in same)
-    ∙ found_in_table table pos 0 cells pos (zero-add pos) h)
-found_in_tables table pos first (cells ∷ own) (suc k) e h =
-    has_joined (by_position (place_at first) 0 cells) (by_table place_at (suc first) own) table pos
-    ∙ or_right (has_place (by_position (place_at first) 0 cells) table pos) (has_place (by_table place_at (suc first) own) table pos)
-    (found_in_tables table pos (suc first) own k (let same : suc first + k ≡ table = omega (arith, e) in same) h)
-
 -- where something was written there is a place
 pub place_found : (own : Own) (table pos : ℕ) → is_some (item_at own table pos) ≡ true → has_place (written own) table pos ≡ true
-place_found own table pos h = found_in_tables table pos 0 own table (zero-add table) h
+place_found own table pos h = by_item (item_at own table pos) refl h
+  where
+    by_item : (item : Option Cell) → item_at own table pos ≡ item → is_some item ≡ true → has_place (written own) table pos ≡ true
+    by_item None e h = absurd cc
+    by_item (Some cell) e h = any_by_place (λ (place : Place). place.table == table && place.pos == pos) place_at own table pos cell e
+        (or_left (table == table && pos == pos) false (and_from (table == table) (pos == pos) (eq-eqb table table refl) (eq-eqb pos pos refl)))
 
 -- ---- entries
 

@@ -33,7 +33,7 @@ IsSet kind.Delete = ⊥
 -- a position of a table is refused: by an opponent, or since a value that is set is out of range
 abbrev pub Refuses : WriteKind → ℕ → ℕ → Option Label → Cause → Type 0
 Refuses kind table pos opponent RolledBack = ⊥
-Refuses kind table pos opponent (Conflict of at other) = (table ≡ of) × (opponent ≡ Some other)
+Refuses kind table pos opponent (Conflict of at other) = (table ≡ of) × (opponent ≡ Some other) × (pos ≡ at)
 Refuses kind table pos opponent (Invalid of at other statement) = ⊥
 Refuses kind table pos opponent (Range of at) = (table ≡ of) × IsSet kind
 Refuses kind table pos opponent (Full of) = ⊥
@@ -46,7 +46,7 @@ judged_refuses : (kind : WriteKind) (table pos : ℕ) (opponent : Option Label) 
     → new_cell kind row ≡ cell
     → judged table pos opponent cell ≡ Err cause → Refuses kind table pos opponent cause
 judged_refuses kind table pos (Some other) row cell cause n e =
-    let same : Conflict table pos other ≡ cause = cc in subst (Refuses kind table pos (Some other)) same (refl, refl)
+    let same : Conflict table pos other ≡ cause = cc in subst (Refuses kind table pos (Some other)) same (refl, refl, refl)
 judged_refuses kind table pos None row None cause n e =
     let same : Range table pos ≡ cause = cc in subst (Refuses kind table pos None) same (refl, none_new kind row n)
 judged_refuses kind table pos None row (Some cell) cause n e = absurd cc

@@ -100,7 +100,7 @@ history_kept tables (entry ∷ order) (suc prefix) table pos h =
     (no_pair table pos entry (or_left (has_pair table pos entry) (list_any (has_pair table pos) order) h))
 
 -- what no entry from a rank on wrote is as it was there
-kept_since : (tables : Tables) (order : List Entry) (low prefix table pos : ℕ) → low ≤ prefix → list_any (has_pair table pos) (drop low order) ≡ false
+pub kept_since : (tables : Tables) (order : List Entry) (low prefix table pos : ℕ) → low ≤ prefix → list_any (has_pair table pos) (drop low order) ≡ false
     → item_at (history tables (take prefix order)) table pos ≡ item_at (history tables (take low order)) table pos
 kept_since tables order zero prefix table pos l h = history_kept tables order prefix table pos h
 kept_since tables order (suc low) zero table pos l h = absurd (omega arith)

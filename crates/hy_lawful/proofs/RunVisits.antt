@@ -34,7 +34,8 @@ use Rattle.hy_machine.specs.Turns.{ending_of, told_by, read_turn, write_turn}
 use Rattle.hy_replay.specs.Ran.{Ran, writes_at, changed_by, one}
 use Rattle.hy_bound.specs.Predicate.{truth_of}
 use Rattle.hy_lawful.specs.Outcomes.{committed_at}
-use Rattle.hy_lawful.specs.Refusing.{selects, goes_out, goes_out_at, WasRefused}
+use Rattle.hy_lawful.specs.Refusing.{goes_out, goes_out_at, WasRefused}
+use Rattle.hy_lawful.specs.Written.{would_write}
 use Rattle.hy_lawful.proofs.Refusals.{range_refuses, verdict_fails}
 use Rattle.hy_lawful.proofs.RunSweeps.{alike_over, writes_apart, writes_joined, range_joined, sweep_joined, sweep_same, sweep_below, verdict_alone}
 use Rattle.hy_lawful.proofs.RunAnswers.{AnswersNext}
@@ -168,7 +169,7 @@ swept_more setting state number begun given visited count kind pred table writes
 
 -- what a statement of this kind makes of the rows that it selects
 pub record Writes (statement : Bound) (kind : WriteKind) (pred : Condition) (table : ℕ) : Type 0 where
-  pub selects : (row : List Value) → truth_of pred row ≡ true → selects table (Some statement) (Some row) ≡ true
+  pub selects : (row : List Value) → truth_of pred row ≡ true → would_write table (Some statement) (Some row) ≡ true
   pub goes_out : (row : List Value) → truth_of pred row ≡ true → new_cell kind row ≡ None → goes_out table (Some statement) row ≡ true
 
 -- what stands behind the visited chunks is what the answered statements left
@@ -193,7 +194,7 @@ refused_run setting state number begun given visited count statement kind pred t
     range_refuses P table (verdict_at setting state number begun kind pred table) (visited * setting.rows) setting.rows cause
     (λ pos one from v.
     verdict_fails P kind pred table pos (opponent setting state number begun.prefix table pos) (item_at (over tables begun.own) table pos) one
-    (λ row other here t o. ap (selects table (Some statement)) here ∙ w.selects row t)
+    (λ row other here t o. ap (would_write table (Some statement)) here ∙ w.selects row t)
     (λ row here t n.
     let same : item_at (over tables given.own) table pos ≡ item_at (over tables begun.own) table pos =
     left_behind setting tables begun given visited count kind pred table pos s from in

@@ -1,6 +1,5 @@
--- A row out of range at a position is one of the rows that stand in its table, and one of the start where the position is
--- not written.
-use Rattle.std.proofs.Common.{◌≡◌, ℕ, zero, suc, List, [], ◌∷◌, Option, None, Some, Bool, true, false, is_some, get_or, cond, refl, ap, sym, ◌∙◌}
+-- A row out of range at a position is one of the rows that stand in its table.
+use Rattle.std.proofs.Common.{◌≡◌, ℕ, zero, suc, List, [], ◌∷◌, Option, None, Some, Bool, true, false, get_or, cond, refl, ap, ◌∙◌}
 use Rattle.std.specs.Prelude.{◌||◌}
 use Rattle.std.specs.List.{list_any}
 use Rattle.std.specs.Ordering.{is_lt}
@@ -12,13 +11,9 @@ use Rattle.hy_bound.specs.declared.Bound.{Bound}
 use Rattle.hy_bound.specs.Changes.{present}
 use Rattle.hy_meaning.specs.Statement.{rows_in}
 use Rattle.hy_machine.specs.Positions.{item_at}
-use Rattle.hy_machine.specs.Tables.{Cell, Tables, Own, over}
-use Rattle.hy_machine.specs.Writes.{written}
+use Rattle.hy_machine.specs.Tables.{Cell, Tables}
 use Rattle.hy_replay.specs.Laws.{bags_of}
-use Rattle.hy_lawful.specs.Passing.{has_place}
 use Rattle.hy_lawful.specs.Refusing.{goes_out, goes_out_at}
-use Rattle.hy_lawful.proofs.RunSweeps.{kept_item}
-use Rattle.hy_lawful.proofs.PrintedPlaces.{place_found}
 
 or_swapped : (a b c : Bool) → (a || (b || c)) ≡ (b || (a || c))
 or_swapped true true c = refl
@@ -60,16 +55,3 @@ pub out_in_bags : (table : ℕ) (statement : Option Bound) (tables : Tables) (po
 out_in_bags table statement tables pos h =
     ap (list_any (goes_out table statement)) (bag_at tables table)
     ∙ (any_sorted (goes_out table statement) (present (get_or tables table [])) ∙ out_in_cells table statement (get_or tables table []) pos h)
-
--- a row out of range among those that a transaction sees is its own, or one of its start
-pub written_or_out : (table pos : ℕ) (statement : Option Bound) (tables : Tables) (own : Own)
-    → goes_out_at table statement (item_at (over tables own) table pos) ≡ true
-    → (has_place (written own) table pos || goes_out_at table statement (item_at tables table pos)) ≡ true
-written_or_out table pos statement tables own h = by_own (item_at own table pos) refl
-  where
-    by_own : (item : Option Cell) → item_at own table pos ≡ item
-        → (has_place (written own) table pos || goes_out_at table statement (item_at tables table pos)) ≡ true
-    by_own None e = or_right (has_place (written own) table pos) (goes_out_at table statement (item_at tables table pos))
-        (ap (goes_out_at table statement) (sym (kept_item (λ (own : Cell). own) tables own table pos e)) ∙ h)
-    by_own (Some cell) e = or_left (has_place (written own) table pos) (goes_out_at table statement (item_at tables table pos))
-        (place_found own table pos (ap is_some e))

@@ -1,11 +1,13 @@
 -- What was refused was so for a cause.
-use Rattle.std.proofs.Common.{◌≡◌, ℕ, suc, ◌+◌, ◌<◌, ◌≤◌, List, Option, None, Some, false, inl, inr, length, map, take, drop, refl, ap, sym, ◌∙◌, subst, arith}
+use Rattle.std.proofs.Common.{◌≡◌, ℕ, suc, ◌+◌, ◌<◌, ◌≤◌, List, Option, None, Some, true, false, is_some}
+use Rattle.std.proofs.Common.{inl, inr, length, map, take, drop, refl, ap, sym, ◌∙◌, subst, arith}
 use Rattle.std.proofs.lemmas.Bool.{cases_Bool, ltb-true}
-use Rattle.std.specs.Prelude.{IsTrue, IsFalse, nat_lt, slice_get, ◌||◌}
+use Rattle.std.specs.Prelude.{IsTrue, IsFalse, nat_lt, slice_get, ◌||◌, ◌&&◌, ◌==◌, is_none}
 use Rattle.std.specs.List.{list_any}
 use Rattle.std.specs.Option.{IsSomeAnd}
 use Rattle.std.proofs.lemmas.List.{drop-map}
 use Rattle.hy_bound.specs.declared.Bound.{Bound}
+use Rattle.hy_bound.specs.declared.Bound.TheVariants.{Select, Group, Insert, Update, Delete}
 use Rattle.hy_bound.specs.declared.Record.{Record}
 use Rattle.hy_meaning.specs.Statement.{Database, rows_in}
 use Rattle.hy_meaning.specs.Serial.{Alone, alone_of}
@@ -16,6 +18,7 @@ use Rattle.hy_render.specs.declared.TxnOutcome.{TxnOutcome}
 use Rattle.hy_machine.specs.declared.Setting.{Setting}
 use Rattle.hy_machine.specs.declared.State.{State}
 use Rattle.hy_machine.specs.declared.Session.{Session}
+use Rattle.hy_machine.specs.declared.Begun.{Begun}
 use Rattle.hy_machine.specs.declared.Finished.{Finished}
 use Rattle.hy_machine.specs.Positions.{item_at}
 use Rattle.hy_machine.specs.Tables.{Cell, Tables, over}
@@ -30,12 +33,17 @@ use Rattle.hy_lawful.specs.Scripts.{statements_of}
 use Rattle.hy_lawful.specs.Outcomes.{outcome_at, committed_at, refused_statement}
 use Rattle.hy_lawful.specs.Reached.{EndedHasRun, statements_at}
 use Rattle.hy_lawful.specs.Databases.{database_at}
-use Rattle.hy_lawful.specs.Refusing.{IsRefusedBy, IsMetBy, WasRefused, selects, goes_out, goes_out_at}
+use Rattle.hy_lawful.specs.Refusing.{IsRefusedBy, IsMetBy, WasRefused, goes_out, goes_out_at}
+use Rattle.hy_lawful.specs.Written.{would_write, followed}
 use Rattle.hy_lawful.specs.Passing.{has_place}
+use Rattle.hy_lawful.specs.Cells.{cell_at as printed_at}
+use Rattle.hy_lawful.proofs.Booleans.{and_right}
 use Rattle.hy_lawful.specs.Overlaps.{reaches, may_overlap, is_below, stands_before}
 use Rattle.hy_lawful.proofs.Over.{HasEnded, HasCommitted, entry_committed, outcome_has}
 use Rattle.hy_lawful.proofs.FullOverlaps.{Overlap, swapped, overlap_told, reaches_told, Meets, label_has}
 use Rattle.hy_lawful.proofs.FullPassed.{EndRoom, Met, Rivals}
+use Rattle.hy_lawful.proofs.FullTables.{begun_ended, now_none}
+use Rattle.hy_lawful.proofs.FoundRows.{FoundRow}
 use Rattle.hy_lawful.proofs.FullSteps.{ended_room}
 use Rattle.hy_lawful.proofs.Fits.{Ends, IsInvalid, OpenFits, NowFits}
 use Rattle.hy_lawful.proofs.Followers.{done_fits}
@@ -47,7 +55,8 @@ use Rattle.hy_lawful.proofs.PassStates.{IsRefusal}
 use Rattle.hy_lawful.proofs.Lists.{one_of}
 use Rattle.hy_lawful.proofs.PrintedPlaces.{place_missing, place_found}
 use Rattle.hy_lawful.proofs.PassWritten.{HasWritten, by_ended, by_open, Names}
-use Rattle.hy_lawful.proofs.SerialRanges.{out_in_bags, written_or_out}
+use Rattle.hy_lawful.proofs.SerialRanges.{out_in_bags}
+use Rattle.hy_lawful.proofs.RangeRows.{out_followed}
 use Rattle.hy_lawful.proofs.RunSweeps.{kept_item}
 use Rattle.hy_lawful.proofs.SerialEnd.{answered_all}
 use Rattle.hy_lawful.proofs.SerialEnd.{ending_at, stands_committed, bags_at, order_of, end_passes, logs_alone, AtEnd, Laws}
@@ -121,10 +130,10 @@ not_below prefix ending h = by_rank (committed_at ending) refl
     ]
 
 -- at the end the one that a conflict names does not stand in the order before the start of the refused one
-rival_since : (setting : Setting) (state : State) → AtEnd setting state → (number before : ℕ) (finished : Finished) (other : Label)
-    → Rivals state number before finished.begun.prefix other
+rival_since : (setting : Setting) (state : State) → AtEnd setting state → (number before : ℕ) (finished : Finished) (table pos : ℕ) (other : Label)
+    → Rivals setting state number before finished.begun.prefix table pos other
     → IsSomeAnd (outcome_at (outcome_of setting state) other) (λ (rival : TxnOutcome). IsFalse (stands_before finished.begun.prefix rival))
-rival_since setting state end number before finished other h =
+rival_since setting state end number before finished table pos other h =
     let has : HasEnded state other =
     label_has setting state end.over other h.meets.after h.meets.begin h.meets.is h.meets.overlap.begins in
     subst (λ (o : Option TxnOutcome). IsSomeAnd o (λ (rival : TxnOutcome). IsFalse (stands_before finished.begun.prefix rival)))
@@ -132,6 +141,29 @@ rival_since setting state end number before finished other h =
     (not_below finished.begun.prefix has.finished.ending (λ rank e. h.since rank
     ((stands_committed setting state end other.session has.before has.finished rank (record { at = has.at; ending = e })).stands
     ∙ ap (λ (txn : ℕ). Some (record { session = other.session; txn = txn })) (sym has.is))))
+
+-- a row is selected
+row_selected : (table : ℕ) (statement : Option Bound) (cell : Cell) → would_write table statement cell ≡ true → is_some cell ≡ true
+row_selected table statement (Some row) e = refl
+row_selected table None None e = absurd cc
+row_selected table (Some (Select tables ons pred items)) None e = absurd cc
+row_selected table (Some (Group of pred key aggregate)) None e = absurd cc
+row_selected table (Some (Insert of row)) None e = absurd cc
+row_selected table (Some (Update of sets pred)) None e = and_right (of == table) false e
+row_selected table (Some (Delete of pred)) None e = and_right (of == table) false e
+
+-- at the end the one that a conflict names found a row at the position
+rival_found : (setting : Setting) (state : State) → AtEnd setting state → (other : Label) (table pos : ℕ) → FoundRow setting state other table pos
+    → IsSomeAnd (outcome_at (outcome_of setting state) other)
+    (λ (rival : TxnOutcome). IsTrue (is_some (printed_at setting (map committed_of state.order) rival.start table pos)))
+rival_found setting state end other table pos h =
+    let session : Session = session_at state other.session in
+    let found = begun_ended session.done session.now (now_none setting state end.over other.session session.now refl) h.after h.begun h.has in
+    subst (λ (o : Option TxnOutcome). IsSomeAnd o
+    (λ (rival : TxnOutcome). IsTrue (is_some (printed_at setting (map committed_of state.order) rival.start table pos))))
+    (sym (outcome_found setting state other h.after found.0 h.is found.1.0))
+    (ap is_some (printed_is setting state.order (order_of setting state end) found.0.begun.prefix table pos)
+    ∙ (ap (λ (begun : Begun). is_some (item_at (snapshot setting state begun.prefix) table pos)) found.1.1 ∙ h.row))
 
 -- at the end the one that a hit names has committed, at a rank that came before the refused one ended
 named_met : (setting : Setting) (state : State) → AtEnd setting state → (number before : ℕ) (finished : Finished) (other : Label)
@@ -160,22 +192,24 @@ refused_by laws setting state end number before finished at Read e = tt
 refused_by laws setting state end number before finished at RolledBack e = tt
 refused_by laws setting state end number before finished at (Conflict table pos other) e =
     let has : EndedHasRun setting state number before finished = end.ran number before finished at in
-    let rivals : Rivals state number before finished.begun.prefix other =
+    let rivals : Rivals setting state number before finished.begun.prefix table pos other =
     subst (EndRoom setting state number before finished.begun.prefix) e (ended_room setting state end.reached number before finished at) in
     let free : item_at finished.begun.own table pos ≡ None =
     subst (IsRefusal state.order finished.begun) e (end_passes setting state end number before finished at).1 in
+    let statement : Option Bound = refused_statement setting.programs (txn_outcome_of setting number before finished) in
+    let selected : would_write table statement (item_at (snapshot setting state finished.begun.prefix) table pos) ≡ true =
+    ap (would_write table statement)
+    (sym (kept_item (λ (own : Cell). own) (snapshot setting state finished.begun.prefix) finished.begun.own table pos free))
+    ∙ subst (WasRefused (over (snapshot setting state finished.begun.prefix) finished.begun.own)
+    (over (snapshot setting state finished.begun.prefix) has.given.own) statement) e (refused_over setting state end number before finished at) in
     record {
-      selects = ap (selects table (refused_statement setting.programs (txn_outcome_of setting number before finished)))
-          (printed_is setting state.order (order_of setting state end) finished.begun.prefix table pos
-          ∙ sym (kept_item (λ (own : Cell). own) (snapshot setting state finished.begun.prefix) finished.begun.own table pos free))
-          ∙ subst (WasRefused (over (snapshot setting state finished.begun.prefix) finished.begun.own)
-          (over (snapshot setting state finished.begun.prefix) has.given.own)
-          (refused_statement setting.programs (txn_outcome_of setting number before finished))) e
-          (refused_over setting state end number before finished at);
+      selects = ap (would_write table statement) (printed_is setting state.order (order_of setting state end) finished.begun.prefix table pos) ∙ selected;
       not_own = place_missing finished.begun.own table pos free;
       wrote = rival_wrote setting state end other table pos (subst (Names state) e (end_names setting state end number before finished at));
+      found = rival_found setting state end other table pos
+          (rivals.found (row_selected table statement (item_at (snapshot setting state finished.begun.prefix) table pos) selected));
       overlaps = rival_overlaps setting state end number before finished at other rivals.meets;
-      not_before = rival_since setting state end number before finished other rivals;
+      not_before = rival_since setting state end number before finished table pos other rivals;
     }
 refused_by laws setting state end number before finished at (Invalid table pos other statement) e =
     let invalid : IsInvalid setting state.order (txn_outcome_of setting number before finished) other statement =
@@ -193,6 +227,8 @@ refused_by laws setting state end number before finished at (Invalid table pos o
 refused_by laws setting state end number before finished at (Range table pos) e =
     let has : EndedHasRun setting state number before finished = end.ran number before finished at in
     let tables : Tables = snapshot setting state finished.begun.prefix in
+    let many : ℕ = length finished.begun.replies in
+    let label : Label = record { session = number; txn = suc before } in
     let statement : Option Bound = refused_statement setting.programs (txn_outcome_of setting number before finished) in
     let refused : WasRefused (over tables finished.begun.own) (over tables has.given.own) statement (Range table pos) =
     subst (WasRefused (over tables finished.begun.own) (over tables has.given.own) statement) e (refused_over setting state end number before finished at) in
@@ -200,8 +236,12 @@ refused_by laws setting state end number before finished at (Range table pos) e 
       some = ap (λ (one : Alone). list_any (goes_out table statement) (rows_in one.database table))
           (answered_alone laws setting state end number before finished at)
           ∙ out_in_bags table statement (over tables has.given.own) pos refused.0;
-      here = ap (λ (cell : Cell). has_place (written finished.begun.own) table pos || goes_out_at table statement cell)
+      here = ap (λ (cell : Cell). goes_out_at table statement (followed table (take many (statements_of setting.programs label)) cell)
+          || (is_none cell && has_place (written finished.begun.own) table pos))
           (printed_is setting state.order (order_of setting state end) finished.begun.prefix table pos)
-          ∙ written_or_out table pos statement tables finished.begun.own (ap (goes_out_at table statement) (sym refused.1) ∙ refused.0);
+          ∙ (ap (λ (statements : List Bound). goes_out_at table statement (followed table (take many statements) (item_at tables table pos))
+          || (is_none (item_at tables table pos) && has_place (written finished.begun.own) table pos)) (statements_behind setting label before refl)
+          ∙ out_followed setting tables (take many (statements_at setting number before)) finished.begun.took has.given finished.begun.own table pos statement
+          (tables_are setting state.order finished.begun.prefix) has.has_run.came_to refused.0 refused.1);
     }
 refused_by laws setting state end number before finished at (Full table) e = tt

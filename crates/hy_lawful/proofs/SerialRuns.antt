@@ -32,7 +32,8 @@ use Rattle.hy_lawful.specs.Databases.{alone_at, database_at}
 use Rattle.hy_lawful.specs.Refusing.{IsRefusedBy}
 use Rattle.hy_lawful.specs.Serial.{AreFirstOf, IsSerial, RepliesAreOfStart, ReplaysAt}
 use Rattle.hy_lawful.specs.Passing.{PassesBy, ChangesLieIn}
-use Rattle.hy_lawful.specs.Written.{ReadersWriteNothing, PlacesWhatItInserts, WritesWhatItPlaces, WritesWhatItSelects, LeavesWhatFollows}
+use Rattle.hy_lawful.specs.Written.{ReadersWriteNothing, PlacesWhatItInserts, WritesWhatItPlaces, WritesWhatItSelects}
+use Rattle.hy_lawful.specs.Written.{ChangesWhatWasWritten, LeavesWhatFollows}
 use Rattle.hy_lawful.specs.Laws.{SerialRuns}
 use Rattle.hy_lawful.proofs.Followers.{done_fits}
 use Rattle.hy_lawful.proofs.Outcomes.{each_outcome}
@@ -50,6 +51,7 @@ use Rattle.hy_lawful.proofs.SerialEnd.{ending_at, transactions_length, stands_co
 use Rattle.hy_lawful.proofs.SerialEnd.{history_of, bags_at, order_of, end_passes, logs_alone, AtEnd, Laws, Commits}
 use Rattle.hy_lawful.proofs.SerialRefusals.{refused_by}
 use Rattle.hy_lawful.proofs.WroteStates.{ended_wrote}
+use Rattle.hy_lawful.proofs.KeptChanges.{changes_what_was_written}
 use Rattle.hy_lawful.proofs.WroteSerial.{IsEnded, reader_wrote, inserts_placed, news_placed, selected_written, entry_leaves}
 
 -- ---- the clauses
@@ -129,6 +131,17 @@ entry_there setting state end number before finished at =
     IfSome_then (committed_at finished.ending) (end_passes setting state end number before finished at).0
     (λ rank p. lies_in setting state.order finished.begun rank p)
 
+-- and all of it that had a row at the start
+entry_changed : (setting : Setting) (state : State) → AtEnd setting state → (number before : ℕ) (finished : Finished)
+    → slice_get (session_at state number).done before ≡ Some finished → (rank : Option ℕ) → committed_at finished.ending ≡ rank
+    → IfSome rank (λ (rank : ℕ). IsSomeAnd (slice_get (map committed_of state.order) rank)
+    (ChangesWhatWasWritten setting (map committed_of state.order) (txn_outcome_of setting number before finished)))
+entry_changed setting state end number before finished at None e = tt
+entry_changed setting state end number before finished at (Some rank) e =
+    let c : Commits setting state number before finished rank = record { at = at; ending = ending_at finished.ending rank e } in
+    changes_what_was_written setting state.order (order_of setting state end) finished.begun rank
+    (stands_committed setting state end number before finished rank c).later (passed_at setting state end number before finished rank c)
+
 -- what is known of what an ended transaction wrote
 is_ended : (setting : Setting) (state : State) → AtEnd setting state → (number before : ℕ) (finished : Finished)
     → slice_get (session_at state number).done before ≡ Some finished → IsEnded setting state.order number before finished
@@ -162,6 +175,9 @@ end_serial laws setting state end = record {
       (λ (txn : TxnOutcome). IfSome (committed_at txn.ending)
       (λ (rank : ℕ). IsSomeAnd (slice_get (map committed_of state.order) rank) (ChangesLieIn txn.wrote)))
       state (entry_there setting state end);
+  changed = each_outcome setting (λ (txn : TxnOutcome). IfSome (committed_at txn.ending)
+      (λ (rank : ℕ). IsSomeAnd (slice_get (map committed_of state.order) rank) (ChangesWhatWasWritten setting (map committed_of state.order) txn))) state
+      (λ number before finished at. entry_changed setting state end number before finished at (committed_at finished.ending) refl);
   refusals = each_outcome setting (λ (txn : TxnOutcome). IsRefusedBy setting (outcome_of setting state) txn txn.ending) state
       (λ number before finished at. refused_by laws setting state end number before finished at finished.ending refl);
   changes = changes_at setting state.order (order_of setting state end);

@@ -76,12 +76,12 @@ blank_item n [] table pos = refl
 blank_item n (one ∷ rows) zero pos = blank_cell n pos
 blank_item n (one ∷ rows) (suc table) pos = blank_item n rows table pos
 
-row_at : (setting : Setting) (tables : Tables) (table pos : ℕ) (row : List Value) → AreTables setting tables → item_at tables table pos ≡ Some row
+pub row_at : (setting : Setting) (tables : Tables) (table pos : ℕ) (row : List Value) → AreTables setting tables → item_at tables table pos ≡ Some row
     → IsRowAt setting tables table pos row
 row_at setting tables table pos row are e =
     record { are = are; row_is = e; below = (row_there tables (capacity setting) table pos row are.long e).below }
 
-starts_so : (setting : Setting) (tables : Tables) (table pos : ℕ) (row : List Value) → IsRowAt setting tables table pos row
+pub starts_so : (setting : Setting) (tables : Tables) (table pos : ℕ) (row : List Value) → IsRowAt setting tables table pos row
     → StandsSo setting (blank_own setting) table pos row (Some row) false
 starts_so setting tables table pos row is =
     let there : IsThere tables (capacity setting) table pos = row_there tables (capacity setting) table pos row is.are.long is.row_is in
@@ -197,7 +197,7 @@ written_so setting tables statements begun given table pos row cell wrote is s (
 written_so setting tables statements begun given table pos row cell wrote is s (Full of) h = own_so setting begun given table pos row cell wrote s h
 
 -- a position is among the places where something was written
-place_is : (own : Own) (table pos : ℕ) (item : Option Cell) → item_at own table pos ≡ item → has_place (written own) table pos ≡ is_some item
+pub place_is : (own : Own) (table pos : ℕ) (item : Option Cell) → item_at own table pos ≡ item → has_place (written own) table pos ≡ is_some item
 place_is own table pos None e = place_missing own table pos e
 place_is own table pos (Some cell) e = place_found own table pos (ap is_some e)
 

@@ -13,3 +13,4 @@ pub mod Rooms
 pub mod Serial
 pub mod Reached
 pub mod Laws
+pub mod EffectRows

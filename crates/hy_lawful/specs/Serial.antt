@@ -13,7 +13,8 @@ use Rattle.hy_lawful.specs.Cells.{bags_at, IsChangeAt}
 use Rattle.hy_lawful.specs.Databases.{database_at, alone_at, logged_by}
 use Rattle.hy_lawful.specs.Passing.{PassesBy, ChangesLieIn}
 use Rattle.hy_lawful.specs.Refusing.{IsRefusedBy}
-use Rattle.hy_lawful.specs.Written.{ReadersWriteNothing, PlacesWhatItInserts, WritesWhatItPlaces, LeavesWhatFollows, WritesWhatItSelects}
+use Rattle.hy_lawful.specs.Written.{ReadersWriteNothing, PlacesWhatItInserts, WritesWhatItPlaces, WritesWhatItSelects}
+use Rattle.hy_lawful.specs.Written.{ChangesWhatWasWritten, LeavesWhatFollows}
 
 -- some replies are the first of others
 abbrev pub AreFirstOf : List Reply → List Reply → Type 0
@@ -41,6 +42,10 @@ pub record IsSerial (setting : Setting) (outcome : Outcome) : Type 0 where
   -- at the rank of a committed transaction stands its entry: what this changes the transaction wrote
   pub entries : AllByRecursion
       (λ (txn : TxnOutcome). IfSome (committed_at txn.ending) (λ (rank : ℕ). IsSomeAnd (slice_get outcome.order rank) (ChangesLieIn txn.wrote))) outcome.txns
+  -- it changes each position that the transaction wrote where a row stood at its start
+  pub changed : AllByRecursion
+      (λ (txn : TxnOutcome). IfSome (committed_at txn.ending)
+      (λ (rank : ℕ). IsSomeAnd (slice_get outcome.order rank) (ChangesWhatWasWritten setting outcome.order txn))) outcome.txns
   -- a transaction that was refused was so for a cause
   pub refusals : AllByRecursion (λ (txn : TxnOutcome). IsRefusedBy setting outcome txn txn.ending) outcome.txns
   -- every change starts from what stands at its position

@@ -1,5 +1,6 @@
 -- What a transaction writes: each row that stood at its start is followed through its statements.
-use Rattle.std.specs.Prelude.{◌≡◌, ℕ, ◌*◌, ◌/◌, List, [], ◌∷◌, Bool, true, false, ◌&&◌, ◌||◌, ◌==◌, nat_lt, IfSome, Option, None, Some, is_none, if◌then◌else◌}
+use Rattle.std.specs.Prelude.{◌≡◌, ℕ, ◌*◌, ◌/◌, List, [], ◌∷◌, Bool, true, false, ◌&&◌, ◌||◌, ◌==◌, nat_lt, IsTrue, IfSome}
+use Rattle.std.specs.Prelude.{Option, None, Some, is_none, if◌then◌else◌}
 use Rattle.std.specs.Prelude.{zip, count_by, length, take, map, option_and_then}
 use Rattle.std.specs.List.{list_any, range_with_len}
 use Rattle.hy_bound.specs.declared.Bound.{Bound}
@@ -21,6 +22,7 @@ use Rattle.hy_lawful.specs.Outcomes.{refused_statement}
 use Rattle.hy_lawful.specs.Endings.{inserts}
 use Rattle.hy_lawful.specs.Cells.{cell_at}
 use Rattle.hy_lawful.specs.Passing.{has_place}
+use Rattle.hy_lawful.specs.Positions.{places_of}
 
 -- ---- transactions that write nothing
 
@@ -133,6 +135,11 @@ has_written setting txn table pos cell = some_writes table (answered_statements 
 abbrev pub WritesWhatItSelects : Setting → List Entry → TxnOutcome → Type 0
 WritesWhatItSelects setting order txn = (table pos : ℕ)
     → IfSome (cell_at setting order txn.start table pos) (λ row. has_place txn.wrote table pos ≡ has_written setting txn table pos (Some row))
+
+-- an entry changes each position that a transaction wrote where a row stood at its start
+abbrev pub ChangesWhatWasWritten : Setting → List Entry → TxnOutcome → Entry → Type 0
+ChangesWhatWasWritten setting order txn entry = (table pos : ℕ) → IsTrue (has_place txn.wrote table pos)
+    → IfSome (cell_at setting order txn.start table pos) (λ row. IsTrue (has_place (places_of entry.changes) table pos))
 
 -- a change of a committed transaction at a position where a row stood at its start leaves that row, followed through
 -- its statements

@@ -14,8 +14,8 @@ mod states;
 use hy_machine::runs_are_steps;
 use hy_replay::{a_run_keeps_widths, a_run_over_cells_is_alone, what_is_unseen_leaves_a_run};
 pub use states::{
-    inserts_take_what_is_placed, open_ones_may_overlap, the_committed_passed_unseen,
-    transactions_have_run,
+    inserts_count_positions, inserts_take_what_is_placed, open_ones_may_overlap, rows_are_followed,
+    the_committed_passed_unseen, transactions_have_run,
 };
 
 /// Whatever the script and the schedule, what the machine makes of them is lawful: every transaction has its outcome
@@ -25,9 +25,11 @@ pub use states::{
 /// of a committed one are all that it gets alone over the rows that the commits before its own leave, and the final
 /// tables are those of the whole order. The printed changes tell the rows at every rank, each change starting from what
 /// stands at its position. What committed between the start of a committed transaction and its own commit passes by
-/// what it wrote and by what it logs alone. What was refused was so for a cause: the first hit of what it logs alone, a
-/// row that it selects at a position that the transaction which is named has written, or a value out of range. Whatever
-/// a transaction wrote is what its statements select and place, and who only reads writes nothing.
+/// what it wrote and by what it logs alone; its own entry changes only positions that it wrote, and each of these where a
+/// row stood at its start. What was refused was so for a cause: the first hit of what it logs alone; a row that it
+/// selects, at a position where the transaction which is named found one too and has written; or a value out of range,
+/// of a row as its answered statements left it. Whatever a transaction wrote is what its statements select and place, and
+/// who only reads writes nothing.
 pub fn runs_are_lawful()
     ensures lawful { (setting : Setting) (schedule : List Item) → Lawful setting (outcome_of setting (run_of setting schedule)) }
     ensures serial { SerialRuns }

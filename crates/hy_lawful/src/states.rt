@@ -1,8 +1,9 @@
-//! What holds of every state that the machine comes to.
+//! What holds of every state that the machine comes to, and of what its transactions did.
 
 ghost use Rattle.hy_lawful.specs.Reached.{ReachedHaveRun, ReachedPassUnseen};
 ghost use Rattle.hy_lawful.specs.Overlaps.{OpenOnesOverlap};
 ghost use Rattle.hy_lawful.specs.Rooms.{ReachedPlaced};
+ghost use Rattle.hy_lawful.specs.EffectRows.{InsertsCountPositions, RowsAreFollowed};
 
 /// What a transaction did until it ended is what its answered statements come to over the tables of its start, each
 /// INSERT at the position that it took: its replies, its records, and where it committed its writes.
@@ -25,4 +26,16 @@ pub fn open_ones_may_overlap()
 /// A transaction that has ended placed no more positions of a table than its INSERTs took.
 pub fn inserts_take_what_is_placed()
     ensures { ReachedPlaced }
+{}
+
+/// Of each table, the statements of a transaction write as many positions without a row as their INSERTs took: an UPDATE
+/// or a DELETE writes only positions where a row stood, or that the transaction had written.
+pub fn inserts_count_positions()
+    ensures { InsertsCountPositions }
+{}
+
+/// A row that stood at the start of a transaction is written by it exactly where one of its statements selects the row as
+/// the statements before left it, and then what it wrote is the row followed through all of them.
+pub fn rows_are_followed()
+    ensures { RowsAreFollowed }
 {}

@@ -11,3 +11,5 @@ pub mod Bags
 pub mod BagReads
 pub mod BagMeanings
 pub mod Gathered
+pub mod CellShows
+pub mod CellColumns

@@ -1,2 +1,3 @@
 pub mod Bags
 pub mod Gathered
+pub mod CellShown

@@ -45,7 +45,7 @@ pub record HasShape {A : Type 0} (lists : List (List A)) (count positions : ℕ)
   pub lists_are : length lists ≡ count
   pub items_are : (table : ℕ) → table < count → length (get_or lists table []) ≡ positions
 
-got : {X : Type 0} (P : X → Type 0) (xs : List X) (i : ℕ) (d : X) → AllByRecursion P xs → i < length xs → P (get_or xs i d)
+pub got : {X : Type 0} (P : X → Type 0) (xs : List X) (i : ℕ) (d : X) → AllByRecursion P xs → i < length xs → P (get_or xs i d)
 got P [] i d h below = absurd (omega arith)
 got P (x ∷ xs) zero d h below = h.0
 got P (x ∷ xs) (suc i) d h below = got P xs i d h.1 (omega arith)

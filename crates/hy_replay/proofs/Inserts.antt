@@ -62,7 +62,7 @@ any_alike f g same [] = refl
 any_alike f g same (x ∷ xs) = rw (same x, any_alike f g same xs) refl
 
 -- an INSERT finds its key in both, or in neither
-found_again : SelectsByRead → (setting : Setting) (tables others : Tables) (own later : Own) (number table : ℕ) (row : List Value)
+pub found_again : SelectsByRead → (setting : Setting) (tables others : Tables) (own later : Own) (number table : ℕ) (row : List Value)
     → BothFit setting tables others → FitsOwn setting own → DifferUnseen tables others later (records_of setting.shapes number (Insert table row) [])
     → has_key_at setting (over others own) table row ≡ has_key_at setting (over tables own) table row
 found_again selects setting tables others own later number table row fit fits unseen =

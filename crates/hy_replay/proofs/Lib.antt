@@ -17,3 +17,8 @@ pub mod BagUpdates
 pub mod BagInserts
 pub mod BagStatements
 pub mod Alones
+pub mod EffectSweeps
+pub mod EffectVisits
+pub mod EffectUnseen
+pub mod EffectResults
+pub mod EffectOwn

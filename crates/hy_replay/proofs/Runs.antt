@@ -13,7 +13,7 @@ use Rattle.hy_bound.specs.Fits.{FitsShape, FitsStatement}
 use Rattle.hy_bound.specs.Records.{no_shape, shape_of}
 use Rattle.hy_machine.specs.declared.Setting.{Setting}
 use Rattle.hy_machine.specs.Positions.{item_at}
-use Rattle.hy_machine.specs.Tables.{Tables, Own, capacity, over}
+use Rattle.hy_machine.specs.Tables.{Tables, Own, capacity}
 use Rattle.hy_machine.specs.Writes.{blank_own}
 use Rattle.hy_replay.specs.Laws.{AreTables, HaveWidths, DifferUnseen, RunsAgain, RunsKeepWidths}
 use Rattle.hy_replay.specs.Ran.{One, one, Ran, after_one, ran_from}
@@ -32,7 +32,7 @@ fits_key : (shape : Shape) → FitsShape shape → HasItsKey shape × (shape.wid
 fits_key shape fits = (fits.key, fits.few)
 
 -- a table that isn't there has no key and no columns
-shapes_fit : (shapes : List Shape) → All FitsShape shapes → ShapesFit shapes
+pub shapes_fit : (shapes : List Shape) → All FitsShape shapes → ShapesFit shapes
 shapes_fit shapes fit table = elim (cases_lt table (length shapes)) [
   | inl there ↦ fits_key (shape_of shapes table) (fit table no_shape there)
   | inr past ↦ subst (λ (shape : Shape). HasItsKey shape × (shape.width ≤ 32)) (sym (get_or_past shapes table no_shape past))
@@ -152,7 +152,7 @@ runs_again keeps replies selects setting tables others statements took given sha
 
 -- ---- widths
 
-run_fits : (setting : Setting) (tables : Tables) (own : Own) (number : ℕ) (statements : List Bound) (took : List (Option ℕ)) (given : Ran)
+pub run_fits : (setting : Setting) (tables : Tables) (own : Own) (number : ℕ) (statements : List Bound) (took : List (Option ℕ)) (given : Ran)
     → All (FitsStatement setting.shapes) statements → AreTables setting tables → HaveWidths setting.shapes tables → FitsOwn setting own
     → ran_from setting tables own number statements took ≡ Some given → FitsOwn setting given.own
 run_fits setting tables own number [] took given stand are wide fits e =

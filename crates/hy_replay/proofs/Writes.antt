@@ -109,6 +109,28 @@ verdict_again selects shape kind number table sets pred pos later few before aft
           ∙ left_alone kind pred table pos before left),
     )
 
+-- what is written is the same
+pub written_again : SelectsByRead → (setting : Setting) (tables others : Tables) (own : Own) (kind : WriteKind) (number table : ℕ)
+    (sets : List Assign) (pred : Condition) (positions : List ℕ) (writes : List Write) → BothFit setting tables others → FitsOwn setting own
+    → writes_at kind pred (over tables own) table positions ≡ Ok writes
+    → DifferUnseen tables others (with_writes own writes) (write_record number (shape_of setting.shapes table) table sets pred ∷ [])
+    → writes_at kind pred (over others own) table positions ≡ Ok writes
+written_again selects setting tables others own kind number table sets pred positions writes fit fits e unseen =
+    let shape : Shape = shape_of setting.shapes table in
+    let later : Own = with_writes own writes in
+    let differ : DifferUnseen (over tables own) (over others own) later (write_record number shape table sets pred ∷ []) =
+    over_unseen setting tables others own later (write_record number shape table sets pred ∷ []) fit fits unseen in
+    let within : AllByRecursion (IsWithin (length setting.first) (capacity setting)) writes =
+    all_second (FitsWrite setting) (IsWithin (length setting.first) (capacity setting)) writes
+    (written_good setting tables own kind pred table positions writes fit.are fit.wide fits e) in
+    sweep_again table (λ pos. verdict kind pred table pos None (item_at (over tables own) table pos))
+    (λ pos. verdict kind pred table pos None (item_at (over others own) table pos)) (λ at pos. item_at later at pos ≡ None)
+    (λ pos. verdict_again selects shape kind number table sets pred pos later (fit.shapes table).1
+    (item_at (over tables own) table pos) (item_at (over others own) table pos)
+    (width_at shape.width (get_or (over tables own) table []) (widths_over setting tables others own fit fits table) pos)
+    (width_at shape.width (get_or (over others own) table []) (others_widths_over setting tables others own fit fits table) pos) (differ table pos))
+    positions writes e (writes_own own writes (length setting.first) (capacity setting) fits.shape within)
+
 pub changed_again : SelectsByRead → (setting : Setting) (tables others : Tables) (own : Own) (kind : WriteKind) (number table : ℕ)
     (sets : List Assign) (pred : Condition) (given : One) → BothFit setting tables others → FitsOwn setting own
     → changed_by own kind (write_record number (shape_of setting.shapes table) table sets pred ∷ [])
@@ -117,22 +139,10 @@ pub changed_again : SelectsByRead → (setting : Setting) (tables others : Table
     → changed_by own kind (write_record number (shape_of setting.shapes table) table sets pred ∷ [])
     (writes_at kind pred (over others own) table (range_with_len 0 (capacity setting))) ≡ Some given
 changed_again selects setting tables others own kind number table sets pred given fit fits e unseen =
-    let shape : Shape = shape_of setting.shapes table in
-    let records : List Record = write_record number shape table sets pred ∷ [] in
+    let records : List Record = write_record number (shape_of setting.shapes table) table sets pred ∷ [] in
     let positions : List ℕ = range_with_len 0 (capacity setting) in
     let parts = changed_is own kind records (writes_at kind pred (over tables own) table positions) given e in
-    let later : Own = with_writes own parts.0 in
-    let differ : DifferUnseen (over tables own) (over others own) later records = over_unseen setting tables others own later records fit fits
-    (subst (λ (one : One). DifferUnseen tables others one.own one.records) (sym parts.1.1) unseen) in
-    let within : AllByRecursion (IsWithin (length setting.first) (capacity setting)) parts.0 =
-    all_second (FitsWrite setting) (IsWithin (length setting.first) (capacity setting)) parts.0
-    (written_good setting tables own kind pred table positions parts.0 fit.are fit.wide fits parts.1.0) in
-    let again : writes_at kind pred (over others own) table positions ≡ Ok parts.0 =
-    sweep_again table (λ pos. verdict kind pred table pos None (item_at (over tables own) table pos))
-    (λ pos. verdict kind pred table pos None (item_at (over others own) table pos)) (λ at pos. item_at later at pos ≡ None)
-    (λ pos. verdict_again selects shape kind number table sets pred pos later (fit.shapes table).1
-    (item_at (over tables own) table pos) (item_at (over others own) table pos)
-    (width_at shape.width (get_or (over tables own) table []) (widths_over setting tables others own fit fits table) pos)
-    (width_at shape.width (get_or (over others own) table []) (others_widths_over setting tables others own fit fits table) pos) (differ table pos))
-    positions parts.0 parts.1.0 (writes_own own parts.0 (length setting.first) (capacity setting) fits.shape within) in
-    ap (changed_by own kind records) again ∙ ap Some parts.1.1
+    ap (changed_by own kind records)
+    (written_again selects setting tables others own kind number table sets pred positions parts.0 fit fits parts.1.0
+    (subst (λ (one : One). DifferUnseen tables others one.own one.records) (sym parts.1.1) unseen))
+    ∙ ap Some parts.1.1

@@ -1,3 +1,5 @@
 pub mod Ran
 pub mod Laws
 pub mod BagLaws
+pub mod EffectUnseen
+pub mod EffectVisits

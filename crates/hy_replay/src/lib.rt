@@ -3,7 +3,9 @@
 #![tactic(auto)]
 
 mod bags;
+mod effects;
 mod unseen;
 
 pub use bags::a_run_over_cells_is_alone;
+pub use effects::{a_run_leaves_own_writes, visits_add_up, what_is_unseen_leaves_a_statement};
 pub use unseen::{a_run_keeps_widths, what_is_unseen_leaves_a_run};

@@ -27,6 +27,7 @@ use Rattle.hy_gen.specs.Made.{made}
 use Rattle.hy_bank.specs.Fitting.{MadeFits}
 use Rattle.hy_bank.specs.Bank.{all_money}
 use Rattle.hy_bank.specs.Outcomes.{IsToldTheMoney, MadeOutcomesKeepTheMoney, MadeAuditsTellTheMoney}
+use Rattle.hy_bank.specs.Endings.{EndInFourWays, EndingsAddUp, MadeEndInFourWays, MadeEndingsAddUp}
 use Rattle.hy_render.specs.Summary.{balances}
 use Rattle.std.specs.List.{AllByRecursion}
 use Rattle.std.specs.Prelude.{pos}
@@ -209,10 +210,19 @@ HasTheMoney given = balances given.tables ≡ pos all_money
 abbrev AuditsAreTold : Script → Outcome → Type 0
 AuditsAreTold script given = AllByRecursion (IsToldTheMoney (setting_at script).programs) given.txns
 
+-- its transactions end in four ways, whose counts add up
+abbrev EndsInFourWays : Outcome → Type 0
+EndsInFourWays given = EndInFourWays given.txns
+
+abbrev CountsAddUp : Outcome → Type 0
+CountsAddUp given = EndingsAddUp given.txns
+
 -- the bank's laws
 pub record BankLaws : Type 0 where
   pub money : MadeOutcomesKeepTheMoney
   pub audits : MadeAuditsTellTheMoney
+  pub endings : MadeEndInFourWays
+  pub counts : MadeEndingsAddUp
 
 -- a made script was not run, for want of memory
 no_memory_made : (command : Command) (script : Script) (status : ℕ) (given : Option Outcome) (before after : Option (List ℕ)) → status ≡ 5 → IsNone given
@@ -224,6 +234,8 @@ no_memory_made command script status given before after five nothing =
       serial = no_outcome (IsSerial (setting_at script)) given nothing;
       money = no_outcome HasTheMoney given nothing;
       audits = no_outcome (AuditsAreTold script) given nothing;
+      endings = no_outcome EndsInFourWays given nothing;
+      counts = no_outcome CountsAddUp given nothing;
     }
 
 -- what is made fits, and is of tables that have chunks
@@ -231,9 +243,10 @@ pub made_fits : (seed sessions txns : ℕ) → MadeFits seed sessions txns → F
 unfolding made
 made_fits seed sessions txns fits = record { fits = fits; chunked = omega arith }
 
-summarized_makes : (seed sessions txns : ℕ) (status : ℕ) (given : Option Outcome) (before after : Option (List ℕ)) → Theorem → BankLaws → FitsAsRead (made seed sessions txns)
-    → Summarizes (made seed sessions txns) status given before after → Makes (Gen seed sessions txns) (made seed sessions txns) status given before after
-summarized_makes seed sessions txns status given before after law bank fit ran =
+summarized_makes : (seed sessions txns : ℕ) → sessions ≤ 64 → txns ≤ 1000 → (status : ℕ) (given : Option Outcome) (before after : Option (List ℕ))
+    → Theorem → BankLaws → FitsAsRead (made seed sessions txns) → Summarizes (made seed sessions txns) status given before after
+    → Makes (Gen seed sessions txns) (made seed sessions txns) status given before after
+summarized_makes seed sessions txns few short status given before after law bank fit ran =
     let script : Script = made seed sessions txns in
     let o : Outcome = comes_to script in
     let lawful : Lawful (setting_at script) o = law.lawful (setting_at script) script.schedule in
@@ -244,15 +257,19 @@ summarized_makes seed sessions txns status given before after law bank fit ran =
       serial = given_outcome (IsSerial (setting_at script)) given o ran.outcome_is serial;
       money = given_outcome HasTheMoney given o ran.outcome_is (bank.money seed sessions txns o lawful serial);
       audits = given_outcome (AuditsAreTold script) given o ran.outcome_is (bank.audits seed sessions txns o lawful serial);
+      endings = given_outcome EndsInFourWays given o ran.outcome_is (bank.endings seed sessions txns few short o lawful serial);
+      counts = given_outcome CountsAddUp given o ran.outcome_is (bank.counts seed sessions txns few short o lawful serial);
     }
 
 -- what was done with a made script
-pub made_answers : (seed sessions txns : ℕ) (script : Script) (status : ℕ) (given : Option Outcome) (before after : Option (List ℕ)) → Theorem → BankLaws → FitsAsRead (made seed sessions txns)
-    → script ≡ made seed sessions txns → ((status ≡ 5) × IsNone given) ⊎ Summarizes script status given before after
+pub made_answers : (seed sessions txns : ℕ) → sessions ≤ 64 → txns ≤ 1000 → (script : Script) (status : ℕ) (given : Option Outcome)
+    (before after : Option (List ℕ)) → Theorem → BankLaws → FitsAsRead (made seed sessions txns) → script ≡ made seed sessions txns
+    → ((status ≡ 5) × IsNone given) ⊎ Summarizes script status given before after
     → Makes (Gen seed sessions txns) (made seed sessions txns) status given before after
-made_answers seed sessions txns script status given before after law bank fit is done =
+made_answers seed sessions txns few short script status given before after law bank fit is done =
     ⊎_elim (λ p. no_memory_made (Gen seed sessions txns) (made seed sessions txns) status given before after p.0 p.1)
-    (λ ran. summarized_makes seed sessions txns status given before after law bank fit (subst (λ (x : Script). Summarizes x status given before after) is ran)) done
+    (λ ran. summarized_makes seed sessions txns few short status given before after law bank fit
+    (subst (λ (x : Script). Summarizes x status given before after) is ran)) done
 
 -- memory ran out before anything was done
 pub nothing_read : (asked : Option Command) (before after : Option (List ℕ))
@@ -281,7 +298,7 @@ nothing_answered (Some command) (Some all) held = λ none. inr (nothing_answers 
 
 nothing_made_by : {S : Type 0} (command : Command) (made : Option Script) (held : Option (List ℕ)) (old : S) → IfSome made (λ script. (old ≡ old) × Makes command script 5 None held held)
 nothing_made_by command None held old = tt
-nothing_made_by command (Some script) held old = (refl, record { does = inl refl; lawful = tt; serial = tt; money = tt; audits = tt })
+nothing_made_by command (Some script) held old = (refl, record { does = inl refl; lawful = tt; serial = tt; money = tt; audits = tt; endings = tt; counts = tt })
 
 pub nothing_made : {S : Type 0} (asked : Option Command) (held : Option (List ℕ)) (old : S)
     → IfSome asked (λ command. IfSome (made_by command) (λ script. (old ≡ old) × Makes command script 5 None held held))

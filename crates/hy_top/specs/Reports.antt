@@ -10,6 +10,7 @@ use Rattle.hy_render.specs.Report.{text}
 use Rattle.hy_render.specs.Summary.{summary_of, balances}
 use Rattle.hy_bank.specs.Bank.{all_money}
 use Rattle.hy_bank.specs.Outcomes.{IsToldTheMoney}
+use Rattle.hy_bank.specs.Endings.{EndInFourWays, EndingsAddUp}
 use Rattle.hy_lawful.specs.Lawful.{Lawful}
 use Rattle.hy_lawful.specs.Serial.{IsSerial}
 use Rattle.hy_words.specs.declared.Command.{Command}
@@ -58,13 +59,16 @@ Does (Check chunks rows) script status outcome before after = Checks script stat
 Does (Gen seed sessions txns) script status outcome before after = Summarizes script status outcome before after
 
 -- what a command did with a script that it made: what it asks for, unless memory ran out; the outcome is lawful, and
--- serializable in its order; the accounts have the money that they had, and every audit was told it
+-- serializable in its order; the accounts have the money that they had, and every audit was told it; every transaction is
+-- committed, has only read, is in conflict or is invalid, and the counts of these four come to how many there are
 pub record Makes (command : Command) (script : Script) (status : ℕ) (outcome : Option Outcome) (before after : Option (List ℕ)) : Type 0 where
   pub does : (status ≡ 5) ⊎ Does command script status outcome before after
   pub lawful : IfSome outcome (Lawful (setting_at script))
   pub serial : IfSome outcome (IsSerial (setting_at script))
   pub money : IfSome outcome (λ given. balances given.tables ≡ pos all_money)
   pub audits : IfSome outcome (λ given. AllByRecursion (IsToldTheMoney (setting_at script).programs) given.txns)
+  pub endings : IfSome outcome (λ given. EndInFourWays given.txns)
+  pub counts : IfSome outcome (λ given. EndingsAddUp given.txns)
 
 -- the answer to bytes that a command read: a status, an outcome or none, and what the sink holds before and after
 pub record Answers (command : Command) (bytes : List ℕ) (status : ℕ) (outcome : Option Outcome) (before after : Option (List ℕ)) : Type 0 where

@@ -17,7 +17,7 @@ ghost use Rattle.hy_top.specs.Reports.{Writes, Answers, Runs, Checks, Summarizes
 mod lines;
 mod settings;
 
-use hy_bank::{made_outcomes_keep_the_money, made_scripts_fit};
+use hy_bank::{made_outcomes_keep_the_money, made_scripts_fit, made_transactions_end_in_four_ways};
 use hy_gen::make;
 use hy_lawful::runs_are_lawful;
 use hy_limits::MOST_BYTES;
@@ -71,7 +71,7 @@ pub fn run<R: Source, W: Sink>(
         (result.status ≡ 3) ⊎ Answers command (bytes_read all) result.status result.outcome (W.written sink.old) (W.written sink.new))) }
 
     // A command that makes its script runs that, and writes the summary of its outcome, which is lawful and
-    // serializable, and in which the money is kept; the source is as it was.
+    // serializable, in which the money is kept, and whose transactions end in four ways; the source is as it was.
     ensures made { IfSome (command_of (map string_bytes words.now)) (λ command. IfSome (made_by command) (λ script.
         (source.new ≡ source.old) × Makes command script result.status result.outcome (W.written sink.old) (W.written sink.new))) }
 
@@ -120,6 +120,7 @@ fn run_made<W: Sink>(alloc: Global, seed: u32, sessions: u32, txns: u32, sink: &
 {
     made_scripts_fit();
     made_outcomes_keep_the_money();
+    made_transactions_end_in_four_ways();
     runs_are_lawful();
     match make(alloc, seed, sessions, txns) {
         Ok(script) => summarize_script(alloc, script, sink),

@@ -5,7 +5,12 @@ use Rattle.hy_top.proofs.run_made.Goals as goal
 
 pub returns-in-Ok-clause-makes : goal.returns-in-Ok-clause-makes
 returns-in-Ok-clause-makes g c =
-    made_answers c.args.seed c.args.sessions c.args.txns c.in-Ok.script _ _ _ _ (record { lawful = c.runs_are_lawful.ensures.lawful; serial = c.runs_are_lawful.ensures.serial })
-    (record { money = c.made_outcomes_keep_the_money.ensures.money; audits = c.made_outcomes_keep_the_money.ensures.audits })
+    made_answers c.args.seed c.args.sessions c.args.txns c.requires.0 c.requires.1 c.in-Ok.script _ _ _ _ (record { lawful = c.runs_are_lawful.ensures.lawful; serial = c.runs_are_lawful.ensures.serial })
+    (record {
+      money = c.made_outcomes_keep_the_money.ensures.money;
+      audits = c.made_outcomes_keep_the_money.ensures.audits;
+      endings = c.made_transactions_end_in_four_ways.ensures.endings;
+      counts = c.made_transactions_end_in_four_ways.ensures.counts;
+    })
     (made_fits c.args.seed c.args.sessions c.args.txns (c.made_scripts_fit.ensures c.args.seed c.args.sessions c.args.txns c.requires.0 c.requires.1)) c.in-Ok.ensures
     (⊎_elim (λ p. inl (p.0, p.2)) (λ r. inr r) c.summarize_script.ensures.run)

@@ -1,0 +1,7 @@
+//! The tests of what leads from bytes to statements: sources and sinks, texts, tokens, the parser, the catalog.
+#![tactic(auto)]
+
+#[cfg(test)]
+mod bytes;
+#[cfg(test)]
+mod statements;

@@ -1,0 +1,84 @@
+-- Comparisons, each with its NOT, of every pair of NULL, 1 and 2 and of some texts. Where a side is NULL both are
+-- unknown, and take no row: NULL doesn't even equal NULL. A count takes the rows of which a comparison is true or
+-- false, which is none where the other side is the literal NULL.
+-- 0 and the empty text are values like others, and not NULL.
+
+CREATE TABLE t (a INT, b INT);
+INSERT INTO t VALUES (NULL,NULL);
+INSERT INTO t VALUES (NULL,1);
+INSERT INTO t VALUES (NULL,2);
+INSERT INTO t VALUES (1,NULL);
+INSERT INTO t VALUES (1,1);
+INSERT INTO t VALUES (1,2);
+INSERT INTO t VALUES (2,NULL);
+INSERT INTO t VALUES (2,1);
+INSERT INTO t VALUES (2,2);
+CREATE TABLE w (s TEXT, u TEXT, z INT);
+INSERT INTO w VALUES (NULL,'a',0);
+INSERT INTO w VALUES ('a',NULL,0);
+INSERT INTO w VALUES ('','a',0);
+INSERT INTO w VALUES ('a','a',0);
+INSERT INTO w VALUES ('a','',0);
+
+SESSION a;
+BEGIN READ ONLY;
+SELECT a, b FROM t WHERE a = b;
+SELECT a, b FROM t WHERE NOT a = b;
+SELECT a, b FROM t WHERE a <> b;
+SELECT a, b FROM t WHERE NOT a <> b;
+SELECT a, b FROM t WHERE a < b;
+SELECT a, b FROM t WHERE NOT a < b;
+SELECT a, b FROM t WHERE a <= b;
+SELECT a, b FROM t WHERE NOT a <= b;
+SELECT a, b FROM t WHERE a > b;
+SELECT a, b FROM t WHERE NOT a > b;
+SELECT a, b FROM t WHERE a >= b;
+SELECT a, b FROM t WHERE NOT a >= b;
+SELECT COUNT(*) FROM t WHERE a = 1 OR NOT a = 1;
+SELECT COUNT(*) FROM t WHERE a = a OR NOT a = a;
+SELECT COUNT(*) FROM t WHERE a = NULL OR NOT a = NULL;
+SELECT COUNT(*) FROM t WHERE a <> 1 OR NOT a <> 1;
+SELECT COUNT(*) FROM t WHERE a <> a OR NOT a <> a;
+SELECT COUNT(*) FROM t WHERE a <> NULL OR NOT a <> NULL;
+SELECT COUNT(*) FROM t WHERE a < 1 OR NOT a < 1;
+SELECT COUNT(*) FROM t WHERE a < a OR NOT a < a;
+SELECT COUNT(*) FROM t WHERE a < NULL OR NOT a < NULL;
+SELECT COUNT(*) FROM t WHERE a <= 1 OR NOT a <= 1;
+SELECT COUNT(*) FROM t WHERE a <= a OR NOT a <= a;
+SELECT COUNT(*) FROM t WHERE a <= NULL OR NOT a <= NULL;
+SELECT COUNT(*) FROM t WHERE a > 1 OR NOT a > 1;
+SELECT COUNT(*) FROM t WHERE a > a OR NOT a > a;
+SELECT COUNT(*) FROM t WHERE a > NULL OR NOT a > NULL;
+SELECT COUNT(*) FROM t WHERE a >= 1 OR NOT a >= 1;
+SELECT COUNT(*) FROM t WHERE a >= a OR NOT a >= a;
+SELECT COUNT(*) FROM t WHERE a >= NULL OR NOT a >= NULL;
+SELECT s, u FROM w WHERE s = u;
+SELECT s, u FROM w WHERE NOT s = u;
+SELECT s, u FROM w WHERE s <> u;
+SELECT s, u FROM w WHERE NOT s <> u;
+SELECT s, u FROM w WHERE s < u;
+SELECT s, u FROM w WHERE NOT s < u;
+SELECT s, u FROM w WHERE s <= u;
+SELECT s, u FROM w WHERE NOT s <= u;
+SELECT s, u FROM w WHERE s > u;
+SELECT s, u FROM w WHERE NOT s > u;
+SELECT s, u FROM w WHERE s >= u;
+SELECT s, u FROM w WHERE NOT s >= u;
+SELECT COUNT(*) FROM w WHERE s = 'a' OR NOT s = 'a';
+SELECT COUNT(*) FROM w WHERE s = NULL OR NOT s = NULL;
+SELECT COUNT(*) FROM w WHERE s <> 'a' OR NOT s <> 'a';
+SELECT COUNT(*) FROM w WHERE s <> NULL OR NOT s <> NULL;
+SELECT COUNT(*) FROM w WHERE s < 'a' OR NOT s < 'a';
+SELECT COUNT(*) FROM w WHERE s < NULL OR NOT s < NULL;
+SELECT COUNT(*) FROM w WHERE s <= 'a' OR NOT s <= 'a';
+SELECT COUNT(*) FROM w WHERE s <= NULL OR NOT s <= NULL;
+SELECT COUNT(*) FROM w WHERE s > 'a' OR NOT s > 'a';
+SELECT COUNT(*) FROM w WHERE s > NULL OR NOT s > NULL;
+SELECT COUNT(*) FROM w WHERE s >= 'a' OR NOT s >= 'a';
+SELECT COUNT(*) FROM w WHERE s >= NULL OR NOT s >= NULL;
+SELECT a FROM t WHERE a = a;
+SELECT s, u, z FROM w WHERE s IS NULL OR u IS NULL OR z IS NULL;
+SELECT s FROM w WHERE s IS NOT NULL AND z IS NOT NULL;
+COMMIT;
+
+END;

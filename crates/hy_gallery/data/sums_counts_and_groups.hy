@@ -1,0 +1,35 @@
+-- SUM passes NULL over, and is 0 where nothing is left; COUNT counts rows, also those with NULL.
+-- A group is shown for each value that the column has, ascending, and one for NULL; none where no row is selected.
+
+CREATE TABLE t (k INT PRIMARY KEY, v INT);
+INSERT INTO t VALUES (1,5);
+INSERT INTO t VALUES (2,NULL);
+INSERT INTO t VALUES (3,7);
+INSERT INTO t VALUES (4,5);
+CREATE TABLE g (c TEXT, d INT);
+INSERT INTO g VALUES (NULL,1);
+INSERT INTO g VALUES ('x',NULL);
+INSERT INTO g VALUES (NULL,2);
+INSERT INTO g VALUES ('',4);
+
+SESSION a;
+BEGIN READ ONLY;
+SELECT SUM(v) FROM t;
+SELECT SUM(v) FROM t WHERE v IS NULL;
+SELECT SUM(v) FROM t WHERE k > 4;
+SELECT COUNT(*) FROM t;
+SELECT COUNT(*) FROM t WHERE v IS NULL;
+SELECT COUNT(*) FROM t WHERE v = v;
+SELECT COUNT(*) FROM t WHERE v = 5;
+SELECT COUNT(*) FROM t WHERE k > 4;
+SELECT v, COUNT(*) FROM t GROUP BY v;
+SELECT v, SUM(k) FROM t WHERE v = 5 GROUP BY v;
+SELECT v, SUM(v) FROM t GROUP BY v;
+SELECT k, SUM(v) FROM t GROUP BY k;
+SELECT c, COUNT(*) FROM g GROUP BY c;
+SELECT c, SUM(d) FROM g GROUP BY c;
+SELECT c, SUM(d) FROM g WHERE c IS NOT NULL GROUP BY c;
+SELECT c, COUNT(*) FROM g WHERE d > 4 GROUP BY c;
+COMMIT;
+
+END;

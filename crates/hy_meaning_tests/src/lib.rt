@@ -1,0 +1,7 @@
+//! The tests of what statements mean: transactions that run alone, answers, their text, changes that hit reads.
+#![tactic(auto)]
+
+#[cfg(test)]
+mod given;
+#[cfg(test)]
+mod meanings;

@@ -1,0 +1,4 @@
+pub mod Unseen
+pub mod Shown
+pub mod Runs
+pub mod Visits

@@ -1,0 +1,5 @@
+pub mod FirstOnes
+pub mod Least
+pub mod Earliness
+pub mod Replaced
+pub mod Filing

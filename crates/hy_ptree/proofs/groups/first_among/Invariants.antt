@@ -1,0 +1,8 @@
+use Rattle.std.proofs.Common.{◌≡◌, true}
+use Rattle.hy_ptree.specs.Hits.{is_hit_number, IsLeast}
+use Rattle.hy_ptree.proofs.Earliness.{InFirst}
+use Rattle.hy_ptree.proofs.groups.first_among.Given as goal
+
+-- the first record of the groups so far that the change hits
+abbrev pub invariant-loop-group : goal.invariant-loop-group
+invariant-loop-group l = IsLeast (λ number. InFirst l.groups l.group-index number × (is_hit_number l.records l.change number ≡ true)) l.first

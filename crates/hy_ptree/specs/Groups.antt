@@ -1,0 +1,24 @@
+-- Records in groups, by their tables and the first conditions of their restrictions.
+use Rattle.std.specs.Prelude.{◌≡◌, ℕ, ◌<◌, List, All, Any, AllPairs, Contains, slice_index_or}
+use Rattle.std.specs.List.Sorted.{IsStrictlyIncreasing}
+use Rattle.hy_bound.specs.declared.Record.{Record}
+use Rattle.hy_bound.specs.Condition.{Condition}
+use Rattle.hy_ptree.specs.declared.groups.Group.{Group}
+use Rattle.hy_ptree.specs.FirstConditions.{first_condition_of}
+
+-- a group is of a table and a first condition
+abbrev pub IsOf : ℕ → Condition → Group → Type 0
+IsOf table first group = (group.table ≡ table) × (group.first.now ≡ first)
+
+-- a group has numbers of the first so many records, ascending, and these are of its table and its first condition
+pub record IsFiled (records : List Record) (upto : ℕ) (group : Group) : Type 0 where
+  pub below : All (λ number. number < upto) group.numbers.items
+  pub own : All (λ number. (d : Record) → IsOf (slice_index_or records number d).table (first_condition_of (slice_index_or records number d).pred) group) group.numbers.items
+  pub ascends : IsStrictlyIncreasing group.numbers.items
+
+-- each of the first so many records is in a group, each group has its own ones, and no two are of the same table and
+-- the same first condition
+pub record IsGrouped (records : List Record) (upto : ℕ) (groups : List Group) : Type 0 where
+  pub filed : All (IsFiled records upto) groups
+  pub complete : (number : ℕ) → number < upto → Any (λ group. Contains group.numbers.items number) groups
+  pub apart : AllPairs (λ group other. IsOf group.table group.first.now other → ⊥) groups

@@ -1,0 +1,37 @@
+-- Which records of what was read a change hits.
+use Rattle.std.specs.Prelude.{ℕ, ◌≤◌, min, List, Bool, false, ◌&&◌, ◌||◌, ◌==◌, Option, None, Some, slice_get}
+use Rattle.std.specs.Option.{option_map_or}
+use Rattle.std.specs.List.{position}
+use Rattle.hy_bound.specs.declared.Record.{Record}
+use Rattle.hy_bound.specs.Predicate.{truth_at}
+use Rattle.hy_bound.specs.Records.{is_hit}
+use Rattle.hy_change.specs.declared.Change.{Change}
+use Rattle.hy_ptree.specs.declared.groups.Group.{Group}
+
+-- a change hits a record of its table whose reading it meets
+abbrev pub is_hit_by : Change → Record → Bool
+is_hit_by change logged = logged.table == change.table && is_hit logged change.before change.after
+
+-- the number of the first record that a change hits
+abbrev pub first_hit_of : List Record → Change → Option ℕ
+first_hit_of records change = position (is_hit_by change) records
+
+-- whether a change hits the record of a number
+abbrev pub is_hit_number : List Record → Change → ℕ → Bool
+is_hit_number records change number = option_map_or (is_hit_by change) (slice_get records number) false
+
+-- the records of a group are asked where a change is of their table, and their first condition is true of the row
+-- before or after it
+abbrev pub is_asked : Change → Group → Bool
+is_asked change group = group.table == change.table && (truth_at group.first.now change.before || truth_at group.first.now change.after)
+
+-- the least number of which P holds, if it holds of one
+abbrev pub IsLeast : (ℕ → Type 0) → Option ℕ → Type 0
+IsLeast P None = (number : ℕ) → P number → ⊥
+IsLeast P (Some least) = P least × ((number : ℕ) → P number → least ≤ number)
+
+-- the less of two numbers that may be there
+abbrev pub earlier_of : Option ℕ → Option ℕ → Option ℕ
+earlier_of None other = other
+earlier_of (Some number) None = Some number
+earlier_of (Some number) (Some other) = Some (min number other)

@@ -1,0 +1,3 @@
+pub mod FirstConditions
+pub mod Groups
+pub mod Hits

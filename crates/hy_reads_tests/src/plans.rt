@@ -1,0 +1,109 @@
+//! Plans of SELECTs, the log of reads, and joins of gathered rows.
+
+use crate::given::{compare, pair, row};
+use hy_bound::{Items, On, Pred, Query, Record, Reply, Shape, truth};
+use hy_join::answer;
+use hy_plan::{Gathered, Plan, ReadLog, plan_query};
+use hy_value::{Cmp, ColMask, Seq, Value};
+use std::alloc::{AllocError, Global};
+use std::test::Fail;
+
+/// acc (id INT PRIMARY KEY, bal INT) and own (aid INT, tag INT).
+const ACC_AND_OWN: [Shape; 2] = [
+    Shape {
+        width: 2,
+        key: Some(0),
+    },
+    Shape {
+        width: 2,
+        key: None,
+    },
+];
+
+/// The plan of SELECT of these columns FROM the two tables, where ON is id = aid.
+fn plan(alloc: Global, tables: &[u32], pred: &Pred, columns: &[u32]) -> Result<Plan, AllocError> {
+    let items = Items::Columns(Seq::from_slice(alloc, columns)?);
+    let query = Query {
+        tables,
+        ons: &[On { left: 0, right: 2 }],
+        pred,
+        items: &items,
+    };
+    plan_query(alloc, &ACC_AND_OWN, &query)
+}
+
+#[test]
+fn a_plan_splits_what_is_asked(rt: HostRuntime) -> Result<(), Fail> {
+    let alloc = rt.alloc();
+    let rich = compare(alloc, 1, Cmp::Ge, 100)?;
+    let untagged = compare(alloc, 3, Cmp::Ne, 20)?;
+    let plan = plan(alloc, &[0, 1], &Pred::and(alloc, rich, untagged)?, &[3, 1])?;
+    let [acc, own] = plan.parts.as_slice() else {
+        return Err(Fail::from("two tables have two parts"));
+    };
+    assert_eq!(rt; (acc.table, own.table), (0, 1));
+    let both = ColMask::none().with(0).with(1);
+    assert_eq!(rt; (acc.columns, own.columns), (both, both));
+    let (poor, bob, ann) = (
+        pair(alloc, 1, 99)?,
+        pair(alloc, 1, 20)?,
+        pair(alloc, 1, 100)?,
+    );
+    assert!(rt; truth(&acc.pred, &ann) && !truth(&acc.pred, &poor));
+    assert!(rt; truth(&own.pred, &ann) && !truth(&own.pred, &bob));
+    // What is left to test of the joined row is ON.
+    let equal = row(alloc, &[Some(1), Some(0), Some(1), Some(20)])?;
+    let apart = row(alloc, &[Some(1), Some(100), Some(2), Some(10)])?;
+    assert!(rt; truth(&plan.rest, &equal) && !truth(&plan.rest, &apart));
+    Ok(())
+}
+
+#[test]
+fn a_table_is_looked_up_by_its_key(rt: HostRuntime) -> Result<(), Fail> {
+    let plan = plan(rt.alloc(), &[1, 0], &Pred::always(), &[1, 3])?;
+    let [own, acc] = plan.parts.as_slice() else {
+        return Err(Fail::from("two tables have two parts"));
+    };
+    assert!(rt; own.lookup.is_none());
+    assert!(rt; acc.lookup.is_some_and(|by| by.key == 0 && by.source == 0));
+    Ok(())
+}
+
+#[test]
+fn a_log_takes_what_it_has_room_for(rt: HostRuntime) -> Result<(), Fail> {
+    let mut log = ReadLog::new(rt.alloc());
+    log.reserve(1)?;
+    log.push_reserved(Record {
+        statement: 7,
+        table: 2,
+        pred: Pred::always(),
+        columns: ColMask::none(),
+    });
+    let [of] = log.records() else {
+        return Err(Fail::from("one push gives one record"));
+    };
+    assert_eq!(rt; (of.statement, of.table), (7, 2));
+    Ok(())
+}
+
+#[test]
+fn gathered_rows_are_joined(rt: HostRuntime) -> Result<(), Fail> {
+    let alloc = rt.alloc();
+    // Of acc the column id alone is named.
+    let mut acc = Gathered::new(alloc, 1)?;
+    acc.push(&[Value::Int(2)])?;
+    acc.push(&[Value::Int(1)])?;
+    let mut own = Gathered::new(alloc, 2)?;
+    own.push(&[Value::Int(2), Value::Int(20)])?;
+    own.push(&[Value::Int(1), Value::Int(10)])?;
+    let plan = plan(alloc, &[0, 1], &Pred::always(), &[3])?;
+    let Reply::Rows(rows) = answer(alloc, &plan, &[acc, own])? else {
+        return Err(Fail::from("columns are answered by rows"));
+    };
+    let [first, second] = rows.as_slice() else {
+        return Err(Fail::from("two rows have their equals"));
+    };
+    assert!(rt; first.as_slice() == [Value::Int(10)].as_slice());
+    assert!(rt; second.as_slice() == [Value::Int(20)].as_slice());
+    Ok(())
+}

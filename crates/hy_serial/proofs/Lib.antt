@@ -1,0 +1,11 @@
+pub mod Items
+pub mod Outcomes
+pub mod Replays
+pub mod Keeps
+pub mod Commits
+pub mod Endings
+pub mod Told
+pub mod Alike
+pub mod Reading
+pub mod Points
+pub mod Circles

@@ -3,6 +3,9 @@
 
 ghost use Rattle.std.specs.Prelude.{◌≡◌, ◌*◌, ◌<◌, ◌≤◌, length};
 
+mod hits;
+
+use hits::{missed_by_list, missed_by_tree};
 use hy_chain::Chains;
 use hy_kernel::compare;
 use hy_stamp::{Label, Stamp, Viewer};
@@ -84,4 +87,17 @@ pub extern "C" fn hy_chain_rounds(alloc: Global, rounds: u32) -> i64 {
         Ok(balance) => balance,
         Err(_) => -1,
     }
+}
+
+/// How many times out of so many the predicate tree of 100 records that share their first condition finds none that a
+/// change hits, which makes this condition true neither before nor after. The answer is -1 where memory ran out.
+#[unsafe(no_mangle)]
+pub extern "C" fn hy_first_hits(alloc: Global, rounds: u32) -> i64 {
+    missed_by_tree(alloc, rounds).map_or(-1, i64::from)
+}
+
+/// The same of a plain list of the same records.
+#[unsafe(no_mangle)]
+pub extern "C" fn hy_plain_hits(alloc: Global, rounds: u32) -> i64 {
+    missed_by_list(alloc, rounds).map_or(-1, i64::from)
 }

@@ -74,8 +74,10 @@ pub fn missed_by_list(alloc: Global, rounds: u32) -> Result<u32, AllocError> {
 
 /// Whether a change hits none of these records.
 fn is_missed(records: &[Record], change: &Change) -> bool {
-    let hit = records
-        .iter()
-        .position(|record| hits(record, change.before.as_ref(), change.after.as_ref()));
+    let hit = records.iter().position(|record| hits(
+        record,
+        change.before.as_ref(),
+        change.after.as_ref(),
+    ));
     hit.is_none()
 }

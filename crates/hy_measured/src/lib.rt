@@ -57,7 +57,10 @@ fn round(alloc: Global, chains: &mut Chains<Delta>, base: &mut Version) -> Resul
     push(alloc, chains, 20, 20)?;
     push(alloc, chains, 30, 30)?;
     push(alloc, chains, 40, 40)?;
-    let viewer = Viewer { id: 1 << 63, start: 5 };
+    let viewer = Viewer {
+        id: 1 << 63,
+        start: 5,
+    };
     chains.see(0, &viewer, base);
     let _newest = chains.pop_own(0, 40);
     let _third = chains.pop_own(0, 30);

@@ -27,8 +27,10 @@ first_from change f i (of ∷ others) h = by (λ g. first_from change f (i + 1) 
   where
     here : f i ≡ of.statement
     here = let e : i ≡ i + 0 = omega arith in ap f e ∙ h 0 (omega arith)
+
     there : (k : ℕ) → k < length others → f (i + 1 + k) ≡ option_map_or statement_of (slice_get others k) 0
     there k l = let e : i + 1 + k ≡ i + suc k = omega arith in ap f e ∙ h (suc k) (omega arith)
+
     by : (((k : ℕ) → k < length others → f (i + 1 + k) ≡ option_map_or statement_of (slice_get others k) 0)
         → option_map f (position_from (is_hit_by change) (i + 1) others) ≡ statement_hit others change)
         → (b : Bool) → option_map f (cond b (Some i) (position_from (is_hit_by change) (i + 1) others)) ≡ cond b (Some of.statement) (statement_hit others change)

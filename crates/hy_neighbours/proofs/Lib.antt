@@ -8,3 +8,4 @@ pub mod Plans
 pub mod Groups
 pub mod Readings
 pub mod Positions
+pub mod Followed

@@ -22,7 +22,7 @@ use Rattle.hy_neighbours.specs.Runs.{one_position, standing}
 use Rattle.hy_neighbours.specs.Visits.{to_two}
 use Rattle.hy_neighbours.proofs.Runs.{have_widths, only_one, shape_fits}
 
-abbrev Many : ℕ → ℕ → Type 0
+abbrev pub Many : ℕ → ℕ → Type 0
 Many n m = n ≡ m
 
 pub vacant_are_tables : AreTables one_column vacant

@@ -9,3 +9,4 @@ pub mod Plans
 pub mod Groups
 pub mod Readings
 pub mod Positions
+pub mod Followed

@@ -3,6 +3,7 @@
 
 ghost use Rattle.hy_neighbours.specs.Bags.{MissingTablesSuffice, SetsSuffice};
 ghost use Rattle.hy_neighbours.specs.Columns.{AllButOneSuffice, AnyColumnIsTaken, WhereColumnsSuffice};
+ghost use Rattle.hy_neighbours.specs.Followed.{EveryPositionIsFollowed, MissingTablesCount};
 ghost use Rattle.hy_neighbours.specs.Groups.{GatheredColumnsSuffice, GroupedColumnSuffices};
 ghost use Rattle.hy_neighbours.specs.Plans.{RestrictionsSuffice, ShownColumnsAnswer};
 ghost use Rattle.hy_neighbours.specs.Positions.{AnyPositionsSuffice, AnyRowsKeepWidths, AnyRowsLeaveOwn, SelectedPositionsMayDiffer};
@@ -133,4 +134,15 @@ pub fn inserted_rows_must_fit()
 /// difference hits no record.
 pub fn selected_positions_must_not_differ()
     ensures { SelectedPositionsMayDiffer → ⊥ }
+{}
+
+/// An INSERT into a table that isn't there is answered and writes nothing: positions are counted of tables that are there.
+pub fn an_insert_needs_its_table()
+    ensures { MissingTablesCount → ⊥ }
+{}
+
+/// An INSERT writes a position where no row stood, and no statement selects it there: rows are followed from the start of a
+/// transaction on, and what it inserts is counted.
+pub fn inserted_rows_are_not_followed()
+    ensures { EveryPositionIsFollowed → ⊥ }
 {}

@@ -24,11 +24,7 @@ same_bags : SameBags [] ([] ∷ [])
 same_bags zero = IsPermutation-refl []
 same_bags (suc table) = IsPermutation-refl []
 
--- so many rows and so many
-abbrev Many : ℕ → ℕ → Type 0
-Many n m = n ≡ m
-
 pub missing_tables_fail : MissingTablesSuffice → ⊥
 missing_tables_fail law =
     let bags : SameBags [] ((row_of 1 ∷ []) ∷ []) = law unkeyed inserting_first [] ([] ∷ []) same_bags [] ((row_of 1 ∷ []) ∷ []) refl refl in
-    let same : Many 1 0 = length_permutation [] (row_of 1 ∷ []) (bags 0) in absurd cc
+    let same : ◌≡◌ {A = ℕ} 1 0 = length_permutation [] (row_of 1 ∷ []) (bags 0) in absurd cc

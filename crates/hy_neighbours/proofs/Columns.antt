@@ -3,13 +3,11 @@ use Rattle.std.proofs.Common.{◌≡◌, [], ◌∷◌, None, Some, Ok, refl, ar
 use Rattle.std.specs.Prelude.{Bool, true, false}
 use Rattle.hy_value.specs.declared.Value.TheVariants.{Null}
 use Rattle.hy_bound.specs.Condition.{True}
-use Rattle.hy_bound.specs.Predicate.{sense_of}
-use Rattle.hy_bound.specs.Assignment.{value_of}
-use Rattle.hy_bound.specs.Expression.{Add, Literal, Column}
 use Rattle.hy_plan.specs.ColumnSets.{bits_where, columns_where, named_columns}
 use Rattle.hy_neighbours.specs.Columns.{AllButOneSuffice, WhereColumnsSuffice, AnyColumnIsTaken, are_equal, adding_one}
 use Rattle.hy_neighbours.specs.Examples.{number, row_of}
 
+-- what a condition says of a row and of another
 abbrev Said : Bool → Bool → Type 0
 Said one other = Some one ≡ Some other
 

@@ -1,5 +1,5 @@
 -- An INSERT at a position that is not there, one of a row without columns, an UPDATE of rows that differ unread.
-use Rattle.std.proofs.Common.{◌≡◌, ℕ, zero, suc, List, [], ◌∷◌, length, Option, Some, None, ◌⊎◌, inl, inr, refl, ap, arith}
+use Rattle.std.proofs.Common.{◌≡◌, ℕ, zero, suc, List, [], ◌∷◌, length, Some, None, ◌⊎◌, inl, inr, refl, ap, arith}
 use Rattle.std.specs.Prelude.{Result, Ok, Err, slice_index_or}
 use Rattle.hy_value.specs.declared.Value.{Value}
 use Rattle.hy_value.specs.declared.Value.TheVariants.{Null}
@@ -15,15 +15,12 @@ use Rattle.hy_plan.specs.Reads.{records_of}
 use Rattle.hy_replay.specs.EffectUnseen.{change_of}
 use Rattle.hy_replay.specs.Laws.{AreTables, HaveWidths}
 use Rattle.hy_neighbours.specs.Examples.{number}
-use Rattle.hy_neighbours.specs.Positions.{AnyPositionsSuffice, AnyRowsKeepWidths, AnyRowsLeaveOwn, SelectedPositionsMayDiffer}
-use Rattle.hy_neighbours.specs.Positions.{one_column, vacant, inserting_narrow, placed_nowhere, placed_narrow}
+use Rattle.hy_neighbours.specs.Positions.{AnyPositionsSuffice, AnyTablesSuffice, AnyRowsKeepWidths, AnyRowsLeaveOwn, SelectedPositionsMayDiffer}
+use Rattle.hy_neighbours.specs.Positions.{one_column, vacant, no_tables, inserting_narrow, placed_nowhere, placed_in_none, placed_narrow}
 use Rattle.hy_neighbours.specs.Bags.{inserting_first}
 use Rattle.hy_neighbours.specs.Runs.{one_position, standing}
 use Rattle.hy_neighbours.specs.Visits.{to_two}
-use Rattle.hy_neighbours.proofs.Runs.{have_widths, only_one, shape_fits}
-
-abbrev pub Many : ℕ → ℕ → Type 0
-Many n m = n ≡ m
+use Rattle.hy_neighbours.proofs.Runs.{have_widths, only_one, second, shape_fits}
 
 pub vacant_are_tables : AreTables one_column vacant
 vacant_are_tables = record { many = refl; long = (refl, tt) }
@@ -38,29 +35,33 @@ rows_left alone = length (slice_index_or alone.database 0 [])
 
 pub any_positions_fail : AnyPositionsSuffice → ⊥
 any_positions_fail law =
-    let same : Many 1 0 = ap rows_left (law one_column vacant (inserting_first ∷ []) (Some 1 ∷ []) placed_nowhere vacant_are_tables refl) in absurd cc
+    let same : ◌≡◌ {A = ℕ} 1 0 = ap rows_left (law one_column vacant (inserting_first ∷ []) (Some 1 ∷ []) placed_nowhere vacant_are_tables refl) in absurd cc
+
+pub any_tables_fail : AnyTablesSuffice → ⊥
+any_tables_fail law =
+    let same : ◌≡◌ {A = ℕ} 1 0 = ap rows_left (law no_tables vacant (inserting_first ∷ []) (Some 0 ∷ []) placed_in_none (omega arith, tt) refl) in absurd cc
 
 pub any_rows_fail : AnyRowsKeepWidths → ⊥
 any_rows_fail law =
-    let same : Many 0 1 = (law one_column vacant (inserting_narrow ∷ []) (Some 0 ∷ []) placed_narrow vacant_are_tables vacant_wide refl 0).0 in absurd cc
+    let same : ◌≡◌ {A = ℕ} 0 1
+    = (law one_column vacant (inserting_narrow ∷ []) (Some 0 ∷ []) placed_narrow vacant_are_tables vacant_wide refl 0).0 in absurd cc
 
 pub any_own_fail : AnyRowsLeaveOwn → ⊥
 any_own_fail law =
-    let same : Many 0 1 = (law one_column vacant (inserting_narrow ∷ []) (Some 0 ∷ []) placed_narrow vacant_are_tables vacant_wide refl).wide 0 0 in absurd cc
+    let same : ◌≡◌ {A = ℕ} 0 1
+    = (law one_column vacant (inserting_narrow ∷ []) (Some 0 ∷ []) placed_narrow vacant_are_tables vacant_wide refl).wide 0 0 in absurd cc
 
 -- the second value of the first row that is written
 abbrev second_written : Result (List Write) Cause → Value
 second_written (Err cause) = Null
 second_written (Ok []) = Null
-second_written (Ok (write ∷ writes)) = second write.cell
-  where
-    second : Option (List Value) → Value
-    second (Some (one ∷ two ∷ row)) = two
-    second other = Null
+second_written (Ok (write ∷ writes)) = second (Some write.cell)
 
+-- the rows of two such tables differ in a column that the record doesn't have
 unread_missed : (pos : ℕ)
     → (item_at (standing Null) 0 pos ≡ item_at (standing (number 1)) 0 pos)
-    ⊎ (record_hit (records_of one_position.shapes 1 (change_of to_two 0 True) []) 0 (item_at (standing Null) 0 pos) (item_at (standing (number 1)) 0 pos) ≡ None)
+    ⊎ (record_hit (records_of one_position.shapes 1 (change_of to_two 0 True) []) 0
+    (item_at (standing Null) 0 pos) (item_at (standing (number 1)) 0 pos) ≡ None)
 unfolding named_columns columns_where bits_where
 unread_missed zero = inr refl
 unread_missed (suc pos) = inl refl

@@ -1,6 +1,6 @@
 -- A look-up by a key that no row has, a condition of column 32 that is lost, a row with the key that the record passes by.
-use Rattle.std.proofs.Common.{◌≡◌, ℕ, [], ◌∷◌, List, None, Some, refl, ap, arith, length}
-use Rattle.std.specs.Prelude.{true, false, slice_index_or}
+use Rattle.std.proofs.Common.{◌≡◌, ℕ, [], ◌∷◌, List, Some, refl, ap, arith, length}
+use Rattle.std.specs.Prelude.{true, false}
 use Rattle.hy_bound.specs.declared.Items.TheVariants.{Columns}
 use Rattle.hy_bound.specs.Condition.{True}
 use Rattle.hy_plan.specs.declared.Read.{Read}
@@ -21,13 +21,10 @@ abbrev second_conditions : List Read → ℕ
 second_conditions (first ∷ second ∷ reads) = length second.conditions
 second_conditions other = 0
 
-abbrev Many : ℕ → ℕ → Type 0
-Many n m = n ≡ m
-
 pub many_columns_fail : ManyColumnsAreReadAgain → ⊥
 unfolding named_columns columns_where bits_where
 many_columns_fail law =
-    let same : Many 0 1 = ap second_conditions
+    let same : ◌≡◌ {A = ℕ} 0 1 = ap second_conditions
     (law wide_and_keyed (0 ∷ 1 ∷ []) on_key last_is_one (Columns (0 ∷ [])) wide_rows ((refl, tt), ((refl, tt), tt))) in absurd cc
 
 pub another_key_fails : AnotherKeySuffices → ⊥

@@ -12,7 +12,7 @@ use Rattle.hy_neighbours.specs.Examples.{number}
 use Rattle.hy_neighbours.specs.Runs.{DifferMissed, OwnPositionsMayDiffer, one_position, standing, setting_first, first_set}
 
 -- the second value that was written at the position
-abbrev second : Option (Option (List Value)) → Value
+abbrev pub second : Option (Option (List Value)) → Value
 second (Some (Some (one ∷ two ∷ row))) = two
 second other = Null
 

@@ -21,14 +21,6 @@ MissingTablesCount =
     → AreTables setting tables → AllByRecursion (IsPosition setting) took → ran setting tables statements took ≡ Some given
     → how_many (has_placed tables given.own table) (capacity setting) ≡ placed_in table statements took
 
--- no tables, which would have one position each
-abbrev pub no_tables : Setting
-no_tables = record { chunks = 1; rows = 1; shapes = []; first = []; programs = [] }
-
--- what an INSERT into one of them comes to: it is answered, and writes nothing
-abbrev pub placed_in_none : Ran
-placed_in_none = record { own = []; replies = Inserted ∷ []; records = [] }
-
 -- a position, with a row or without, is written exactly where a statement selects what stands there, and then as all leave it
 abbrev pub EveryPositionIsFollowed : Type 0
 EveryPositionIsFollowed =

@@ -1,7 +1,7 @@
 -- Neighbours of the laws of what a transaction comes to over tables of positions: an INSERT may take any position, a
 -- statement need not fit its table, a selected position may differ.
 use Rattle.std.specs.Prelude.{◌≡◌, ℕ, List, [], ◌∷◌, ◌⊎◌, Option, None, Some}
-use Rattle.std.specs.List.{All}
+use Rattle.std.specs.List.{All, AllByRecursion}
 use Rattle.hy_bound.specs.declared.Bound.{Bound}
 use Rattle.hy_bound.specs.declared.Bound.TheVariants.{Insert}
 use Rattle.hy_bound.specs.declared.Reply.TheVariants.{Inserted}
@@ -15,11 +15,11 @@ use Rattle.hy_machine.specs.Tables.{Tables, over}
 use Rattle.hy_machine.specs.Validation.{record_hit}
 use Rattle.hy_meaning.specs.Serial.{alone_of}
 use Rattle.hy_plan.specs.Reads.{records_of}
-use Rattle.hy_replay.specs.BagLaws.{alone_as}
+use Rattle.hy_replay.specs.BagLaws.{IsPosition, alone_as}
 use Rattle.hy_replay.specs.EffectUnseen.{AreOwn, change_of}
 use Rattle.hy_replay.specs.Laws.{AreTables, HaveWidths, bags_of}
 use Rattle.hy_replay.specs.Ran.{Ran, ran, writes_at}
-use Rattle.hy_neighbours.specs.Examples.{row_of, unkeyed}
+use Rattle.hy_neighbours.specs.Examples.{unkeyed}
 
 -- what statements come to over tables of positions is what they give alone, whichever positions INSERTs took
 abbrev pub AnyPositionsSuffice : Type 0
@@ -38,6 +38,21 @@ vacant = (None ∷ []) ∷ []
 -- what an INSERT comes to that takes a position which the table doesn't have: its row is nowhere
 abbrev pub placed_nowhere : Ran
 placed_nowhere = record { own = (None ∷ []) ∷ []; replies = Inserted ∷ []; records = [] }
+
+-- what statements come to is what they give alone, over tables of whatever number and length
+abbrev pub AnyTablesSuffice : Type 0
+AnyTablesSuffice =
+    (setting : Setting) (tables : Tables) (statements : List Bound) (took : List (Option ℕ)) (given : Ran)
+    → AllByRecursion (IsPosition setting) took → ran setting tables statements took ≡ Some given
+    → alone_of setting.shapes statements (bags_of tables) ≡ alone_as tables given
+
+-- no tables, which would have one position each
+abbrev pub no_tables : Setting
+no_tables = record { chunks = 1; rows = 1; shapes = []; first = []; programs = [] }
+
+-- what an INSERT into one of them comes to: it is answered, and writes nothing
+abbrev pub placed_in_none : Ran
+placed_in_none = record { own = []; replies = Inserted ∷ []; records = [] }
 
 -- rows stay as wide as their tables, whatever rows are inserted
 abbrev pub AnyRowsKeepWidths : Type 0

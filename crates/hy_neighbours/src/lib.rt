@@ -6,7 +6,7 @@ ghost use Rattle.hy_neighbours.specs.Columns.{AllButOneSuffice, AnyColumnIsTaken
 ghost use Rattle.hy_neighbours.specs.Followed.{EveryPositionIsFollowed, MissingTablesCount};
 ghost use Rattle.hy_neighbours.specs.Groups.{GatheredColumnsSuffice, GroupedColumnSuffices};
 ghost use Rattle.hy_neighbours.specs.Plans.{RestrictionsSuffice, ShownColumnsAnswer};
-ghost use Rattle.hy_neighbours.specs.Positions.{AnyPositionsSuffice, AnyRowsKeepWidths, AnyRowsLeaveOwn, SelectedPositionsMayDiffer};
+ghost use Rattle.hy_neighbours.specs.Positions.{AnyPositionsSuffice, AnyRowsKeepWidths, AnyRowsLeaveOwn, AnyTablesSuffice, SelectedPositionsMayDiffer};
 ghost use Rattle.hy_neighbours.specs.Readings.{AnotherKeySuffices, AnyKeysSuffice, ManyColumnsAreReadAgain};
 ghost use Rattle.hy_neighbours.specs.Runs.{OwnPositionsMayDiffer};
 ghost use Rattle.hy_neighbours.specs.Shown.{AnyColumnsSuffice, ShownColumnsSuffice};
@@ -86,7 +86,7 @@ pub fn a_part_needs_the_columns_of_on()
     ensures { ShownColumnsAnswer → ⊥ }
 {}
 
-/// ON is of no one table, and so in no part's condition: the rest of a plan must be asked of the joined rows.
+/// What ON says of two tables is in no part's condition: the rest of a plan must be asked of the joined rows.
 pub fn the_rest_must_be_asked()
     ensures { RestrictionsSuffice → ⊥ }
 {}
@@ -102,7 +102,7 @@ pub fn a_group_needs_the_columns_of_where()
     ensures { GatheredColumnsSuffice → ⊥ }
 {}
 
-/// A table that is looked up by a key which is no column of it is read nowhere: a key must be one of its table's columns.
+/// Of a table that is looked up by a key which is no column of it no row is read: a key must be one of its table's columns.
 pub fn keys_are_columns()
     ensures { AnyKeysSuffice → ⊥ }
 {}
@@ -118,10 +118,11 @@ pub fn an_insert_looks_at_no_other_key()
     ensures { AnotherKeySuffices → ⊥ }
 {}
 
-/// A row at a position that its table doesn't have is nowhere, though its INSERT is answered: INSERTs must take positions
-/// of their tables.
+/// A row at a position that its table doesn't have is nowhere, though its INSERT is answered, and so is one of a table for
+/// which there are no own writes: INSERTs must take positions of their tables, and tables must be those of the setting.
 pub fn an_insert_takes_a_position()
-    ensures { AnyPositionsSuffice → ⊥ }
+    ensures positions { AnyPositionsSuffice → ⊥ }
+    ensures tables { AnyTablesSuffice → ⊥ }
 {}
 
 /// An INSERT writes its row as it is: rows stay as wide as their tables where the statements fit them.

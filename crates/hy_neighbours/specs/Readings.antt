@@ -44,7 +44,8 @@ HaveTheirColumns shapes (table ∷ tables) (rows ∷ gathered) = HaveWidth (shap
 abbrev pub ManyColumnsAreReadAgain : Type 0
 ManyColumnsAreReadAgain =
     (shapes : List Shape) (tables : List ℕ) (ons : List On) (pred : Condition) (items : Items) (gathered : List Table)
-    → HaveTheirColumns shapes tables gathered → select_reads_of shapes tables ons pred items (read_rows (select_reads_of shapes tables ons pred items gathered) gathered)
+    → HaveTheirColumns shapes tables gathered
+    → select_reads_of shapes tables ons pred items (read_rows (select_reads_of shapes tables ons pred items gathered) gathered)
     ≡ select_reads_of shapes tables ons pred items gathered
 
 -- a table of 33 columns, and one that is looked up by its key

@@ -1,0 +1,5 @@
+mod Keys
+mod Spread
+mod Found
+mod Restricted
+mod Again

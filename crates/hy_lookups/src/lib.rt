@@ -1,0 +1,8 @@
+//! What an engine that looks tables up by their key gathers for a SELECT is enough, for its reply and for its records.
+#![tactic(auto)]
+
+mod laws;
+
+pub use laws::{
+    looked_up_rows_answer, looked_up_rows_are_what_is_read, looked_up_rows_log_the_same,
+};

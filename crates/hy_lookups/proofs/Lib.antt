@@ -3,3 +3,4 @@ mod Spread
 mod Found
 mod Restricted
 mod Again
+mod InTurn

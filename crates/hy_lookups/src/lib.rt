@@ -5,4 +5,5 @@ mod laws;
 
 pub use laws::{
     looked_up_rows_answer, looked_up_rows_are_what_is_read, looked_up_rows_log_the_same,
+    tables_are_looked_up_in_turn,
 };

@@ -77,17 +77,19 @@ found_made : (part : PlanPart) (earlier : List (List Value)) (rows : Table) → 
     → AllByRecursion (IsMade part.pred part.width part.columns) (spread_of part (found_of part earlier rows))
 found_made part earlier rows fits kept =
     subst (AllByRecursion (IsMade part.pred part.width part.columns))
-    (sym (rows_spread part.columns part.width (filter (is_gathered part earlier) rows) (each_kept (λ row. length row ≡ part.width) (is_gathered part earlier) rows fits)))
+    (sym (rows_spread part.columns part.width (filter (is_gathered part earlier) rows)
+    (each_kept (λ row. length row ≡ part.width) (is_gathered part earlier) rows fits)))
     (made_each part earlier rows fits kept)
 
--- what is looked up fits the tables, and is gathered of itself as it is
+-- tables fit, and are what is gathered of them by the restrictions alone
+abbrev IsGatheredAgain : List Shape → List ℕ → List PlanPart → List Table → Type 0
+IsGatheredAgain shapes numbers parts tables = FitTables shapes numbers tables × (spread_all parts (gathered_of parts tables) ≡ tables)
+
+-- so is what is looked up
 pub found_again : (shapes : List Shape) (cs : List Condition) (named : List ℕ) → AllByRecursion (λ c. Among named (columns_of c)) cs
     → (from : ℕ) (earlier : List (List Value)) (on : Option On) (ons : List On) (numbers : List ℕ) (tables : List Table) → FitTables shapes numbers tables
-    → FitTables shapes numbers (spread_all (parts_from shapes cs named from on ons numbers) (looked_up_behind earlier (parts_from shapes cs named from on ons numbers) tables))
-    × (spread_all (parts_from shapes cs named from on ons numbers)
-    (gathered_of (parts_from shapes cs named from on ons numbers)
-    (spread_all (parts_from shapes cs named from on ons numbers) (looked_up_behind earlier (parts_from shapes cs named from on ons numbers) tables)))
-    ≡ spread_all (parts_from shapes cs named from on ons numbers) (looked_up_behind earlier (parts_from shapes cs named from on ons numbers) tables))
+    → IsGatheredAgain shapes numbers (parts_from shapes cs named from on ons numbers)
+    (spread_all (parts_from shapes cs named from on ons numbers) (looked_up_behind earlier (parts_from shapes cs named from on ons numbers) tables))
 found_again shapes cs named among from earlier on ons [] [] fits = (tt, refl)
 found_again shapes cs named among from earlier on ons [] (rows ∷ tables) fits = absurd fits
 found_again shapes cs named among from earlier on ons (number ∷ numbers) [] fits = absurd fits

@@ -14,7 +14,6 @@ use Rattle.hy_bound.specs.Agreement.{HaveWidth, FitTables}
 use Rattle.hy_meaning.specs.Statement.{Table}
 use Rattle.hy_plan.specs.declared.Read.{Read}
 use Rattle.hy_plan.specs.declared.PlanPart.{PlanPart}
-use Rattle.hy_plan.specs.Restrictions.{restriction}
 use Rattle.hy_plan.specs.Plans.{part_of, parts_from}
 use Rattle.hy_plan.specs.Reads.{is_read_of, rows_read_of, looked_up_column, columns_over, table_read_of, reads_from, select_named, read_rows}
 use Rattle.hy_join.specs.Answers.{spread_all}
@@ -23,25 +22,28 @@ use Rattle.hy_lookups.proofs.Keys.{read_where_found}
 use Rattle.hy_lookups.proofs.Spread.{each_kept, same_kept, rows_spread}
 
 -- what is gathered for a part is what is read of its table
-found_read : (shape : Shape) (table : ℕ) (on : Option On) (conditions : List Condition) (named : List ℕ) (earlier : List (List Value)) (rows : Table) → HaveWidth shape.width rows
+found_read : (shape : Shape) (table : ℕ) (on : Option On) (conditions : List Condition) (named : List ℕ) (earlier : List (List Value))
+    (rows : Table) → HaveWidth shape.width rows
     → spread_of (part_of shape table (length earlier) on conditions named) (found_of (part_of shape table (length earlier) on conditions named) earlier rows)
     ≡ rows_read_of (table_read_of shape table on conditions named earlier) rows
 found_read shape table on conditions named earlier rows fits =
     let part : PlanPart = part_of shape table (length earlier) on conditions named in
     let read : Read = table_read_of shape table on conditions named earlier in
-    rows_spread part.columns shape.width (filter (is_gathered part earlier) rows) (each_kept (λ row. length row ≡ shape.width) (is_gathered part earlier) rows fits)
+    rows_spread part.columns shape.width (filter (is_gathered part earlier) rows)
+    (each_kept (λ row. length row ≡ shape.width) (is_gathered part earlier) rows fits)
     ∙ ap (map (masked part.columns))
     (same_kept (is_gathered part earlier) (is_read_of read.conditions) rows
-    (λ row. sym (read_where_found (restriction (length earlier) shape.width conditions) shape.key (looked_up_column shape.key (length earlier) on) earlier row)))
+    (λ row. sym (read_where_found part.pred shape.key (looked_up_column shape.key (length earlier) on) earlier row)))
 
 -- behind these columns so many more stand
 columns_behind : (earlier : List (List Value)) (width : ℕ) (rows : Table) → length (earlier ++ columns_over width rows) ≡ length earlier + width
 columns_behind earlier width rows =
-    length-append earlier (columns_over width rows) ∙ ap (λ n. length earlier + n) (length-map-range_with_len (λ column. map (λ row. column_of row column) rows) 0 width)
+    length-append earlier (columns_over width rows)
+    ∙ ap (λ n. length earlier + n) (length-map-range_with_len (λ column. map (λ row. column_of row column) rows) 0 width)
 
 -- part by part, the columns gathered so far are those that were read so far
-found_reads : (shapes : List Shape) (conditions : List Condition) (named : List ℕ) (earlier : List (List Value)) (on : Option On) (ons : List On) (numbers : List ℕ)
-    (tables : List Table) → FitTables shapes numbers tables
+found_reads : (shapes : List Shape) (conditions : List Condition) (named : List ℕ) (earlier : List (List Value)) (on : Option On) (ons : List On)
+    (numbers : List ℕ) (tables : List Table) → FitTables shapes numbers tables
     → spread_all (parts_from shapes conditions named (length earlier) on ons numbers)
     (looked_up_behind earlier (parts_from shapes conditions named (length earlier) on ons numbers) tables)
     ≡ read_rows (reads_from shapes conditions named earlier on ons numbers tables) tables

@@ -1,6 +1,6 @@
 -- What is looked up is found in turn, each table by the columns that were gathered before it.
-use Rattle.std.proofs.Common.{◌≡◌, ℕ, zero, suc, List, [], ◌∷◌, ◌++◌, length, refl, ap, sym, ◌∙◌, subst, append_assoc, arith}
-use Rattle.std.specs.Prelude.{Option, Some, slice_get, take}
+use Rattle.std.proofs.Common.{◌≡◌, ℕ, zero, suc, List, [], ◌∷◌, ◌++◌, length, refl, ap, sym, ◌∙◌, append_assoc, arith}
+use Rattle.std.specs.Prelude.{Some, slice_get, take}
 use Rattle.std.proofs.lemmas.List.{append-nil}
 use Rattle.std.proofs.lemmas.Option.{same_Some}
 use Rattle.hy_value.specs.declared.Value.{Value}
@@ -25,7 +25,8 @@ others_found : (earlier own others : List (List Value)) (part : PlanPart) (rows 
     → found_of part ((earlier ++ own) ++ others) rows ≡ found_of part (earlier ++ (own ++ others)) rows
 others_found earlier own others part rows = ap (λ (columns : List (List Value)). found_of part columns rows) (append_assoc earlier own others)
 
-found_behind : (earlier : List (List Value)) (parts : List PlanPart) (tables : List Table) → AreFoundBehind earlier parts tables (looked_up_behind earlier parts tables)
+found_behind : (earlier : List (List Value)) (parts : List PlanPart) (tables : List Table)
+    → AreFoundBehind earlier parts tables (looked_up_behind earlier parts tables)
 found_behind earlier [] tables place part rows of_parts of_tables = cc
 found_behind earlier (first ∷ parts) [] place part rows of_parts of_tables = cc
 found_behind earlier (first ∷ parts) (own ∷ tables) zero part rows of_parts of_tables =
@@ -38,14 +39,15 @@ found_behind earlier (first ∷ parts) (own ∷ tables) (suc place) part rows of
     found_behind (earlier ++ now) parts tables place part rows of_parts of_tables
     ∙ ap Some (others_found earlier now (columns_gathered (take place parts) (take place rest)) part rows)
 
-alone_behind : (earlier : List (List Value)) (parts : List PlanPart) (tables gathered : List Table) → length tables ≡ length parts → length gathered ≡ length parts
-    → AreFoundBehind earlier parts tables gathered → gathered ≡ looked_up_behind earlier parts tables
+alone_behind : (earlier : List (List Value)) (parts : List PlanPart) (tables gathered : List Table)
+    → length tables ≡ length parts → length gathered ≡ length parts → AreFoundBehind earlier parts tables gathered → gathered ≡ looked_up_behind earlier parts tables
 alone_behind earlier [] tables [] long as_long found = refl
 alone_behind earlier [] tables (now ∷ gathered) long as_long found = absurd (omega arith)
 alone_behind earlier (part ∷ parts) [] gathered long as_long found = absurd (omega arith)
 alone_behind earlier (part ∷ parts) (rows ∷ tables) [] long as_long found = absurd (omega arith)
 alone_behind earlier (part ∷ parts) (rows ∷ tables) (now ∷ gathered) long as_long found =
-    let here : now ≡ found_of part earlier rows = same_Some now (found_of part (earlier ++ []) rows) (found 0 part rows refl refl) ∙ first_found earlier part rows in
+    let here : now ≡ found_of part earlier rows =
+    same_Some now (found_of part (earlier ++ []) rows) (found 0 part rows refl refl) ∙ first_found earlier part rows in
     let more : Table → List (List Value) = λ rs. earlier ++ columns_over part.width (spread_of part rs) in
     let later : gathered ≡ looked_up_behind (more now) parts tables =
     alone_behind (more now) parts tables gathered (omega arith) (omega arith)

@@ -4,3 +4,4 @@ mod Found
 mod Restricted
 mod Again
 mod InTurn
+mod Ended

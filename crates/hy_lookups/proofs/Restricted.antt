@@ -30,7 +30,8 @@ joined_kept named front row column few is =
     get_or-append_right front (masked mask row) (length front) column Null refl past
     ∙ (named_kept (length front) (length row) named row (column - length front) refl few (subst (λ (n : ℕ). is_named named n ≡ true) place is)
     ∙ sym (get_or-append_right front row (length front) column Null refl past))) (cases_lt column (length front)) in
-    ap (λ (r : Row). column_of (front ++ r) column) (append-nil (masked mask row)) ∙ (kept ∙ sym (ap (λ (r : Row). column_of (front ++ r) column) (append-nil row)))
+    ap (λ (r : Row). column_of (front ++ r) column) (append-nil (masked mask row))
+    ∙ (kept ∙ sym (ap (λ (r : Row). column_of (front ++ r) column) (append-nil row)))
 
 -- a condition of the table alone, by the table's own column numbers, has the same sense in the masked row
 own_kept : (named : List ℕ) (front row : Row) (c : Condition) → length row ≤ 32 → Among named (columns_of c) → is_of_table (length front) (length row) c ≡ true
@@ -40,7 +41,8 @@ own_kept named front row c few among is =
     let as_long : length (masked mask row) ≡ length row = masked_length mask row in
     own_sense c front (masked mask row) [] (ap (λ n. is_of_table (length front) n c) as_long ∙ is)
     ∙ (sense_alike c (front ++ (masked mask row ++ [])) (front ++ (row ++ []))
-    (each_weaker (λ column. is_named named column ≡ true) (λ column. column_of (front ++ (masked mask row ++ [])) column ≡ column_of (front ++ (row ++ [])) column)
+    (each_weaker (λ column. is_named named column ≡ true)
+    (λ column. column_of (front ++ (masked mask row ++ [])) column ≡ column_of (front ++ (row ++ [])) column)
     (columns_of c) (λ column here. joined_kept named front row column few here) among)
     ∙ sym (own_sense c front row [] is))
 
@@ -58,7 +60,8 @@ all_kept named front row (c ∷ cs) few among = by_test (is_of_table (length fro
     others = filter (is_of_table (length front) (length row)) cs
 
     by_test : (b : Bool) → is_of_table (length front) (length row) c ≡ b
-        → list_all (λ d. truth_of d made) (map (own_condition (length front)) others) ≡ list_all (λ d. truth_of d row) (map (own_condition (length front)) others)
+        → list_all (λ d. truth_of d made) (map (own_condition (length front)) others)
+        ≡ list_all (λ d. truth_of d row) (map (own_condition (length front)) others)
         → list_all (λ d. truth_of d made) (map (own_condition (length front)) (cond b (c ∷ others) others))
         ≡ list_all (λ d. truth_of d row) (map (own_condition (length front)) (cond b (c ∷ others) others))
     by_test true is later =
@@ -67,7 +70,8 @@ all_kept named front row (c ∷ cs) few among = by_test (is_of_table (length fro
     by_test false is later = later
 
 -- a restriction is true of a masked row where it is true of the row
-pub restriction_kept : (from width : ℕ) (cs : List Condition) (named : List ℕ) (row : Row) → width ≤ 32 → length row ≡ width → AllByRecursion (λ c. Among named (columns_of c)) cs
+pub restriction_kept : (from width : ℕ) (cs : List Condition) (named : List ℕ) (row : Row)
+    → width ≤ 32 → length row ≡ width → AllByRecursion (λ c. Among named (columns_of c)) cs
     → truth_of (restriction from width cs) (masked (named_columns from width named) row) ≡ truth_of (restriction from width cs) row
 restriction_kept from width cs named row few fit among =
     let front : Row = replicate from Null in

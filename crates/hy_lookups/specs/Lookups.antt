@@ -72,7 +72,8 @@ LookedUpAnswers =
 -- and the records that the SELECT logs over it are those that it logs over its tables
 abbrev pub LookedUpLogsTheSame : Type 0
 LookedUpLogsTheSame =
-    (shapes : List Shape) (number : ℕ) (numbers : List ℕ) (ons : List On) (pred : Condition) (items : Items) (tables : List Table) → FitTables shapes numbers tables
+    (shapes : List Shape) (number : ℕ) (numbers : List ℕ) (ons : List On) (pred : Condition) (items : Items) (tables : List Table)
+    → FitTables shapes numbers tables
     → records_of shapes number (Select numbers ons pred items)
     (spread_all (plan_of shapes numbers ons pred items).parts (looked_up (plan_of shapes numbers ons pred items).parts tables))
     ≡ records_of shapes number (Select numbers ons pred items) tables

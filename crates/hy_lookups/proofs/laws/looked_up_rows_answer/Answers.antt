@@ -1,4 +1,4 @@
-use Rattle.std.proofs.Common.{List, [], ap, sym, ◌∙◌}
+use Rattle.std.proofs.Common.{ℕ, List, [], ap, sym, ◌∙◌}
 use Rattle.std.specs.Prelude.{None, filter}
 use Rattle.hy_bound.specs.Predicate.{truth_of}
 use Rattle.hy_bound.specs.Records.{select_conditions}
@@ -18,7 +18,8 @@ pub returns : goal.returns
 returns c shapes numbers ons pred items tables fits keys =
     let plan : Plan = plan_of shapes numbers ons pred items in
     let found : List Table = spread_all plan.parts (looked_up plan.parts tables) in
-    let again = found_again shapes (select_conditions ons pred) (select_named ons pred items) (conditions_named ons pred items) 0 [] None ons numbers tables fits in
+    let named : List ℕ = select_named ons pred items in
+    let again = found_again shapes (select_conditions ons pred) named (conditions_named ons pred items) 0 [] None ons numbers tables fits in
     ap (λ (ts : List Table). shown items (filter (truth_of plan.rest) (product ts))) (sym again.1)
     ∙ (c.gathered_rows_answer.ensures shapes numbers ons pred items found again.0
     ∙ (ap (answer_of ons pred items) (looked_up_read shapes numbers ons pred items tables fits)

@@ -7,5 +7,6 @@ use Rattle.hy_lookups.proofs.laws.looked_up_rows_log_the_same.Goals as goal
 -- the same is read of what is read
 pub returns : goal.returns
 returns c shapes number numbers ons pred items tables fits =
-    ap (λ gathered. flat_map (recorded number) (select_reads_of shapes numbers ons pred items gathered)) (looked_up_read shapes numbers ons pred items tables fits)
+    ap (λ gathered. flat_map (recorded number) (select_reads_of shapes numbers ons pred items gathered))
+    (looked_up_read shapes numbers ons pred items tables fits)
     ∙ ap (flat_map (recorded number)) (c.what_is_read_is_read_again.ensures shapes numbers ons pred items tables fits)

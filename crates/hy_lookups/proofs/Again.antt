@@ -22,7 +22,7 @@ use Rattle.hy_plan.specs.Plans.{part_of, parts_from}
 use Rattle.hy_plan.specs.Reads.{columns_over}
 use Rattle.hy_join.specs.Answers.{spread_all}
 use Rattle.hy_laws.specs.Gathered.{gathered_of}
-use Rattle.hy_lookups.specs.Lookups.{is_found, is_gathered, found_of, spread_of, looked_up_behind}
+use Rattle.hy_lookups.specs.Lookups.{is_wanted, is_gathered, gathered_for, spread_of, looked_up_behind}
 use Rattle.hy_lookups.proofs.Spread.{Row, each_kept, rows_spread}
 use Rattle.hy_lookups.proofs.Restricted.{restriction_kept}
 
@@ -64,7 +64,7 @@ made_each part earlier (row ∷ rows) fits kept = by_test (is_gathered part earl
     by_test true is later = (
       (
         masked_length part.columns row ∙ fits.0,
-        kept row fits.0 ∙ (and_parts (truth_of part.pred row) (is_found part.lookup earlier row) is).0,
+        kept row fits.0 ∙ (and_parts (truth_of part.pred row) (is_wanted part.lookup earlier row) is).0,
         masked_twice part.columns 0 row,
       ),
       later,
@@ -72,10 +72,10 @@ made_each part earlier (row ∷ rows) fits kept = by_test (is_gathered part earl
     by_test false is later = later
 
 -- the rows gathered for a part
-found_made : (part : PlanPart) (earlier : List (List Value)) (rows : Table) → HaveWidth part.width rows
+part_made : (part : PlanPart) (earlier : List (List Value)) (rows : Table) → HaveWidth part.width rows
     → ((row : Row) → length row ≡ part.width → truth_of part.pred (masked part.columns row) ≡ truth_of part.pred row)
-    → AllByRecursion (IsMade part.pred part.width part.columns) (spread_of part (found_of part earlier rows))
-found_made part earlier rows fits kept =
+    → AllByRecursion (IsMade part.pred part.width part.columns) (spread_of part (gathered_for part earlier rows))
+part_made part earlier rows fits kept =
     subst (AllByRecursion (IsMade part.pred part.width part.columns))
     (sym (rows_spread part.columns part.width (filter (is_gathered part earlier) rows)
     (each_kept (λ row. length row ≡ part.width) (is_gathered part earlier) rows fits)))
@@ -86,26 +86,27 @@ abbrev IsGatheredAgain : List Shape → List ℕ → List PlanPart → List Tabl
 IsGatheredAgain shapes numbers parts tables = FitTables shapes numbers tables × (spread_all parts (gathered_of parts tables) ≡ tables)
 
 -- so is what is looked up
-pub found_again : (shapes : List Shape) (cs : List Condition) (named : List ℕ) → AllByRecursion (λ c. Among named (columns_of c)) cs
+pub looked_up_again : (shapes : List Shape) (cs : List Condition) (named : List ℕ) → AllByRecursion (λ c. Among named (columns_of c)) cs
     → (from : ℕ) (earlier : List (List Value)) (on : Option On) (ons : List On) (numbers : List ℕ) (tables : List Table) → FitTables shapes numbers tables
     → IsGatheredAgain shapes numbers (parts_from shapes cs named from on ons numbers)
     (spread_all (parts_from shapes cs named from on ons numbers) (looked_up_behind earlier (parts_from shapes cs named from on ons numbers) tables))
-found_again shapes cs named among from earlier on ons [] [] fits = (tt, refl)
-found_again shapes cs named among from earlier on ons [] (rows ∷ tables) fits = absurd fits
-found_again shapes cs named among from earlier on ons (number ∷ numbers) [] fits = absurd fits
-found_again shapes cs named among from earlier on ons (number ∷ numbers) (rows ∷ tables) fits =
+looked_up_again shapes cs named among from earlier on ons [] [] fits = (tt, refl)
+looked_up_again shapes cs named among from earlier on ons [] (rows ∷ tables) fits = absurd fits
+looked_up_again shapes cs named among from earlier on ons (number ∷ numbers) [] fits = absurd fits
+looked_up_again shapes cs named among from earlier on ons (number ∷ numbers) (rows ∷ tables) fits =
     let width : ℕ = (shape_of shapes number).width in
     let part : PlanPart = part_of (shape_of shapes number) number from on cs named in
     let others : List PlanPart = parts_from shapes cs named (from + width) (slice_get ons 0) (drop 1 ons) numbers in
-    let found : Table = spread_of part (found_of part earlier rows) in
-    let rest : List Table = spread_all others (looked_up_behind (earlier ++ columns_over width found) others tables) in
-    let made : AllByRecursion (IsMade part.pred width part.columns) found =
-    found_made part earlier rows fits.0.1 (λ row fit. restriction_kept from width cs named row fits.0.0 fit among) in
-    let wide : HaveWidth width found = each_weaker (IsMade part.pred width part.columns) (λ row. length row ≡ width) found (λ row is. is.0) made in
-    let later = found_again shapes cs named among (from + width) (earlier ++ columns_over width found) (slice_get ons 0) (drop 1 ons) numbers tables fits.1 in
-    let again : spread_of part (map (projected part.columns) (filter (truth_of part.pred) found)) ≡ found =
-    rows_spread part.columns width (filter (truth_of part.pred) found) (each_kept (λ row. length row ≡ width) (truth_of part.pred) found wide)
-    ∙ made_again part.pred width part.columns found made in (
+    let now : Table = spread_of part (gathered_for part earlier rows) in
+    let more : List (List Value) = earlier ++ columns_over width now in
+    let rest : List Table = spread_all others (looked_up_behind more others tables) in
+    let made : AllByRecursion (IsMade part.pred width part.columns) now =
+    part_made part earlier rows fits.0.1 (λ row fit. restriction_kept from width cs named row fits.0.0 fit among) in
+    let wide : HaveWidth width now = each_weaker (IsMade part.pred width part.columns) (λ row. length row ≡ width) now (λ row is. is.0) made in
+    let later = looked_up_again shapes cs named among (from + width) more (slice_get ons 0) (drop 1 ons) numbers tables fits.1 in
+    let again : spread_of part (map (projected part.columns) (filter (truth_of part.pred) now)) ≡ now =
+    rows_spread part.columns width (filter (truth_of part.pred) now) (each_kept (λ row. length row ≡ width) (truth_of part.pred) now wide)
+    ∙ made_again part.pred width part.columns now made in (
       ((fits.0.0, wide), later.0),
-      ap (λ (rs : Table). rs ∷ spread_all others (gathered_of others rest)) again ∙ ap (λ (ts : List Table). found ∷ ts) later.1,
+      ap (λ (rs : Table). rs ∷ spread_all others (gathered_of others rest)) again ∙ ap (λ (ts : List Table). now ∷ ts) later.1,
     )

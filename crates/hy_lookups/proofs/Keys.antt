@@ -1,4 +1,4 @@
--- A look-up finds the rows that are read by their key.
+-- The rows that a look-up wants are those that are read by their key.
 use Rattle.std.proofs.Common.{◌≡◌, ℕ, List, [], ◌∷◌, length, map, filter, refl, ap, ◌∙◌, Ordering, Less, Equal, Greater, is_eq}
 use Rattle.std.specs.Ordering.{match_ordering}
 use Rattle.std.specs.Prelude.{Bool, true, false, cond, not, ◌&&◌, ◌||◌, nat_le, if◌then◌else◌, Option, None, Some, slice_index_or}
@@ -14,7 +14,7 @@ use Rattle.hy_bound.specs.Records.{conjoined}
 use Rattle.hy_bound.specs.Truths.{and_also_truth}
 use Rattle.hy_plan.specs.Plans.{lookup_of}
 use Rattle.hy_plan.specs.Reads.{is_read_of, key_is_value, known_values_of, most_keys, read_by_of}
-use Rattle.hy_lookups.specs.Lookups.{is_found}
+use Rattle.hy_lookups.specs.Lookups.{is_wanted}
 
 -- values none of which is NULL
 abbrev AreKnown : List Value → Type 0
@@ -94,11 +94,11 @@ read_if_few : (few : Bool) (condition : Condition) (key : ℕ) (values : List Va
 read_if_few true condition key values row known = read_by_key condition key values row known
 read_if_few false condition key values row known = read_by_one (truth_of condition row)
 
--- a row is read where its condition is true and its look-up finds it
-pub read_where_found : (condition : Condition) (key source : Option ℕ) (earlier : List (List Value)) (row : List Value)
-    → is_read_of (read_by_of condition key source earlier) row ≡ (truth_of condition row && is_found (lookup_of key source) earlier row)
-read_where_found condition None source earlier row = read_by_one (truth_of condition row)
-read_where_found condition (Some key) None earlier row = read_by_one (truth_of condition row)
-read_where_found condition (Some key) (Some source) earlier row =
+-- a row is read where the condition is true of it and the look-up wants it
+pub read_where_wanted : (condition : Condition) (key source : Option ℕ) (earlier : List (List Value)) (row : List Value)
+    → is_read_of (read_by_of condition key source earlier) row ≡ (truth_of condition row && is_wanted (lookup_of key source) earlier row)
+read_where_wanted condition None source earlier row = read_by_one (truth_of condition row)
+read_where_wanted condition (Some key) None earlier row = read_by_one (truth_of condition row)
+read_where_wanted condition (Some key) (Some source) earlier row =
     let values : List Value = slice_index_or earlier source [] in
     read_if_few (nat_le (length (known_values_of values)) most_keys) condition key (known_values_of values) row (known_each values)

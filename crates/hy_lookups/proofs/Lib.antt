@@ -1,6 +1,6 @@
 mod Keys
 mod Spread
-mod Found
+mod AsRead
 mod Restricted
 mod Again
 mod InTurn

@@ -8,7 +8,7 @@ pub fn look_ups_leave_rows_out()
 {}
 
 /// A key must be one of its table's columns: else ON may speak of a column of a later table where the key would stand,
-/// and a row that has no such column is not found.
+/// and a row, which has no such column, is not wanted.
 pub fn a_key_must_be_a_column()
     ensures { AnyKeysSuffice → ⊥ }
 {}

@@ -5,16 +5,15 @@ ghost use Rattle.hy_lookups.specs.Turns.{LookedUpInTurn, LookedUpAlone};
 
 use hy_laws::{answers_depend_on_what_is_read, gathered_rows_answer, what_is_read_is_read_again};
 
-/// For each part of a plan that is gathered of its table which what was gathered for the parts before it lets find: the rows
-/// of which the part's condition is true and, where the table is looked up and the keys are few, that have one of these
-/// keys. Tables gathered so, one after another, are what is looked up, and no others are.
+/// What is looked up, said of each table for itself: for a part of a plan that is gathered of its table which its look-up
+/// wants by what was gathered for the parts before it. Tables that are gathered so are what is looked up, and no others are.
 pub fn tables_are_looked_up_in_turn()
     ensures each { LookedUpInTurn }
     ensures alone { LookedUpAlone }
 {}
 
-/// What is gathered for the plan of a SELECT by looking tables up by their key, as rows of the tables, is what the SELECT
-/// reads of them, row by row: an engine that knows only what it has gathered so far finds the rows that its records speak of.
+/// What is looked up for a SELECT's plan is what the SELECT reads of its tables, row by row and in the same order: an engine
+/// that knows of the earlier tables only what it gathered of them gathers the rows of which its records are.
 pub fn looked_up_rows_are_what_is_read()
     ensures { LookedUpIsRead }
 {}
@@ -27,7 +26,8 @@ pub fn looked_up_rows_answer()
     gathered_rows_answer();
 }
 
-/// The records that a SELECT logs over what was looked up for it are those that it logs over its tables.
+/// The records that a SELECT logs over what was looked up for it are those that it logs over its tables: they can be made
+/// from what was gathered, without another look at the tables.
 pub fn looked_up_rows_log_the_same()
     ensures { LookedUpLogsTheSame }
 {

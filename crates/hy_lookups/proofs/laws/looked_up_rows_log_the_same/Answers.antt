@@ -1,7 +1,7 @@
 use Rattle.std.proofs.Common.{ap, ◌∙◌}
 use Rattle.std.specs.List.{flat_map}
 use Rattle.hy_plan.specs.Reads.{recorded, select_reads_of}
-use Rattle.hy_lookups.proofs.Found.{looked_up_read}
+use Rattle.hy_lookups.proofs.AsRead.{looked_up_read}
 use Rattle.hy_lookups.proofs.laws.looked_up_rows_log_the_same.Goals as goal
 
 -- the same is read of what is read

@@ -1,0 +1,7 @@
+mod Keys
+mod Spread
+mod AsRead
+mod Restricted
+mod Again
+mod InTurn
+mod Ended

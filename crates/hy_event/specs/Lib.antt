@@ -1,0 +1,11 @@
+pub mod Sessions
+pub mod Turns
+pub mod Needs
+pub mod Changing
+pub mod Reading
+pub mod Writing
+pub mod Inserting
+pub mod Stamping
+pub mod Undoing
+pub mod Coring
+pub mod Events

@@ -1,0 +1,118 @@
+//! What a session of the engine keeps, what it needs next, and what a visit of it to a part is, as plain data: the
+//! engine's session meets these definitions, and what its visits come to is told of them.
+//!
+//! A visit is one step of one session at one chunk, or at the core that all share: a statement goes from chunk to
+//! chunk; BEGIN, COMMIT and an end are steps at the core; a transaction that committed stamps the chunks that it
+//! wrote, and one that is refused or rolls back undoes them.
+#![tactic(auto)]
+
+use hy_bound::{Records, Replies, Rows, Shapes, Txns};
+use hy_change::Changes;
+use hy_prune::Cover;
+use hy_render::{Ending, Places, TxnOutcome};
+use hy_stamp::Label;
+use hy_value::Seq;
+
+/// Where an open transaction stands. Which kind of visit comes next follows from its present statement.
+#[derive(Clone, Copy, Debug, PartialEq, Eq)]
+pub enum Phase {
+    /// So many visits of its present statement are done, which selected so many rows. Where all statements are
+    /// answered nothing is done of what closes it.
+    Working {
+        /// The visits done.
+        visited: u32,
+        /// The rows selected so far by an UPDATE or a DELETE.
+        count: u64,
+    },
+    /// Its entry stands in the journal, and so many of the chunks that it wrote are stamped.
+    Stamping {
+        /// The stamps done.
+        visited: u32,
+        /// Its commit time.
+        time: u64,
+    },
+    /// So many of the chunks that it wrote are undone.
+    Undoing {
+        /// The undo visits done.
+        visited: u32,
+        /// How it will end.
+        cause: Ending,
+    },
+}
+
+/// An open transaction.
+#[derive(Drop)]
+pub struct Open {
+    /// Its start time.
+    pub start: u64,
+    /// How many entries the journal had at its BEGIN.
+    pub prefix: u32,
+    /// The starts that were open after its BEGIN, its own among them, and the next time: it prunes by these.
+    pub cover: Cover,
+    /// The replies to its answered statements.
+    pub replies: Replies,
+    /// The records of its answered statements.
+    pub records: Records,
+    /// For each answered statement the position that it took, if it was an INSERT that took one.
+    pub took: Seq<Option<u32>>,
+    /// What a SELECT has gathered so far: for each table that it visited, in FROM order, rows of the values that its
+    /// plan takes.
+    pub gathered: Seq<Rows>,
+    /// What it wrote, by table and then position, until its entry has it.
+    pub notes: Changes,
+    /// The positions that it wrote, from its entry on.
+    pub wrote: Places,
+    /// Where it stands.
+    pub phase: Phase,
+}
+
+/// A session.
+#[derive(Drop)]
+pub struct SessionData {
+    /// Its number.
+    pub number: u32,
+    /// Its transactions.
+    pub program: Txns,
+    /// The columns of each table.
+    pub shapes: Shapes,
+    /// How many chunks a table has.
+    pub chunks: u32,
+    /// How many positions a chunk has.
+    pub rows: u32,
+    /// Whether it prunes the chunks that it writes.
+    pub prunes: bool,
+    /// What its ended transactions came to, in order.
+    pub done: Seq<TxnOutcome>,
+    /// The open transaction, if there is one.
+    pub now: Option<Open>,
+}
+
+/// The part that a session needs for its next visit.
+#[derive(Clone, Copy, Debug, PartialEq, Eq)]
+pub enum Need {
+    /// The core.
+    Core,
+    /// A chunk.
+    Chunk {
+        /// The table.
+        table: u32,
+        /// The number of the chunk in the table, from 0.
+        chunk: u32,
+    },
+    /// None: its script is at its end.
+    Done,
+}
+
+/// What a visit came to.
+#[derive(Clone, Copy, Debug, PartialEq, Eq)]
+pub enum Progress {
+    /// The session went on, and has not answered yet.
+    Moved,
+    /// The session began a transaction, or gave a reply or an ending.
+    Answered,
+    /// Nothing changed: a transaction stands between the entry of its commit and its end.
+    Blocked {
+        /// That transaction.
+        by: Label,
+    },
+}

@@ -6,7 +6,6 @@ use Rattle.hy_value.specs.declared.Value.{Value}
 use Rattle.hy_bound.specs.declared.Bound.{Bound}
 use Rattle.hy_bound.specs.declared.Reply.TheVariants as reply
 use Rattle.hy_bound.specs.Changes.{present}
-use Rattle.hy_bound.specs.Records.{shape_of}
 use Rattle.hy_meaning.specs.Statement.{has_key_of}
 use Rattle.hy_prune.specs.declared.Cover.{Cover}
 use Rattle.hy_prune.specs.Fates.{watermark_of}

@@ -9,3 +9,4 @@ pub mod Stamping
 pub mod Undoing
 pub mod Coring
 pub mod Events
+pub mod Examples

@@ -1,5 +1,5 @@
 -- A visit of a transaction that has its entry: its records in the chunk get the commit time, and then the chunk is pruned.
-use Rattle.std.specs.Prelude.{◌≡◌, ℕ, suc, []}
+use Rattle.std.specs.Prelude.{ℕ, suc, []}
 use Rattle.hy_stamp.specs.Times.{id_of}
 use Rattle.hy_undo.specs.Chunks.{ChunkData, StampedPlace, AtOwn, Everywhere}
 use Rattle.hy_event.specs.declared.SessionData.{SessionData}

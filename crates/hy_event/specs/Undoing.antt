@@ -1,5 +1,5 @@
 -- A visit of a transaction that is undone: what it wrote in the chunk goes.
-use Rattle.std.specs.Prelude.{◌≡◌, ℕ, suc, []}
+use Rattle.std.specs.Prelude.{ℕ, suc, []}
 use Rattle.hy_render.specs.declared.Ending.{Ending}
 use Rattle.hy_stamp.specs.Times.{id_of}
 use Rattle.hy_undo.specs.Chunks.{ChunkData, Undone, AtOwn, Everywhere}

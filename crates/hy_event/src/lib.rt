@@ -6,12 +6,21 @@
 //! wrote, and one that is refused or rolls back undoes them.
 #![tactic(auto)]
 
+mod rows;
+
 use hy_bound::{Records, Replies, Rows, Shapes, Txns};
 use hy_change::Changes;
 use hy_prune::Cover;
 use hy_render::{Ending, Places, TxnOutcome};
 use hy_stamp::Label;
 use hy_value::Seq;
+pub use rows::{
+    a_begin_waits, a_commit_enters_the_journal, a_commit_of_nothing_written_ends,
+    a_count_gathers_and_answers, a_hit_refuses_a_commit, a_session_begins,
+    a_stamped_transaction_ends, a_written_chunk_is_stamped, a_written_chunk_is_undone,
+    an_insert_finds_its_key, an_insert_may_find_no_room, an_insert_takes_a_free_position,
+    an_update_passes_what_it_does_not_select, an_update_writes_what_it_selects,
+};
 
 /// Where an open transaction stands. Which kind of visit comes next follows from its present statement.
 #[derive(Clone, Copy, Debug, PartialEq, Eq)]

@@ -16,7 +16,8 @@ use Rattle.hy_event.specs.declared.Need.TheVariants.{Core, Chunk, Done}
 use Rattle.hy_event.specs.declared.Progress.{Progress}
 use Rattle.hy_event.specs.Sessions.{txn_at}
 use Rattle.hy_event.specs.Needs.{need_of}
-use Rattle.hy_event.specs.Reading.{ReadVisit, select_reading, group_reading}
+use Rattle.hy_event.specs.Gathering.{select_reading, group_reading}
+use Rattle.hy_event.specs.Reading.{ReadVisit}
 use Rattle.hy_event.specs.Writing.{WriteVisit}
 use Rattle.hy_event.specs.Inserting.{InsertVisit}
 use Rattle.hy_event.specs.Stamping.{StampVisit}

@@ -1,5 +1,5 @@
 -- One table of accounts, and small chunks, cores and sessions of it, of which the worked rows are made.
-use Rattle.std.specs.Prelude.{ℕ, List, [], ◌∷◌, true, false, Option, None, Some, pos}
+use Rattle.std.specs.Prelude.{ℕ, List, [], ◌∷◌, ◌++◌, true, false, Option, None, Some, pos}
 use Rattle.hy_value.specs.declared.Cmp.TheVariants.{Eq}
 use Rattle.hy_value.specs.declared.Value.{Value}
 use Rattle.hy_value.specs.declared.Value.TheVariants.{Null, Int}
@@ -7,11 +7,11 @@ use Rattle.hy_stamp.specs.declared.Label.{Label}
 use Rattle.hy_stamp.specs.Times.{id_of}
 use Rattle.hy_bound.specs.declared.Bound.{Bound}
 use Rattle.hy_bound.specs.declared.Bound.TheVariants.{Select, Insert, Update}
-use Rattle.hy_bound.specs.declared.Items.TheVariants.{Count}
+use Rattle.hy_bound.specs.declared.Items.TheVariants.{Columns, Count}
 use Rattle.hy_bound.specs.declared.predicate.Side.TheVariants.{Literal}
 use Rattle.hy_bound.specs.declared.Record.{Record}
 use Rattle.hy_bound.specs.declared.Reply.{Reply}
-use Rattle.hy_bound.specs.declared.Reply.TheVariants.{Updated}
+use Rattle.hy_bound.specs.declared.Reply.TheVariants.{Rows, Updated}
 use Rattle.hy_bound.specs.declared.Shape.{Shape}
 use Rattle.hy_bound.specs.declared.Txn.{Txn}
 use Rattle.hy_bound.specs.Condition.{Condition, True, Compare}
@@ -53,6 +53,11 @@ is_account id = Compare 0 Eq (Literal (number id))
 abbrev pub counting : Bound
 counting = Select (0 ∷ []) [] True Count
 
+-- the balances of accounts with their owners: a second table has an account's number and the number of its owner.
+-- Accounts are looked up by their key
+abbrev pub joining : Bound
+joining = Select (1 ∷ 0 ∷ []) (record { left = 0; right = 2 } ∷ []) True (Columns (1 ∷ 3 ∷ []))
+
 -- account 2 gets the balance 90
 abbrev pub paying : Bound
 paying = Update 0 (record { column = 1; value = SetTo (number 90) } ∷ []) (is_account 2)
@@ -62,8 +67,8 @@ abbrev pub opening : ℕ → Bound
 opening id = Insert 0 (account id 100)
 
 -- the record of a first statement that reads the rows of this condition, and of these the columns that it names
-abbrev pub reading : Condition → List ℕ → Record
-reading pred named = record { statement = 1; table = 0; pred = pred; columns = named_columns 0 2 named }
+abbrev pub logged : Condition → List ℕ → Record
+logged pred named = record { statement = 1; table = 0; pred = pred; columns = named_columns 0 2 named }
 
 -- what a count keeps of a row that it gathers: no column
 abbrev pub kept_by_count : List Value → List Value
@@ -149,12 +154,29 @@ begun phase = record {
 
 -- the same once its first statement is answered
 abbrev pub answered : Reply → Option ℕ → Record → List Change → Open
-answered reply took logged notes =
-    record (begun (Working 0 0)) { replies = reply ∷ []; took = took ∷ []; records = logged ∷ []; notes = notes }
+answered reply took read notes =
+    record (begun (Working 0 0)) { replies = reply ∷ []; took = took ∷ []; records = read ∷ []; notes = notes }
 
 -- a session whose open transaction has this one statement, and commits
 abbrev pub running : Bound → Open → SessionData
 running statement now = session_of (committing (statement ∷ []) ∷ []) (Some now)
+
+-- a session that joins accounts with their owners: it has owner 7 of account 1, and has visited so many chunks
+abbrev pub joined_with : List (List (List Value)) → Open → SessionData
+joined_with accounts_gathered now =
+    record (running joining (record now { gathered = ((number 1 ∷ number 7 ∷ []) ∷ []) ∷ accounts_gathered }))
+    { shapes = accounts ++ record { width = 2; key = None } ∷ [] }
+
+abbrev pub join_answered : SessionData
+join_answered =
+    record (running joining (record (begun (Working 0 0)) {
+      replies = Rows ((number 7 ∷ number 100 ∷ []) ∷ []) ∷ [];
+      took = None ∷ [];
+      records =
+          record { statement = 1; table = 1; pred = True; columns = named_columns 0 2 (0 ∷ 2 ∷ 1 ∷ 3 ∷ []) }
+          ∷ record { statement = 1; table = 0; pred = is_account 1; columns = named_columns 2 2 (0 ∷ 2 ∷ 1 ∷ 3 ∷ []) }
+          ∷ [];
+    })) { shapes = accounts ++ record { width = 2; key = None } ∷ [] }
 
 -- the same once that transaction ended
 abbrev pub ended : Bound → TxnOutcome → SessionData
@@ -172,7 +194,7 @@ paid = change (Some (account 2 100)) (Some (account 2 90))
 
 -- the transaction that paid, before its COMMIT; with its entry; and how it ends
 abbrev pub payer : Open
-payer = answered (Updated 1) None (reading (is_account 2) (0 ∷ [])) (paid ∷ [])
+payer = answered (Updated 1) None (logged (is_account 2) (0 ∷ [])) (paid ∷ [])
 
 abbrev pub payer_entered : ℕ → Open
 payer_entered visited = record payer { notes = []; wrote = record { table = 0; pos = 1 } ∷ []; phase = Stamping visited 2 }

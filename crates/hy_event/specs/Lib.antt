@@ -1,7 +1,9 @@
 pub mod Sessions
+pub mod Ended
 pub mod Turns
 pub mod Needs
 pub mod Changing
+pub mod Gathering
 pub mod Reading
 pub mod Writing
 pub mod Inserting

@@ -1,13 +1,10 @@
 -- What a session does in a visit, as a value, and what that makes of the session.
-use Rattle.std.specs.Prelude.{◌≡◌, ℕ, suc, List, [], ◌∷◌, ◌++◌, Bool, false, ◌&&◌, ◌==◌, Option, None, Some, is_some, map, count_by, zip, length}
-use Rattle.std.specs.List.{range_with_len}
+use Rattle.std.specs.Prelude.{◌≡◌, ℕ, suc, List, [], ◌∷◌, ◌++◌, Option, None, Some, length}
 use Rattle.std.specs.Option.{option_map}
 use Rattle.hy_value.specs.declared.Value.{Value}
 use Rattle.hy_bound.specs.declared.Bound.{Bound}
-use Rattle.hy_bound.specs.declared.Bound.TheVariants.{Select, Group, Insert, Update, Delete}
 use Rattle.hy_bound.specs.declared.Record.{Record}
 use Rattle.hy_bound.specs.declared.Reply.{Reply}
-use Rattle.hy_bound.specs.declared.Txn.{Txn}
 use Rattle.hy_change.specs.declared.Change.{Change}
 use Rattle.hy_notes.specs.Notes.{with_note}
 use Rattle.hy_plan.specs.Reads.{records_of}
@@ -20,7 +17,8 @@ use Rattle.hy_event.specs.declared.Phase.{Phase}
 use Rattle.hy_event.specs.declared.Phase.TheVariants.{Working, Stamping, Undoing}
 use Rattle.hy_event.specs.declared.Progress.{Progress}
 use Rattle.hy_event.specs.declared.Progress.TheVariants.{Moved, Answered, Blocked}
-use Rattle.hy_event.specs.Sessions.{txn_at, label_of, written}
+use Rattle.hy_event.specs.Sessions.{written}
+use Rattle.hy_event.specs.Ended.{outcome_of}
 
 -- what a session does
 pub data Turn : Type 0 where
@@ -80,33 +78,6 @@ abbrev pub after_entry : ℕ → Open → Open
 after_entry time now = record now { notes = []; wrote = written now; phase = Stamping 0 time }
 
 -- ---- a session after a turn
-
--- whether a statement is an INSERT into a table
-abbrev pub inserts_into : ℕ → Bound → Bool
-inserts_into table (Select tables ons pred items) = false
-inserts_into table (Group other pred key aggregate) = false
-inserts_into table (Insert other row) = other == table
-inserts_into table (Update other sets pred) = false
-inserts_into table (Delete other pred) = false
-
--- how many INSERTs of these answered statements took a position of a table
-abbrev pub placed_in : List (Bound × Option ℕ) → ℕ → ℕ
-placed_in answered table = count_by (λ one. inserts_into table one.0 && is_some one.1) answered
-
-abbrev pub statements_in : Option Txn → List Bound
-statements_in None = []
-statements_in (Some txn) = txn.statements
-
--- what a session's open transaction comes to where it ends
-abbrev pub outcome_of : SessionData → Open → Ending → TxnOutcome
-outcome_of session now ending = record {
-  label = label_of session;
-  start = now.prefix;
-  replies = now.replies;
-  ending = ending;
-  wrote = written now;
-  placed = map (placed_in (zip (statements_in (txn_at session)) now.took)) (range_with_len 0 (length session.shapes));
-}
 
 -- the ended transactions of a session, and the one that ends, if one is open
 abbrev pub done_with : SessionData → Ending → Option Open → List TxnOutcome

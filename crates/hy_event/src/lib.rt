@@ -16,7 +16,7 @@ use hy_stamp::Label;
 use hy_value::Seq;
 pub use rows::{
     a_begin_waits, a_commit_enters_the_journal, a_commit_of_nothing_written_ends,
-    a_count_gathers_and_answers, a_hit_refuses_a_commit, a_session_begins,
+    a_count_gathers_and_answers, a_hit_refuses_a_commit, a_join_gathers_by_key, a_session_begins,
     a_stamped_transaction_ends, a_written_chunk_is_stamped, a_written_chunk_is_undone,
     an_insert_finds_its_key, an_insert_may_find_no_room, an_insert_takes_a_free_position,
     an_update_passes_what_it_does_not_select, an_update_writes_what_it_selects,

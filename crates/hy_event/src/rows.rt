@@ -11,8 +11,8 @@ ghost use Rattle.hy_event.specs.declared.Progress.{Progress};
 ghost use Rattle.hy_event.specs.Needs.{need_of};
 ghost use Rattle.hy_event.specs.Coring.{CoreEvent};
 ghost use Rattle.hy_event.specs.Events.{ChunkEvent, Event, CorePart};
-ghost use Rattle.hy_event.specs.Examples.{account, is_account, counting, paying, opening, reading, kept_by_count};
-ghost use Rattle.hy_event.specs.Examples.{committing, rolling_back, session_of, running, ended, begun, answered};
+ghost use Rattle.hy_event.specs.Examples.{account, is_account, counting, paying, opening, logged, kept_by_count};
+ghost use Rattle.hy_event.specs.Examples.{committing, rolling_back, session_of, running, ended, begun, answered, joined_with, join_answered};
 ghost use Rattle.hy_event.specs.Examples.{chunk_of, with_row, unused, with_paid, with_new, first, other};
 ghost use Rattle.hy_event.specs.Examples.{change, paid, payer, payer_entered, payer_ended, core_of, entry_at};
 
@@ -49,7 +49,20 @@ pub fn a_count_gathers_and_answers()
         (running counting (record (begun (Phase.Working 1 0)) { gathered = (kept_by_count (account 1 100) ∷ []) ∷ [] }))
         (chunk_of 1 unused)
         Progress.Answered
-        (running counting (answered (Reply.Value (pos 1)) None (reading True []) [])) (chunk_of 1 unused) }
+        (running counting (answered (Reply.Value (pos 1)) None (logged True []) [])) (chunk_of 1 unused) }
+{}
+
+/// Where ON looks accounts up by their key, one that no row gathered so far asks for is left out, and one that is asked
+/// for is gathered, and recorded by its key.
+pub fn a_join_gathers_by_key()
+    ensures passes { ChunkEvent
+        (joined_with [] (begun (Phase.Working 2 0))) (chunk_of 0 (with_row (account 2 100)))
+        Progress.Moved
+        (joined_with ([] ∷ []) (begun (Phase.Working 3 0))) (chunk_of 0 (with_row (account 2 100))) }
+    ensures answers { ChunkEvent
+        (joined_with ([] ∷ []) (begun (Phase.Working 3 0))) (chunk_of 1 (with_row (account 1 100)))
+        Progress.Answered
+        join_answered (chunk_of 1 (with_row (account 1 100))) }
 {}
 
 /// Where nothing is selected an UPDATE goes on to the next chunk, and the positions stay.
@@ -76,7 +89,7 @@ pub fn an_insert_finds_its_key()
     ensures { ChunkEvent
         (running (opening 1) (begun (Phase.Working 0 0))) (chunk_of 0 (with_row (account 1 100)))
         Progress.Answered
-        (running (opening 1) (answered Reply.Duplicate None (reading (is_account 1) (0 ∷ [])) []))
+        (running (opening 1) (answered Reply.Duplicate None (logged (is_account 1) (0 ∷ [])) []))
         (chunk_of 0 (with_row (account 1 100))) }
 {}
 
@@ -89,7 +102,7 @@ pub fn an_insert_takes_a_free_position()
     ensures takes { ChunkEvent
         (running (opening 2) (begun (Phase.Working 3 0))) (chunk_of 1 unused)
         Progress.Answered
-        (running (opening 2) (answered Reply.Inserted (Some 1) (reading (is_account 2) (0 ∷ [])) (change None (Some (account 2 100)) ∷ [])))
+        (running (opening 2) (answered Reply.Inserted (Some 1) (logged (is_account 2) (0 ∷ [])) (change None (Some (account 2 100)) ∷ [])))
         (chunk_of 1 with_new) }
 {
     hy_undo::places_step()
@@ -107,10 +120,16 @@ pub fn an_insert_may_find_no_room()
 /// COMMIT ends a transaction that wrote nothing, and its start is not open any more.
 pub fn a_commit_of_nothing_written_ends()
     ensures { CoreEvent
-        (running counting (answered (Reply.Value (pos 1)) None (reading True []) [])) (core_of 2 (1 ∷ []) [] None)
+        (running counting (answered (Reply.Value (pos 1)) None (logged True []) [])) (core_of 2 (1 ∷ []) [] None)
         Progress.Answered
         (ended counting (record {
-          label = first; start = 0; replies = Reply.Value (pos 1) ∷ []; ending = Ending.Read; wrote = []; placed = 0 ∷ [] }))
+          label = first;
+          start = 0;
+          replies = Reply.Value (pos 1) ∷ [];
+          ending = Ending.Read;
+          wrote = [];
+          placed = 0 ∷ [];
+        }))
         (core_of 2 [] [] None) }
 {}
 
@@ -128,11 +147,12 @@ pub fn a_commit_enters_the_journal()
 /// transaction is undone.
 pub fn a_hit_refuses_a_commit()
     ensures { CoreEvent
-        (running counting (answered (Reply.Value (pos 1)) None (reading True []) (paid ∷ [])))
+        (running counting (answered (Reply.Value (pos 1)) None (logged True []) (paid ∷ [])))
         (core_of 3 (1 ∷ []) (entry_at other 2 (change None (Some (account 3 100)) ∷ []) ∷ []) None)
         Progress.Moved
-        (running counting (record (answered (Reply.Value (pos 1)) None (reading True []) (paid ∷ [])) {
-          phase = Phase.Undoing 0 (Ending.Invalid 0 1 other 1) }))
+        (running counting (record (answered (Reply.Value (pos 1)) None (logged True []) (paid ∷ [])) {
+          phase = Phase.Undoing 0 (Ending.Invalid 0 1 other 1);
+        }))
         (core_of 3 (1 ∷ []) (entry_at other 2 (change None (Some (account 3 100)) ∷ []) ∷ []) None) }
 {}
 

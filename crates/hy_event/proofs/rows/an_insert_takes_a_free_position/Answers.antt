@@ -21,7 +21,7 @@ returns-clause-takes c = record {
   chunk = record {
     places = (
       c.places_step.ensures.places (record { id = id_of first; start = 1 }) first 1 (record { values = None ∷ None ∷ []; live = false })
-      (with_row (account 2 100)).version unused refl (record { row = λ _. refl; chain = λ _. refl }) refl refl,
+          (with_row (account 2 100)).version unused refl (record { row = λ _. refl; chain = λ _. refl }) refl refl,
       refl,
     );
     others = refl;

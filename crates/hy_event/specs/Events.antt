@@ -16,7 +16,7 @@ use Rattle.hy_event.specs.declared.Need.TheVariants.{Core, Chunk, Done}
 use Rattle.hy_event.specs.declared.Progress.{Progress}
 use Rattle.hy_event.specs.Sessions.{txn_at}
 use Rattle.hy_event.specs.Needs.{need_of}
-use Rattle.hy_event.specs.Gathering.{select_reading, group_reading}
+use Rattle.hy_event.specs.Gathering.{select_read_plan, group_read_plan}
 use Rattle.hy_event.specs.Reading.{ReadVisit}
 use Rattle.hy_event.specs.Writing.{WriteVisit}
 use Rattle.hy_event.specs.Inserting.{InsertVisit}
@@ -29,9 +29,9 @@ use Rattle.hy_event.specs.Coring.{CoreEvent}
 -- a visit of the present statement
 abbrev pub StatementVisit : SessionData → Open → ℕ → ℕ → Bound → ChunkData → Progress → SessionData → ChunkData → Type 0
 StatementVisit session now visited count (Select tables ons pred items) =
-    ReadVisit session now visited (Select tables ons pred items) (select_reading session.shapes tables ons pred items)
+    ReadVisit session now visited (Select tables ons pred items) (select_read_plan session.shapes tables ons pred items)
 StatementVisit session now visited count (Group table pred key aggregate) =
-    ReadVisit session now visited (Group table pred key aggregate) (group_reading session.shapes table pred key aggregate)
+    ReadVisit session now visited (Group table pred key aggregate) (group_read_plan session.shapes table pred key aggregate)
 StatementVisit session now visited count (Insert table row) =
     InsertVisit session now visited (Insert table row) table row (shape_of session.shapes table).key
 StatementVisit session now visited count (Update table sets pred) =

@@ -10,7 +10,8 @@ use Rattle.hy_event.specs.Sessions.{label_of}
 use Rattle.hy_event.specs.Turns.{Visits, Takes}
 use Rattle.hy_event.specs.Changing.{OnlyPlaces, PrunesFirst}
 
-pub record StampVisit (session : SessionData) (now : Open) (visited time : ℕ) (old : ChunkData) (progress : Progress) (after : SessionData) (new : ChunkData) : Type 0 where
+pub record StampVisit (session : SessionData) (now : Open) (visited time : ℕ)
+    (old : ChunkData) (progress : Progress) (after : SessionData) (new : ChunkData) : Type 0 where
   pub between : ChunkData
   pub chunk : OnlyPlaces (Everywhere (AtOwn (id_of (label_of session)) (StampedPlace (id_of (label_of session)) time))) old between
   pub prunes : PrunesFirst session now.cover between new

@@ -11,6 +11,7 @@ use Rattle.hy_event.specs.Sessions.{label_of}
 use Rattle.hy_event.specs.Turns.{Visits, Takes}
 use Rattle.hy_event.specs.Changing.{OnlyPlaces}
 
-pub record UndoVisit (session : SessionData) (now : Open) (visited : ℕ) (cause : Ending) (old : ChunkData) (progress : Progress) (after : SessionData) (new : ChunkData) : Type 0 where
+pub record UndoVisit (session : SessionData) (now : Open) (visited : ℕ) (cause : Ending)
+    (old : ChunkData) (progress : Progress) (after : SessionData) (new : ChunkData) : Type 0 where
   pub chunk : OnlyPlaces (Everywhere (AtOwn (id_of (label_of session)) (Undone (id_of (label_of session))))) old new
   pub turn : Takes session (Visits [] (phase.Undoing (suc visited) cause)) progress after

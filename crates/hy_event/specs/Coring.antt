@@ -25,9 +25,9 @@ abbrev pub CoreTurn : Type 0
 CoreTurn = Turn × CoreData
 
 -- a core step is taken unless another transaction stands between its entry and its end
-abbrev pub unless_blocked : SessionData → CoreData → Option Label → CoreTurn → CoreTurn
-unless_blocked session core None turn = turn
-unless_blocked session core (Some by) turn = (Waits by, core)
+abbrev pub unless_blocked : CoreData → Option Label → CoreTurn → CoreTurn
+unless_blocked core None turn = turn
+unless_blocked core (Some by) turn = (Waits by, core)
 
 -- ---- BEGIN
 
@@ -89,18 +89,18 @@ closing_turn session core now commits = if commits then commit_turn session core
 -- while statements are left the core isn't needed
 abbrev pub working_turn : SessionData → CoreData → Txn → Open → Option Bound → Option CoreTurn
 working_turn session core txn now None =
-    Some (unless_blocked session core (blocked_by core (label_of session)) (closing_turn session core now txn.commits))
+    Some (unless_blocked core (blocked_by core (label_of session)) (closing_turn session core now txn.commits))
 working_turn session core txn now (Some statement) = None
 
 abbrev pub phase_turn : SessionData → CoreData → Txn → Open → Phase → Option CoreTurn
 phase_turn session core txn now (Working visited count) = working_turn session core txn now (slice_get txn.statements (length now.replies))
 phase_turn session core txn now (Stamping visited time) = Some (leave_turn core now)
 phase_turn session core txn now (Undoing visited cause) =
-    Some (unless_blocked session core (blocked_by core (label_of session)) (close_turn core now cause))
+    Some (unless_blocked core (blocked_by core (label_of session)) (close_turn core now cause))
 
 abbrev pub session_turn : SessionData → CoreData → Option Txn → Option Open → Option CoreTurn
 session_turn session core None now = None
-session_turn session core (Some txn) None = Some (unless_blocked session core (blocked_by core (label_of session)) (begin_turn core))
+session_turn session core (Some txn) None = Some (unless_blocked core (blocked_by core (label_of session)) (begin_turn core))
 session_turn session core (Some txn) (Some now) = phase_turn session core txn now now.phase
 
 -- what a session does at the core, if it has something to do there

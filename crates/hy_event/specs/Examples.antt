@@ -5,8 +5,9 @@ use Rattle.hy_value.specs.declared.Value.{Value}
 use Rattle.hy_value.specs.declared.Value.TheVariants.{Null, Int}
 use Rattle.hy_stamp.specs.declared.Label.{Label}
 use Rattle.hy_stamp.specs.Times.{id_of}
+use Rattle.hy_bound.specs.declared.Aggregate.TheVariants as aggregate
 use Rattle.hy_bound.specs.declared.Bound.{Bound}
-use Rattle.hy_bound.specs.declared.Bound.TheVariants.{Select, Insert, Update}
+use Rattle.hy_bound.specs.declared.Bound.TheVariants.{Select, Group, Insert, Update, Delete}
 use Rattle.hy_bound.specs.declared.Items.TheVariants.{Columns, Count}
 use Rattle.hy_bound.specs.declared.predicate.Side.TheVariants.{Literal}
 use Rattle.hy_bound.specs.declared.Record.{Record}
@@ -21,7 +22,7 @@ use Rattle.hy_change.specs.declared.Change.{Change}
 use Rattle.hy_journal.specs.declared.CoreData.{CoreData}
 use Rattle.hy_journal.specs.declared.Entry.{Entry}
 use Rattle.hy_plan.specs.ColumnSets.{named_columns}
-use Rattle.hy_render.specs.declared.Ending.TheVariants.{Committed}
+use Rattle.hy_render.specs.declared.Ending.{Ending}
 use Rattle.hy_render.specs.declared.TxnOutcome.{TxnOutcome}
 use Rattle.hy_undo.specs.Images.{Image}
 use Rattle.hy_undo.specs.Places.{Place, Cell}
@@ -61,6 +62,14 @@ joining = Select (1 ∷ 0 ∷ []) (record { left = 0; right = 2 } ∷ []) True (
 -- account 2 gets the balance 90
 abbrev pub paying : Bound
 paying = Update 0 (record { column = 1; value = SetTo (number 90) } ∷ []) (is_account 2)
+
+-- account 2 goes
+abbrev pub closing : Bound
+closing = Delete 0 (is_account 2)
+
+-- how many accounts there are for each balance
+abbrev pub grouping : Bound
+grouping = Group 0 True 1 aggregate.Count
 
 -- an account comes
 abbrev pub opening : ℕ → Bound
@@ -112,6 +121,15 @@ with_paid mark = record {
   used = true;
   death = 0;
   chain = record { stamp = record { owner = first; mark = mark }; image = was_100 } ∷ [];
+}
+
+-- account 2 is gone, and was there before
+abbrev pub with_gone : Place
+with_gone = record {
+  version = record { row = account 2 100; live = false };
+  used = true;
+  death = 0;
+  chain = record { stamp = record { owner = first; mark = id_of first }; image = record { values = None ∷ None ∷ []; live = true } } ∷ [];
 }
 
 -- account 2 in place where no row was
@@ -199,12 +217,12 @@ payer = answered (Updated 1) None (logged (is_account 2) (0 ∷ [])) (paid ∷ [
 abbrev pub payer_entered : ℕ → Open
 payer_entered visited = record payer { notes = []; wrote = record { table = 0; pos = 1 } ∷ []; phase = Stamping visited 2 }
 
-abbrev pub payer_ended : TxnOutcome
-payer_ended = record {
+abbrev pub payer_ended : Ending → TxnOutcome
+payer_ended ending = record {
   label = first;
   start = 0;
   replies = Updated 1 ∷ [];
-  ending = Committed 0;
+  ending = ending;
   wrote = record { table = 0; pos = 1 } ∷ [];
   placed = 0 ∷ [];
 }

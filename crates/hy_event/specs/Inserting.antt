@@ -19,7 +19,7 @@ use Rattle.hy_event.specs.declared.Open.{Open}
 use Rattle.hy_event.specs.declared.Progress.{Progress}
 use Rattle.hy_event.specs.Sessions.{label_of, viewer_of}
 use Rattle.hy_event.specs.Needs.{checks_of}
-use Rattle.hy_event.specs.Turns.{Turn, answers, goes_on, refused, Takes}
+use Rattle.hy_event.specs.Turns.{Turn, answer_turn, goes_on, refused, Takes}
 use Rattle.hy_event.specs.Changing.{OnlyPlaces, OnlyAt, PrunesFirst}
 
 -- ---- the key
@@ -31,7 +31,7 @@ sees_key viewer row key places = list_any (has_key_of row key) (present (rows_se
 -- a visit of an INSERT that looks for its key
 abbrev pub check_turn : SessionData → Open → ℕ → Bound → Bool → Turn
 check_turn session now visited statement found =
-    if found then answers session now statement [] [] reply.Duplicate None else goes_on visited
+    if found then answer_turn session now statement [] [] reply.Duplicate None else goes_on visited
 
 -- it leaves the chunk as it is
 pub record CheckVisit (session : SessionData) (now : Open) (visited : ℕ) (statement : Bound) (row : List Value) (key : Option ℕ)
@@ -52,7 +52,7 @@ free_position cover chunk = option_map (λ index. chunk.first + index) (free_ind
 -- a visit of an INSERT that looks for a free position of a chunk
 abbrev pub place_turn : SessionData → Open → ℕ → ℕ → Bound → ℕ → List Value → Option ℕ → Turn
 place_turn session now visited chunk statement table row (Some pos) =
-    answers session now statement [] (record { table = table; pos = pos; before = None; after = Some row } ∷ []) reply.Inserted (Some pos)
+    answer_turn session now statement [] (record { table = table; pos = pos; before = None; after = Some row } ∷ []) reply.Inserted (Some pos)
 place_turn session now visited chunk statement table row None =
     if nat_lt (suc chunk) session.chunks then goes_on visited else refused (Full table)
 

@@ -39,8 +39,8 @@ pub data Turn : Type 0 where
 -- ---- turns of a statement
 
 -- a statement is answered: its reply, and the records of what it read of these rows
-abbrev pub answers : SessionData → Open → Bound → List (List (List Value)) → List Change → Reply → Option ℕ → Turn
-answers session now statement gathered changes reply took =
+abbrev pub answer_turn : SessionData → Open → Bound → List (List (List Value)) → List Change → Reply → Option ℕ → Turn
+answer_turn session now statement gathered changes reply took =
     Answers changes reply took (records_of session.shapes (suc (length now.replies)) statement gathered)
 
 -- a visit that neither writes nor answers

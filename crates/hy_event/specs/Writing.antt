@@ -20,7 +20,7 @@ use Rattle.hy_event.specs.declared.Open.{Open}
 use Rattle.hy_event.specs.declared.Phase.TheVariants.{Working}
 use Rattle.hy_event.specs.declared.Progress.{Progress}
 use Rattle.hy_event.specs.Sessions.{label_of, viewer_of}
-use Rattle.hy_event.specs.Turns.{Turn, Visits, answers, refused, Takes}
+use Rattle.hy_event.specs.Turns.{Turn, Visits, answer_turn, refused, Takes}
 use Rattle.hy_event.specs.Changing.{OnlyPlaces, PrunesFirst, changes_from}
 
 -- the reply to an UPDATE, by its sets, or a DELETE that selected so many rows
@@ -39,16 +39,16 @@ write_turn session now visited count statement table sets (Err refusal) = refuse
 write_turn session now visited count statement table sets (Ok changes) =
     if nat_lt (suc visited) session.chunks
     then Visits changes (Working (suc visited) (count + length changes))
-    else answers session now statement [] changes (told_by sets (count + length changes)) None
-
--- what becomes of a chunk: each position with a new cell is written, and where one is refused nothing is
-abbrev pub Swept : Viewer → Label → Result (List (Option Cell)) Refusal → ChunkData → ChunkData → Type 0
-Swept viewer label (Err refusal) old new = new ≡ old
-Swept viewer label (Ok cells) old new = OnlyPlaces (AllWritten viewer label cells) old new
+    else answer_turn session now statement [] changes (told_by sets (count + length changes)) None
 
 -- the new cells of the positions of a chunk, or the first refusal
 abbrev pub cells_by : Option (List Assign) → Condition → Viewer → ChunkData → Result (List (Option Cell)) Refusal
 cells_by sets pred viewer chunk = swept sets pred viewer chunk.first chunk.places
+
+-- what becomes of the chunk: each position with a new cell is written, and where one is refused nothing is
+abbrev pub Becomes : Viewer → Label → Result (List (Option Cell)) Refusal → ChunkData → ChunkData → Type 0
+Becomes viewer label (Err refusal) old new = new ≡ old
+Becomes viewer label (Ok cells) old new = OnlyPlaces (AllWritten viewer label cells) old new
 
 -- what is changed where a chunk of a table gets these cells
 abbrev pub changes_by : ℕ → Viewer → ChunkData → Result (List (Option Cell)) Refusal → Result (List Change) Refusal
@@ -56,11 +56,11 @@ changes_by table viewer chunk (Err refusal) = Err refusal
 changes_by table viewer chunk (Ok cells) = Ok (changes_from table chunk.first viewer chunk.places cells)
 
 -- a visit of an UPDATE, by its sets, or a DELETE
-pub record WriteVisit (session : SessionData) (now : Open) (visited count : ℕ) (statement : Bound) (table : ℕ) (sets : Option (List Assign)) (pred : Condition)
-    (old : ChunkData) (progress : Progress) (after : SessionData) (new : ChunkData) : Type 0 where
+pub record WriteVisit (session : SessionData) (now : Open) (visited count : ℕ) (statement : Bound) (table : ℕ)
+    (sets : Option (List Assign)) (pred : Condition) (old : ChunkData) (progress : Progress) (after : SessionData) (new : ChunkData) : Type 0 where
   pub between : ChunkData
   pub prunes : PrunesFirst session now.cover old between
-  pub chunk : Swept (viewer_of session now) (label_of session) (cells_by sets pred (viewer_of session now) between) between new
+  pub chunk : Becomes (viewer_of session now) (label_of session) (cells_by sets pred (viewer_of session now) between) between new
   pub turn : Takes session
       (write_turn session now visited count statement table sets
       (changes_by table (viewer_of session now) between (cells_by sets pred (viewer_of session now) between)))

@@ -1,9 +1,8 @@
-//! What a session of the engine keeps, what it needs next, and what a visit of it to a part is, as plain data: the
-//! engine's session meets these definitions, and what its visits come to is told of them.
+//! What a session of the engine keeps, which part it needs next, and what one visit makes of a session and a part.
 //!
-//! A visit is one step of one session at one chunk, or at the core that all share: a statement goes from chunk to
-//! chunk; BEGIN, COMMIT and an end are steps at the core; a transaction that committed stamps the chunks that it
-//! wrote, and one that is refused or rolls back undoes them.
+//! A part is a chunk, or the core that all sessions share, and a visit is one step of one session at one part. A
+//! statement goes from chunk to chunk. BEGIN, COMMIT and an end are steps at the core. A transaction whose entry stands
+//! in the journal stamps the chunks that it wrote, and one that is refused or rolls back undoes them.
 #![tactic(auto)]
 
 mod rows;
@@ -16,10 +15,12 @@ use hy_stamp::Label;
 use hy_value::Seq;
 pub use rows::{
     a_begin_waits, a_commit_enters_the_journal, a_commit_of_nothing_written_ends,
-    a_count_gathers_and_answers, a_hit_refuses_a_commit, a_join_gathers_by_key, a_session_begins,
-    a_stamped_transaction_ends, a_written_chunk_is_stamped, a_written_chunk_is_undone,
-    an_insert_finds_its_key, an_insert_may_find_no_room, an_insert_takes_a_free_position,
+    a_count_gathers_and_answers, a_delete_takes_the_row_away, a_hit_refuses_a_commit,
+    a_join_gathers_by_key, a_session_begins, a_stamped_transaction_ends,
+    a_written_chunk_is_stamped, a_written_chunk_is_undone, an_insert_finds_its_key,
+    an_insert_may_find_no_room, an_insert_takes_a_free_position,
     an_update_passes_what_it_does_not_select, an_update_writes_what_it_selects,
+    groups_are_told_of_what_is_gathered,
 };
 
 /// Where an open transaction stands. Which kind of visit comes next follows from its present statement.

@@ -11,9 +11,9 @@ ghost use Rattle.hy_event.specs.declared.Progress.{Progress};
 ghost use Rattle.hy_event.specs.Needs.{need_of};
 ghost use Rattle.hy_event.specs.Coring.{CoreEvent};
 ghost use Rattle.hy_event.specs.Events.{ChunkEvent, Event, CorePart};
-ghost use Rattle.hy_event.specs.Examples.{account, is_account, counting, paying, opening, logged, kept_by_count};
+ghost use Rattle.hy_event.specs.Examples.{number, account, is_account, counting, grouping, paying, closing, opening, logged, kept_by_count};
 ghost use Rattle.hy_event.specs.Examples.{committing, rolling_back, session_of, running, ended, begun, answered, joined_with, join_answered};
-ghost use Rattle.hy_event.specs.Examples.{chunk_of, with_row, unused, with_paid, with_new, first, other};
+ghost use Rattle.hy_event.specs.Examples.{chunk_of, with_row, unused, with_paid, with_gone, with_new, first, other};
 ghost use Rattle.hy_event.specs.Examples.{change, paid, payer, payer_entered, payer_ended, core_of, entry_at};
 
 /// A session needs the core first, which is the last part. BEGIN takes the clock's next time, which is open from then
@@ -52,6 +52,21 @@ pub fn a_count_gathers_and_answers()
         (running counting (answered (Reply.Value (pos 1)) None (logged True []) [])) (chunk_of 1 unused) }
 {}
 
+/// GROUP BY gathers the balances, and tells how many there are of each.
+pub fn groups_are_told_of_what_is_gathered()
+    ensures gathers { ChunkEvent
+        (running grouping (begun (Phase.Working 0 0))) (chunk_of 0 (with_row (account 1 100)))
+        Progress.Moved
+        (running grouping (record (begun (Phase.Working 1 0)) { gathered = ((number 100 ∷ []) ∷ []) ∷ [] }))
+        (chunk_of 0 (with_row (account 1 100))) }
+    ensures answers { ChunkEvent
+        (running grouping (record (begun (Phase.Working 1 0)) { gathered = ((number 100 ∷ []) ∷ []) ∷ [] }))
+        (chunk_of 1 (with_row (account 2 100)))
+        Progress.Answered
+        (running grouping (answered (Reply.Groups (record { value = number 100; total = pos 2 } ∷ [])) None (logged True (1 ∷ [])) []))
+        (chunk_of 1 (with_row (account 2 100))) }
+{}
+
 /// Where ON looks accounts up by their key, one that no row gathered so far asks for is left out, and one that is asked
 /// for is gathered, and recorded by its key.
 pub fn a_join_gathers_by_key()
@@ -80,6 +95,17 @@ pub fn an_update_writes_what_it_selects()
         (running paying (begun (Phase.Working 1 0))) (chunk_of 1 (with_row (account 2 100)))
         Progress.Answered
         (running paying payer) (chunk_of 1 (with_paid (id_of first))) }
+{
+    hy_undo::places_step()
+}
+
+/// A DELETE leaves a position whose row is gone, and was there before.
+pub fn a_delete_takes_the_row_away()
+    ensures { ChunkEvent
+        (running closing (begun (Phase.Working 1 0))) (chunk_of 1 (with_row (account 2 100)))
+        Progress.Answered
+        (running closing (answered (Reply.Deleted 1) None (logged (is_account 2) (0 ∷ [])) (change (Some (account 2 100)) None ∷ [])))
+        (chunk_of 1 with_gone) }
 {
     hy_undo::places_step()
 }
@@ -172,11 +198,11 @@ pub fn a_stamped_transaction_ends()
     ensures ends { CoreEvent
         (running paying (payer_entered 1)) (core_of 3 (1 ∷ []) (entry_at first 2 (paid ∷ []) ∷ []) (Some first))
         Progress.Answered
-        (ended paying payer_ended) (core_of 3 [] (entry_at first 2 (paid ∷ []) ∷ []) None) }
-    ensures done { need_of (ended paying payer_ended) ≡ Need.Done }
+        (ended paying (payer_ended (Ending.Committed 0))) (core_of 3 [] (entry_at first 2 (paid ∷ []) ∷ []) None) }
+    ensures done { need_of (ended paying (payer_ended (Ending.Committed 0))) ≡ Need.Done }
 {}
 
-/// ROLLBACK goes to the chunk that was written, and puts the row back.
+/// ROLLBACK goes to the chunk that was written, puts the row back, and then ends.
 pub fn a_written_chunk_is_undone()
     ensures needs { need_of (session_of (rolling_back (paying ∷ []) ∷ []) (Some payer)) ≡ Need.Chunk 0 1 }
     ensures undoes { ChunkEvent
@@ -184,6 +210,12 @@ pub fn a_written_chunk_is_undone()
         Progress.Moved
         (session_of (rolling_back (paying ∷ []) ∷ []) (Some (record payer { phase = Phase.Undoing 1 Ending.RolledBack })))
         (chunk_of 1 (with_row (account 2 100))) }
+    ensures ends { CoreEvent
+        (session_of (rolling_back (paying ∷ []) ∷ []) (Some (record payer { phase = Phase.Undoing 1 Ending.RolledBack })))
+        (core_of 2 (1 ∷ []) [] None)
+        Progress.Answered
+        (record (session_of (rolling_back (paying ∷ []) ∷ []) None) { done = payer_ended Ending.RolledBack ∷ [] })
+        (core_of 2 [] [] None) }
 {
     hy_undo::places_step()
 }

@@ -11,7 +11,8 @@ returns c = record {
   prunes = unpruned (running paying (begun (Phase.Working 1 0))) (begun (Phase.Working 1 0)).cover 1 (with_row (account 2 100)) refl;
   chunk = record {
     places = (
-      c.places_step.ensures.writes (record { id = id_of first; start = 1 }) first was_100 (with_paid (id_of first)).version (with_row (account 2 100)) refl refl,
+      c.places_step.ensures.writes (record { id = id_of first; start = 1 }) first was_100
+          (with_paid (id_of first)).version (with_row (account 2 100)) refl refl,
       tt,
     );
     others = refl;

@@ -92,6 +92,13 @@ rolling_back statements = record { read_only = false; statements = statements; c
 
 -- ---- chunks: of one position each
 
+-- the first transactions of the sessions 0 and 1
+abbrev pub first : Label
+first = record { session = 0; txn = 1 }
+
+abbrev pub other : Label
+other = record { session = 1; txn = 1 }
+
 abbrev pub chunk_of : ℕ → Place → ChunkData
 chunk_of first place = record { table = 0; first = first; width = 2; key = Some 0; places = place ∷ [] }
 
@@ -99,16 +106,14 @@ chunk_of first place = record { table = 0; first = first; width = 2; key = Some 
 abbrev pub with_row : List Value → Place
 with_row row = record { version = record { row = row; live = true }; used = true; death = 0; chain = [] }
 
+-- the same with a record behind it that is older than every start
+abbrev pub with_old_record : List Value → Place
+with_old_record row =
+    record (with_row row) { chain = record { stamp = record { owner = other; mark = 0 }; image = record { values = None ∷ None ∷ []; live = false } } ∷ [] }
+
 -- a position that was never used
 abbrev pub unused : Place
 unused = record { version = record { row = Null ∷ Null ∷ []; live = false }; used = false; death = 0; chain = [] }
-
--- the first transactions of the sessions 0 and 1
-abbrev pub first : Label
-first = record { session = 0; txn = 1 }
-
-abbrev pub other : Label
-other = record { session = 1; txn = 1 }
 
 -- a before-image: the balance was 100
 abbrev pub was_100 : Image

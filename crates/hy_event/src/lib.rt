@@ -19,8 +19,9 @@ pub use rows::{
     a_join_gathers_by_key, a_session_begins, a_stamped_transaction_ends,
     a_written_chunk_is_stamped, a_written_chunk_is_undone, an_insert_finds_its_key,
     an_insert_may_find_no_room, an_insert_takes_a_free_position,
-    an_update_passes_what_it_does_not_select, an_update_writes_what_it_selects,
-    groups_are_told_of_what_is_gathered,
+    an_update_passes_what_it_does_not_select, an_update_prunes_first,
+    an_update_writes_what_it_selects, groups_are_told_of_what_is_gathered,
+    no_other_part_is_visited,
 };
 
 /// Where an open transaction stands. Which kind of visit comes next follows from its present statement.

@@ -4,16 +4,19 @@ ghost use Rattle.std.specs.Prelude.{◌≡◌, [], ◌∷◌, None, Some, pos};
 ghost use Rattle.hy_bound.specs.Condition.{True};
 ghost use Rattle.hy_bound.specs.declared.Reply.{Reply};
 ghost use Rattle.hy_render.specs.declared.Ending.{Ending};
+ghost use Rattle.hy_journal.specs.declared.CoreData.{CoreData};
 ghost use Rattle.hy_stamp.specs.Times.{id_of};
+ghost use Rattle.hy_undo.specs.Chunks.{ChunkData};
 ghost use Rattle.hy_event.specs.declared.Need.{Need};
 ghost use Rattle.hy_event.specs.declared.Phase.{Phase};
 ghost use Rattle.hy_event.specs.declared.Progress.{Progress};
+ghost use Rattle.hy_event.specs.declared.SessionData.{SessionData};
 ghost use Rattle.hy_event.specs.Needs.{need_of};
 ghost use Rattle.hy_event.specs.Coring.{CoreEvent};
 ghost use Rattle.hy_event.specs.Events.{ChunkEvent, Event, CorePart};
 ghost use Rattle.hy_event.specs.Examples.{number, account, is_account, counting, grouping, paying, closing, opening, logged, kept_by_count};
 ghost use Rattle.hy_event.specs.Examples.{committing, rolling_back, session_of, running, ended, begun, answered, joined_with, join_answered};
-ghost use Rattle.hy_event.specs.Examples.{chunk_of, with_row, unused, with_paid, with_gone, with_new, first, other};
+ghost use Rattle.hy_event.specs.Examples.{chunk_of, with_row, unused, with_old_record, with_paid, with_gone, with_new, first, other};
 ghost use Rattle.hy_event.specs.Examples.{change, paid, payer, payer_entered, payer_ended, core_of, entry_at};
 
 /// A session needs the core first, which is the last part. BEGIN takes the clock's next time, which is open from then
@@ -28,6 +31,14 @@ pub fn a_session_begins()
         (session_of (committing (counting ∷ []) ∷ []) None) (CorePart (core_of 1 [] [] None))
         (running counting (begun (Phase.Working 0 0))) (CorePart (core_of 2 (1 ∷ []) [] None)) }
     ensures goes_on { need_of (running counting (begun (Phase.Working 0 0))) ≡ Need.Chunk 0 0 }
+{}
+
+/// While a statement is left nothing can be done at the core, and at its COMMIT a session can do nothing in a chunk.
+pub fn no_other_part_is_visited()
+    ensures core { (old new : CoreData) (progress : Progress) (after : SessionData)
+        → CoreEvent (running counting (begun (Phase.Working 0 0))) old progress after new → ⊥ }
+    ensures chunk { (old new : ChunkData) (progress : Progress) (after : SessionData)
+        → ChunkEvent (running paying payer) old progress after new → ⊥ }
 {}
 
 /// While another transaction stands between its entry and its end BEGIN waits for it, and nothing changes.
@@ -88,6 +99,16 @@ pub fn an_update_passes_what_it_does_not_select()
         (running paying (begun (Phase.Working 1 0))) (chunk_of 0 (with_row (account 1 100))) }
     ensures goes_on { need_of (running paying (begun (Phase.Working 1 0))) ≡ Need.Chunk 0 1 }
 {}
+
+/// A chunk is pruned before anything is asked of it: a record that is older than every open start is gone then.
+pub fn an_update_prunes_first()
+    ensures { ChunkEvent
+        (running paying (begun (Phase.Working 0 0))) (chunk_of 0 (with_old_record (account 1 100)))
+        Progress.Moved
+        (running paying (begun (Phase.Working 1 0))) (chunk_of 0 (with_row (account 1 100))) }
+{
+    hy_undo::places_step()
+}
 
 /// In the last chunk it writes the row that it selects, with the old balance behind it, and answers how many they were.
 pub fn an_update_writes_what_it_selects()

@@ -1,5 +1,5 @@
 -- How a visit changes a chunk: its positions alone, first of all by pruning.
-use Rattle.std.specs.Prelude.{◌≡◌, ℕ, zero, suc, List, [], ◌∷◌, ◌++◌, true, false, Option, None, Some}
+use Rattle.std.specs.Prelude.{◌≡◌, ℕ, suc, List, [], ◌∷◌, ◌++◌, true, false, Option, None, Some, slice_get, slice_set}
 use Rattle.hy_change.specs.declared.Change.{Change}
 use Rattle.hy_prune.specs.declared.Cover.{Cover}
 use Rattle.hy_stamp.specs.declared.Viewer.{Viewer}
@@ -12,12 +12,13 @@ pub record OnlyPlaces (does : List Place → List Place → Type 0) (old new : C
   pub places : does old.places new.places
   pub others : new ≡ record old { places = new.places }
 
--- a relation at the position of this index, where the other positions stay
-abbrev pub OnlyAt : ℕ → (Place → Place → Type 0) → List Place → List Place → Type 0
-OnlyAt index does [] news = ⊥
-OnlyAt index does (old ∷ olds) [] = ⊥
-OnlyAt zero does (old ∷ olds) (new ∷ news) = does old new × (news ≡ olds)
-OnlyAt (suc index) does (old ∷ olds) (new ∷ news) = (new ≡ old) × OnlyAt index does olds news
+-- the position of this index changes so, and no other
+pub record OnlyAt (index : ℕ) (does : Place → Place → Type 0) (old new : List Place) : Type 0 where
+  pub was : Place
+  pub becomes : Place
+  pub found : slice_get old index ≡ Some was
+  pub change : does was becomes
+  pub others : new ≡ slice_set old index becomes
 
 -- a session prunes the chunk by its cover, or leaves it if it doesn't prune
 pub record PrunesFirst (session : SessionData) (cover : Cover) (old new : ChunkData) : Type 0 where

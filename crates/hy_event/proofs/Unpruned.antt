@@ -6,7 +6,7 @@ use Rattle.hy_undo.specs.Images.{both}
 use Rattle.hy_undo.specs.Places.{Place, stamps}
 use Rattle.hy_event.specs.declared.SessionData.{SessionData}
 use Rattle.hy_event.specs.Changing.{PrunesFirst}
-use Rattle.hy_event.specs.Examples.{chunk_of}
+use Rattle.hy_event.specs.Accounts.{chunk_of}
 
 -- where pruning keeps all stamps of the one position, the chunk stays
 pub unpruned : (session : SessionData) (cover : Cover) (first : ℕ) (place : Place)

@@ -18,9 +18,9 @@ inserts_into table (Insert other row) = other == table
 inserts_into table (Update other sets pred) = false
 inserts_into table (Delete other pred) = false
 
--- how many INSERTs of these answered statements took a position of a table
-abbrev pub placed_in : List (Bound × Option ℕ) → ℕ → ℕ
-placed_in answered table = count_by (λ one. inserts_into table one.0 && is_some one.1) answered
+-- how many positions of a table answered statements took
+abbrev pub placed_in : ℕ → List Bound → List (Option ℕ) → ℕ
+placed_in table statements took = count_by (λ one. inserts_into table one.0 && is_some one.1) (zip statements took)
 
 abbrev pub statements_in : Option Txn → List Bound
 statements_in None = []
@@ -34,5 +34,5 @@ outcome_of session now ending = record {
   replies = now.replies;
   ending = ending;
   wrote = written now;
-  placed = map (placed_in (zip (statements_in (txn_at session)) now.took)) (range_with_len 0 (length session.shapes));
+  placed = map (λ table. placed_in table (statements_in (txn_at session)) now.took) (range_with_len 0 (length session.shapes));
 }

@@ -11,4 +11,5 @@ pub mod Stamping
 pub mod Undoing
 pub mod Coring
 pub mod Events
+pub mod Accounts
 pub mod Examples

@@ -14,9 +14,10 @@ ghost use Rattle.hy_event.specs.declared.SessionData.{SessionData};
 ghost use Rattle.hy_event.specs.Needs.{need_of};
 ghost use Rattle.hy_event.specs.Coring.{CoreEvent};
 ghost use Rattle.hy_event.specs.Events.{ChunkEvent, Event, CorePart};
-ghost use Rattle.hy_event.specs.Examples.{number, account, is_account, counting, grouping, paying, closing, opening, logged, kept_by_count};
-ghost use Rattle.hy_event.specs.Examples.{committing, rolling_back, session_of, running, ended, begun, answered, joined_with, join_answered};
-ghost use Rattle.hy_event.specs.Examples.{chunk_of, with_row, unused, with_old_record, with_paid, with_gone, with_new, first, other};
+ghost use Rattle.hy_event.specs.Accounts.{number, account, is_account, counting, grouping, paying, closing, opening, logged, kept_by_count};
+ghost use Rattle.hy_event.specs.Accounts.{committing, rolling_back};
+ghost use Rattle.hy_event.specs.Examples.{session_of, running, ended, begun, answered, joined_with, join_answered};
+ghost use Rattle.hy_event.specs.Accounts.{chunk_of, with_row, unused, with_old_record, with_paid, with_gone, with_new, first, other};
 ghost use Rattle.hy_event.specs.Examples.{change, paid, payer, payer_entered, payer_ended, core_of, entry_at};
 
 /// A session needs the core first, which is the last part. BEGIN takes the clock's next time, which is open from then

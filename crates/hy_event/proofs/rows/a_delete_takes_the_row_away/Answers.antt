@@ -2,7 +2,8 @@ use Rattle.std.proofs.Common.{refl}
 use Rattle.std.specs.Prelude.{[], ◌∷◌, None, true}
 use Rattle.hy_stamp.specs.Times.{id_of}
 use Rattle.hy_event.specs.declared.Phase.{Phase}
-use Rattle.hy_event.specs.Examples.{account, begun, chunk_of, closing, first, running, with_gone, with_row}
+use Rattle.hy_event.specs.Accounts.{account, chunk_of, closing, first, with_gone, with_row}
+use Rattle.hy_event.specs.Examples.{begun, running}
 use Rattle.hy_event.proofs.Unpruned.{unpruned}
 use Rattle.hy_event.proofs.rows.a_delete_takes_the_row_away.Goals as goal
 

@@ -1,6 +1,7 @@
 use Rattle.std.proofs.Common.{refl}
 use Rattle.hy_stamp.specs.Times.{id_of}
-use Rattle.hy_event.specs.Examples.{chunk_of, first, paying, payer_entered, running, with_paid}
+use Rattle.hy_event.specs.Accounts.{chunk_of, first, paying, with_paid}
+use Rattle.hy_event.specs.Examples.{payer_entered, running}
 use Rattle.hy_event.proofs.Unpruned.{unpruned}
 use Rattle.hy_event.proofs.rows.a_written_chunk_is_stamped.Goals as goal
 

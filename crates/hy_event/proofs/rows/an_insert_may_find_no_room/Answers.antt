@@ -1,6 +1,7 @@
 use Rattle.std.proofs.Common.{refl}
 use Rattle.hy_event.specs.declared.Phase.{Phase}
-use Rattle.hy_event.specs.Examples.{account, begun, chunk_of, opening, running, with_row}
+use Rattle.hy_event.specs.Accounts.{account, chunk_of, opening, with_row}
+use Rattle.hy_event.specs.Examples.{begun, running}
 use Rattle.hy_event.proofs.Unpruned.{unpruned}
 use Rattle.hy_event.proofs.rows.an_insert_may_find_no_room.Goals as goal
 

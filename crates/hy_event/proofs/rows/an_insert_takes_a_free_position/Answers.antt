@@ -2,7 +2,8 @@ use Rattle.std.proofs.Common.{refl}
 use Rattle.std.specs.Prelude.{[], ◌∷◌, None, false}
 use Rattle.hy_stamp.specs.Times.{id_of}
 use Rattle.hy_event.specs.declared.Phase.{Phase}
-use Rattle.hy_event.specs.Examples.{account, begun, chunk_of, first, opening, running, unused, with_new, with_row}
+use Rattle.hy_event.specs.Accounts.{account, chunk_of, first, opening, unused, with_new, with_row}
+use Rattle.hy_event.specs.Examples.{begun, running}
 use Rattle.hy_event.proofs.Unpruned.{unpruned}
 use Rattle.hy_event.proofs.rows.an_insert_takes_a_free_position.Goals as goal
 

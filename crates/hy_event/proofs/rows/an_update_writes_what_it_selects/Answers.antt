@@ -1,7 +1,8 @@
 use Rattle.std.proofs.Common.{refl}
 use Rattle.hy_stamp.specs.Times.{id_of}
 use Rattle.hy_event.specs.declared.Phase.{Phase}
-use Rattle.hy_event.specs.Examples.{account, begun, chunk_of, first, paying, running, was_100, with_paid, with_row}
+use Rattle.hy_event.specs.Accounts.{account, chunk_of, first, paying, was_100, with_paid, with_row}
+use Rattle.hy_event.specs.Examples.{begun, running}
 use Rattle.hy_event.proofs.Unpruned.{unpruned}
 use Rattle.hy_event.proofs.rows.an_update_writes_what_it_selects.Goals as goal
 

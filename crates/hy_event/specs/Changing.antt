@@ -31,8 +31,8 @@ change_of table pos before None = []
 change_of table pos before (Some after) = record { table = table; pos = pos; before = before; after = after } ∷ []
 
 -- the changes of positions from this one on that get new cells: from what the viewer sees there
-abbrev pub changes_from : ℕ → ℕ → Viewer → List Place → List (Option Cell) → List Change
-changes_from table pos viewer [] cells = []
-changes_from table pos viewer (place ∷ places) [] = []
-changes_from table pos viewer (place ∷ places) (cell ∷ cells) =
-    change_of table pos (sees viewer place) cell ++ changes_from table (suc pos) viewer places cells
+abbrev pub changes_from : ℕ → ℕ → Viewer → List (Option Cell) → List Place → List Change
+changes_from table pos viewer [] places = []
+changes_from table pos viewer (cell ∷ cells) [] = []
+changes_from table pos viewer (cell ∷ cells) (place ∷ places) =
+    change_of table pos (sees viewer place) cell ++ changes_from table (suc pos) viewer cells places

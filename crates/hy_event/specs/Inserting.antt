@@ -1,12 +1,12 @@
 -- A visit of an INSERT: it looks for its key in the chunk, or, once it has looked in all, for a free position.
-use Rattle.std.specs.Prelude.{◌≡◌, ℕ, suc, ◌+◌, ◌-◌, List, [], ◌∷◌, Bool, nat_lt, Option, None, Some, MatchBool, position, if◌then◌else◌}
+use Rattle.std.specs.Prelude.{◌≡◌, ℕ, suc, ◌+◌, ◌-◌, List, [], ◌∷◌, Bool, false, nat_lt, Option, None, Some, MatchBool, position, if◌then◌else◌}
 use Rattle.std.specs.List.{list_any}
 use Rattle.std.specs.Option.{option_map}
 use Rattle.hy_value.specs.declared.Value.{Value}
 use Rattle.hy_bound.specs.declared.Bound.{Bound}
 use Rattle.hy_bound.specs.declared.Reply.TheVariants as reply
-use Rattle.hy_bound.specs.Changes.{present}
-use Rattle.hy_meaning.specs.Statement.{has_key_of}
+use Rattle.hy_bound.specs.Predicate.{column_of, truth_at}
+use Rattle.hy_plan.specs.Reads.{key_is_value}
 use Rattle.hy_prune.specs.declared.Cover.{Cover}
 use Rattle.hy_prune.specs.Fates.{watermark_of}
 use Rattle.hy_render.specs.declared.Ending.TheVariants.{Full}
@@ -24,9 +24,10 @@ use Rattle.hy_event.specs.Changing.{OnlyPlaces, OnlyAt, PrunesFirst}
 
 -- ---- the key
 
--- a viewer sees a row that has the key of the row to insert
+-- whether a viewer sees a row that has the key of the row to insert; without a key there is none
 abbrev pub sees_key : Viewer → List Value → Option ℕ → List Place → Bool
-sees_key viewer row key places = list_any (has_key_of row key) (present (rows_seen viewer places))
+sees_key viewer row None places = false
+sees_key viewer row (Some key) places = list_any (truth_at (key_is_value key (column_of row key))) (rows_seen viewer places)
 
 -- a visit of an INSERT that looks for its key
 abbrev pub check_turn : SessionData → Open → ℕ → Bound → Bool → Turn

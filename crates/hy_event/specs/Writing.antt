@@ -53,7 +53,7 @@ Becomes viewer label (Ok cells) old new = OnlyPlaces (AllWritten viewer label ce
 -- what is changed where a chunk of a table gets these cells
 abbrev pub changes_by : ℕ → Viewer → ChunkData → Result (List (Option Cell)) Refusal → Result (List Change) Refusal
 changes_by table viewer chunk (Err refusal) = Err refusal
-changes_by table viewer chunk (Ok cells) = Ok (changes_from table chunk.first viewer chunk.places cells)
+changes_by table viewer chunk (Ok cells) = Ok (changes_from table chunk.first viewer cells chunk.places)
 
 -- a visit of an UPDATE, by its sets, or a DELETE
 pub record WriteVisit (session : SessionData) (now : Open) (visited count : ℕ) (statement : Bound) (table : ℕ)

@@ -1,0 +1,22 @@
+use Rattle.std.proofs.Common.{refl}
+use Rattle.hy_stamp.specs.Times.{id_of}
+use Rattle.hy_event.specs.declared.Phase.{Phase}
+use Rattle.hy_event.specs.Accounts.{account, chunk_of, first, paying, was_100, with_paid, with_row}
+use Rattle.hy_event.specs.Examples.{begun, running}
+use Rattle.hy_event.proofs.Unpruned.{unpruned}
+use Rattle.hy_event.proofs.rows.an_update_writes_what_it_selects.Goals as goal
+
+pub returns : goal.returns
+returns c = record {
+  between = chunk_of 1 (with_row (account 2 100));
+  prunes = unpruned (running paying (begun (Phase.Working 1 0))) (begun (Phase.Working 1 0)).cover 1 (with_row (account 2 100)) refl;
+  chunk = record {
+    places = (
+      c.places_step.ensures.writes (record { id = id_of first; start = 1 }) first was_100
+          (with_paid (id_of first)).version (with_row (account 2 100)) refl refl,
+      tt,
+    );
+    others = refl;
+  };
+  turn = refl;
+}

@@ -1,0 +1,38 @@
+-- How a visit changes a chunk: its positions alone, first of all by pruning.
+use Rattle.std.specs.Prelude.{◌≡◌, ℕ, suc, List, [], ◌∷◌, ◌++◌, true, false, Option, None, Some, slice_get, slice_set}
+use Rattle.hy_change.specs.declared.Change.{Change}
+use Rattle.hy_prune.specs.declared.Cover.{Cover}
+use Rattle.hy_stamp.specs.declared.Viewer.{Viewer}
+use Rattle.hy_undo.specs.Places.{Place, Cell, sees}
+use Rattle.hy_undo.specs.Chunks.{ChunkData, Pruned, Everywhere}
+use Rattle.hy_event.specs.declared.SessionData.{SessionData}
+
+-- the positions of a chunk change so, and nothing else of it
+pub record OnlyPlaces (does : List Place → List Place → Type 0) (old new : ChunkData) : Type 0 where
+  pub places : does old.places new.places
+  pub others : new ≡ record old { places = new.places }
+
+-- the position of this index changes so, and no other
+pub record OnlyAt (index : ℕ) (does : Place → Place → Type 0) (old new : List Place) : Type 0 where
+  pub was : Place
+  pub becomes : Place
+  pub found : slice_get old index ≡ Some was
+  pub change : does was becomes
+  pub others : new ≡ slice_set old index becomes
+
+-- a session prunes the chunk by its cover, or leaves it if it doesn't prune
+pub record PrunesFirst (session : SessionData) (cover : Cover) (old new : ChunkData) : Type 0 where
+  pub pruned : session.prunes ≡ true → OnlyPlaces (Everywhere (Pruned cover)) old new
+  pub kept : session.prunes ≡ false → new ≡ old
+
+-- the change of a position, if it gets a new cell
+abbrev pub change_of : ℕ → ℕ → Cell → Option Cell → List Change
+change_of table pos before None = []
+change_of table pos before (Some after) = record { table = table; pos = pos; before = before; after = after } ∷ []
+
+-- the changes of positions from this one on that get new cells: from what the viewer sees there
+abbrev pub changes_from : ℕ → ℕ → Viewer → List (Option Cell) → List Place → List Change
+changes_from table pos viewer [] places = []
+changes_from table pos viewer (cell ∷ cells) [] = []
+changes_from table pos viewer (cell ∷ cells) (place ∷ places) =
+    change_of table pos (sees viewer place) cell ++ changes_from table (suc pos) viewer cells places

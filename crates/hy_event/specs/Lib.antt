@@ -1,0 +1,15 @@
+pub mod Sessions
+pub mod Ended
+pub mod Turns
+pub mod Needs
+pub mod Changing
+pub mod Gathering
+pub mod Reading
+pub mod Writing
+pub mod Inserting
+pub mod Stamping
+pub mod Undoing
+pub mod Coring
+pub mod Events
+pub mod Accounts
+pub mod Examples

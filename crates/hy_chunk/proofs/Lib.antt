@@ -1,0 +1,10 @@
+pub mod Over
+pub mod Places
+pub mod Fitting
+pub mod PruneAt
+pub mod StampAt
+pub mod LoadAt
+pub mod UndoAt
+pub mod SeeAt
+pub mod Mapped
+pub mod Wholes

@@ -8,3 +8,7 @@ pub mod UndoAt
 pub mod SeeAt
 pub mod Mapped
 pub mod Wholes
+pub mod Looks
+pub mod Overwriting
+pub mod WriteAt
+pub mod PlaceAt

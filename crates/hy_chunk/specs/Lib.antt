@@ -4,3 +4,4 @@ pub mod Sound
 pub mod Noting
 pub mod Steps
 pub mod Whole
+pub mod Gathering

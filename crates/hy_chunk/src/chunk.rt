@@ -1,18 +1,29 @@
 //! A chunk of a table.
 
-ghost use Rattle.std.specs.Prelude.{◌≡◌, ◌+◌, ◌<◌, ◌≤◌, ◌^◌, ℕ, List, IfOk, OnOk, OnErr, length, replicate, slice_set};
-ghost use Rattle.std.specs.List.{AllByRecursion, prefix_len};
+ghost use Rattle.std.specs.Prelude.{◌≡◌, ◌++◌, take, ◌+◌, ◌<◌, ◌≤◌, ◌^◌, ℕ, List, IfOk, OnOk, OnErr, length, replicate, slice_set};
+ghost use Rattle.std.specs.List.{AllByRecursion, list_any};
+ghost use Rattle.hy_bound.specs.Condition.{Compare};
+ghost use Rattle.hy_bound.specs.Predicate.{truth_at};
+ghost use Rattle.hy_bound.specs.Projection.{projected};
 ghost use Rattle.hy_chain.specs.Chains.{Falls};
-ghost use Rattle.hy_undo.specs.Chunks.{Everywhere, AtOwn, StampedPlace, Undone, Pruned};
+ghost use Rattle.hy_undo.specs.Places.{cell_of};
+ghost use Rattle.hy_undo.specs.Chunks.{rows_seen, Everywhere, AtOwn, StampedPlace, Undone, Pruned};
 ghost use Rattle.hy_chunk.specs.Fields.{blank_place, nth};
+ghost use Rattle.hy_chunk.specs.Gathering.{kept_of, gathered_of};
 ghost use Rattle.hy_chunk.specs.Sound.{FitsRow};
 ghost use Rattle.hy_chunk.specs.Steps.{loaded_place, least_unused};
 ghost use Rattle.hy_chunk.specs.Views.{with_places};
+ghost use Rattle.hy_value.specs.declared.Value.{Value};
+ghost use Rattle.hy_value.specs.declared.Cmp.{Cmp};
+ghost use Rattle.hy_bound.specs.declared.predicate.Side.{Side};
 
 use crate::positions::Positions;
+use hy_bound::{Pred, column_value, compare, project_row, truth};
+use hy_plan::Gathered;
 use hy_prune::Cover;
+use hy_stamp::Viewer;
 use hy_undo::Version;
-use hy_value::{Kind, Row, Seq, Value};
+use hy_value::{Cmp, ColMask, Kind, Row, Seq, Value};
 use std::alloc::{AllocError, Global};
 use std::marker::Model;
 
@@ -61,6 +72,39 @@ fn blank_version(alloc: Global, width: usize) -> Result<Version, AllocError>
         row: Seq::from_vec(row),
         live: false,
     })
+}
+
+/// Whether a version is a row that has this value in a column.
+fn has_value(version: &Version, column: u32, value: &Value) -> bool
+    ensures { result ≡ truth_at (Compare column Cmp.Eq (Side.Literal value.now)) (cell_of version.now) }
+{
+    if version.live {
+        let held = column_value(&version.row, column);
+        matches!(compare(Cmp::Eq, &held, value), Some(true))
+    } else {
+        false
+    }
+}
+
+/// Adds the values in a set of columns, where a version is a row that a condition selects. Without memory nothing
+/// changes.
+fn keep(
+    alloc: Global,
+    version: &Version,
+    pred: &Pred,
+    columns: ColMask,
+    gathered: &mut Gathered,
+) -> Result<(), AllocError>
+    requires { length (projected columns version.now.row) ≡ gathered.old.width }
+    ensures rows { OnOk result (gathered.new.rows ≡ gathered.old.rows ++ kept_of columns pred.now (cell_of version.now)) }
+    ensures err { OnErr result (gathered.new.rows ≡ gathered.old.rows) }
+    ensures width { gathered.new.width ≡ gathered.old.width }
+{
+    if version.live && truth(pred, &version.row) {
+        let row = project_row(alloc, columns, &version.row)?;
+        gathered.push(row.as_slice())?;
+    }
+    Ok(())
 }
 
 impl Chunk {
@@ -169,5 +213,42 @@ impl Chunk {
         }
         self.positions.load_at(place, row);
         Ok(self.first + place as u32)
+    }
+
+    /// Whether a viewer sees a row that has this value in a column.
+    pub fn find_key(&mut self, viewer: &Viewer, column: u32, value: &Value) -> bool
+        ensures found { result ≡ list_any (truth_at (Compare column Cmp.Eq (Side.Literal value.now))) (rows_seen viewer.now self.old.shown.places) }
+        ensures all { self.new ≡ self.old }
+    {
+        for place in 0..self.positions.len() {
+            self.positions.see(place, viewer, &mut self.seen);
+            if has_value(&self.seen, column, value) {
+                return true;
+            }
+        }
+        false
+    }
+
+    /// Appends, position by position, of the rows that a viewer sees and a condition selects the values in a set of
+    /// columns. Err is for want of memory: then only the rows that were there before are there for certain.
+    pub fn gather(
+        &mut self,
+        alloc: Global,
+        viewer: &Viewer,
+        pred: &Pred,
+        columns: ColMask,
+        gathered: &mut Gathered,
+    ) -> Result<(), AllocError>
+        requires { (row : List Value) → FitsRow self.old.kinds row → length (projected columns row) ≡ gathered.old.width }
+        ensures rows { OnOk result (gathered.new.rows ≡ gathered.old.rows ++ gathered_of columns pred.now (rows_seen viewer.now self.old.shown.places)) }
+        ensures err { OnErr result (take (length gathered.old.rows) gathered.new.rows ≡ gathered.old.rows) }
+        ensures width { gathered.new.width ≡ gathered.old.width }
+        ensures all { self.new ≡ self.old }
+    {
+        for place in 0..self.positions.len() {
+            self.positions.see(place, viewer, &mut self.seen);
+            keep(alloc, &self.seen, pred, columns, gathered)?;
+        }
+        Ok(())
     }
 }

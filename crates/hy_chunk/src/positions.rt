@@ -1,17 +1,18 @@
 //! The positions of a chunk.
 
-ghost use Rattle.std.specs.Prelude.{◌≡◌, ◌+◌, ◌<◌, ◌≤◌, ◌&&◌, ◌||◌, ◌==◌, not as negated, IfOk, OnOk, OnErr, length, replicate, slice_set, vec_len, true};
+ghost use Rattle.std.specs.Prelude.{◌≡◌, ◌+◌, ◌<◌, ◌≤◌, ◌&&◌, ◌||◌, ◌==◌, not as negated, IfOk, OnOk, OnErr, length, replicate, slice_set, vec_len, true, ℕ, slice_index_or, []};
 ghost use Rattle.std.specs.Prelude.{if◌then◌else◌};
-ghost use Rattle.hy_chain.specs.Chains.{rival, seen as seen_through};
+ghost use Rattle.hy_chain.specs.Chains.{rival, seen as seen_through, without_own};
 ghost use Rattle.hy_undo.specs.Images.{before};
-ghost use Rattle.hy_undo.specs.Places.{is_free, is_older};
-ghost use Rattle.hy_undo.specs.Chunks.{is_own};
+ghost use Rattle.hy_undo.specs.Places.{cell_of, is_free, is_older};
+ghost use Rattle.hy_undo.specs.Chunks.{is_own, Placed, Written};
 ghost use Rattle.hy_undo.specs.Steps.{pruned_place, stamped_place, undone_place};
 ghost use Rattle.hy_chunk.specs.Fields.{blank_place, nth};
-ghost use Rattle.hy_chunk.specs.Sound.{AreBlank, FitsRow};
+ghost use Rattle.hy_chunk.specs.Sound.{AreBlank, FitsRow, blank_image};
+ghost use Rattle.hy_chunk.specs.Noting.{own_stamp, own_or_blank};
 ghost use Rattle.hy_chunk.specs.Steps.{loaded_place};
 
-use crate::rows::put_row;
+use crate::rows::{exchange_row, put_row};
 use hy_chain::{Chains, Image};
 use hy_column::Columns;
 use hy_prune::Cover;
@@ -113,6 +114,59 @@ fn add_images(spare: &mut Vec<Delta>, count: usize, width: usize) -> Result<(), 
         spare.push(Delta::blank(alloc, width)?)?;
     }
     Ok(())
+}
+
+/// The writer's own stamp where it is the newest, else a new one.
+fn stamp_over(newest: Option<Stamp>, label: Label, id: u64) -> Stamp
+    ensures { result ≡ own_stamp label id newest }
+{
+    match newest {
+        Some(stamp) if stamp.mark == id => stamp,
+        _ => Stamp {
+            owner: label,
+            mark: id,
+        },
+    }
+}
+
+/// Takes a spare before-image out.
+fn take_spare(spare: &mut Vec<Delta>) -> Delta
+    requires { 0 < vec_len spare.old }
+    ensures image { (width : ℕ) → AreBlank width spare.old.items → result ≡ blank_image width }
+    ensures blank { (width : ℕ) → AreBlank width spare.old.items → AreBlank width spare.new.items }
+    ensures left { vec_len spare.old ≡ vec_len spare.new + 1 }
+{
+    match spare.pop() {
+        Some(image) => image,
+        None => unreachable!(),
+    }
+}
+
+/// Takes the writer's own before-image out of its chain, where it is the newest; else a spare one, which says that a
+/// row was there.
+fn take_image(
+    chains: &mut Chains<Delta>,
+    spare: &mut Vec<Delta>,
+    place: usize,
+    id: u64,
+) -> Delta
+    requires within { place < length chains.old.chains }
+    requires room { 0 < chains.old.room }
+    requires some { 0 < vec_len spare.old }
+    ensures image { (width : ℕ) → AreBlank width spare.old.items → result ≡ own_or_blank width id (slice_index_or chains.old.chains place []) }
+    ensures blank { (width : ℕ) → AreBlank width spare.old.items → AreBlank width spare.new.items }
+    ensures chains { chains.new.chains ≡ slice_set chains.old.chains place (without_own id (slice_index_or chains.old.chains place [])) }
+    ensures kept { chains.old.room ≤ chains.new.room }
+    ensures left { vec_len spare.old ≤ vec_len spare.new + 1 }
+{
+    match chains.pop_own(place, id) {
+        Some(image) => image,
+        None => {
+            let mut image = take_spare(spare);
+            image.set_live(true);
+            image
+        }
+    }
 }
 
 impl Positions {
@@ -218,6 +272,52 @@ impl Positions {
         put_row(&mut self.columns, place, row);
         put_flag(&mut self.live, place, true);
         put_flag(&mut self.used, place, true);
+    }
+
+    /// Puts another version in place of a row that is there, over a record of the writer that says what was there
+    /// before: its own where that is the newest, else a new one, for which there is room.
+    pub fn write_at(&mut self, place: usize, viewer: &Viewer, label: Label, version: &Version)
+        requires within { place < length self.old.places }
+        requires room { 0 < self.old.room }
+        requires live { (nth self.old.places place).version.live ≡ true }
+        requires fits { FitsRow self.old.kinds version.now.row }
+        ensures kinds { self.new.kinds ≡ self.old.kinds }
+        ensures places { self.new.places ≡ slice_set self.old.places place (nth self.new.places place) }
+        ensures written { Written viewer.now label (cell_of version.now) (nth self.old.places place) (nth self.new.places place) }
+        ensures room { self.old.room ≤ self.new.room + 1 }
+    {
+        hy_undo::places_step();
+        let newest = self.chains.head(place);
+        let mut image = take_image(&mut self.chains, &mut self.spare, place, viewer.id);
+        exchange_row(&mut self.columns, place, &version.row, &mut image);
+        put_flag(&mut self.live, place, version.live);
+        let stamp = stamp_over(newest, label, viewer.id);
+        self.chains.push_reserved(place, stamp, image);
+    }
+
+    /// Puts a new row at a position, over the writer's record alone, for which there is room. What the chain told
+    /// before goes.
+    pub fn place_at(&mut self, place: usize, viewer: &Viewer, label: Label, row: &Row)
+        requires within { place < length self.old.places }
+        requires room { 0 < self.old.room }
+        requires fits { FitsRow self.old.kinds row.now }
+        ensures kinds { self.new.kinds ≡ self.old.kinds }
+        ensures places { self.new.places ≡ slice_set self.old.places place (nth self.new.places place) }
+        ensures placed { (watermark : ℕ) → is_free watermark (nth self.old.places place) ≡ true
+            → Placed viewer.now label watermark row.now (nth self.old.places place) (nth self.new.places place) }
+        ensures room { self.old.room ≤ self.new.room + 1 }
+    {
+        hy_undo::places_step();
+        let image = take_spare(&mut self.spare);
+        self.chains.clear(place);
+        put_row(&mut self.columns, place, row);
+        put_flag(&mut self.live, place, true);
+        put_flag(&mut self.used, place, true);
+        let stamp = Stamp {
+            owner: label,
+            mark: viewer.id,
+        };
+        self.chains.push_reserved(place, stamp, image);
     }
 
     /// Makes a version of as many columns the one in place at a position.

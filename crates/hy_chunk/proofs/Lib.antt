@@ -12,3 +12,5 @@ pub mod Looks
 pub mod Overwriting
 pub mod WriteAt
 pub mod PlaceAt
+pub mod Setting
+pub mod Frees

@@ -13,9 +13,10 @@ whole_of table first key kinds places room = record {
   room = room;
 }
 
-pub still_whole : (first many width seen now_first now_many now_width now_seen : ℕ) → IsWhole first many width seen → now_first ≡ first → now_many ≡ many → now_width ≡ width → now_seen ≡ width
-    → IsWhole now_first now_many now_width now_seen
-still_whole first many width seen now_first now_many now_width now_seen was f m w s = record {
+pub still_whole : (first many width seen next now_first now_many now_width now_seen now_next : ℕ) → IsWhole first many width seen next → now_first ≡ first → now_many ≡ many → now_width ≡ width
+    → now_seen ≡ width → now_next ≡ width → IsWhole now_first now_many now_width now_seen now_next
+still_whole first many width seen next now_first now_many now_width now_seen now_next was f m w s n = record {
   numbered = omega (arith, was.numbered, f, m);
   wide = s ∙ sym w;
+  next_wide = n ∙ sym w;
 }

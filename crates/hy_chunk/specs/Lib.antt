@@ -5,3 +5,4 @@ pub mod Noting
 pub mod Steps
 pub mod Whole
 pub mod Gathering
+pub mod Writes

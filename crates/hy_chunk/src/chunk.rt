@@ -1,17 +1,19 @@
 //! A chunk of a table.
 
-ghost use Rattle.std.specs.Prelude.{◌≡◌, ◌++◌, take, ◌+◌, ◌<◌, ◌≤◌, ◌^◌, ℕ, List, IfOk, OnOk, OnErr, length, replicate, slice_set};
+ghost use Rattle.std.specs.Prelude.{◌≡◌, ◌++◌, take, None, Some, ◌+◌, ◌<◌, ◌≤◌, ◌^◌, ℕ, List, IfOk, OnOk, OnErr, length, replicate, slice_set};
 ghost use Rattle.std.specs.List.{AllByRecursion, list_any};
 ghost use Rattle.hy_bound.specs.Condition.{Compare};
 ghost use Rattle.hy_bound.specs.Predicate.{truth_at};
 ghost use Rattle.hy_bound.specs.Projection.{projected};
 ghost use Rattle.hy_chain.specs.Chains.{Falls};
+ghost use Rattle.hy_notes.specs.Notes.{with_note};
+ghost use Rattle.hy_prune.specs.Fates.{watermark_of};
 ghost use Rattle.hy_undo.specs.Places.{cell_of};
-ghost use Rattle.hy_undo.specs.Chunks.{rows_seen, Everywhere, AtOwn, StampedPlace, Undone, Pruned};
+ghost use Rattle.hy_undo.specs.Chunks.{rows_seen, Placed, Everywhere, AtOwn, StampedPlace, Undone, Pruned};
 ghost use Rattle.hy_chunk.specs.Fields.{blank_place, nth};
 ghost use Rattle.hy_chunk.specs.Gathering.{kept_of, gathered_of};
 ghost use Rattle.hy_chunk.specs.Sound.{FitsRow};
-ghost use Rattle.hy_chunk.specs.Steps.{loaded_place, least_unused};
+ghost use Rattle.hy_chunk.specs.Steps.{loaded_place, least_unused, least_free, IsPut};
 ghost use Rattle.hy_chunk.specs.Views.{with_places};
 ghost use Rattle.hy_value.specs.declared.Value.{Value};
 ghost use Rattle.hy_value.specs.declared.Cmp.{Cmp};
@@ -20,8 +22,9 @@ ghost use Rattle.hy_bound.specs.declared.predicate.Side.{Side};
 use crate::positions::Positions;
 use hy_bound::{Pred, column_value, compare, project_row, truth};
 use hy_plan::Gathered;
-use hy_prune::Cover;
-use hy_stamp::Viewer;
+use hy_notes::Changes;
+use hy_prune::{Cover, watermark};
+use hy_stamp::{Label, Viewer};
 use hy_undo::Version;
 use hy_value::{Cmp, ColMask, Kind, Row, Seq, Value};
 use std::alloc::{AllocError, Global};
@@ -38,8 +41,9 @@ pub struct Chunk {
     first: u32,
     key: Option<u32>,
     positions: Positions,
-    /// A version to look at, so that looking needs no memory.
+    /// Versions to work on, so that neither looking nor writing needs memory.
     seen: Version,
+    next: Version,
 }
 
 impl Model for Chunk {
@@ -57,7 +61,7 @@ impl Model for Chunk {
       room = a.positions.room;
     } };
 
-    ghost invariant = { λ a. IsWhole a.first (length a.positions.places) (length a.positions.kinds) (length a.seen.row) };
+    ghost invariant = { λ a. IsWhole a.first (length a.positions.places) (length a.positions.kinds) (length a.seen.row) (length a.next.row) };
 }
 
 /// A version of so many NULLs. Err is for want of memory.
@@ -125,12 +129,14 @@ impl Chunk {
     {
         let positions = Positions::new(alloc, kinds, rows)?;
         let seen = blank_version(alloc, kinds.len())?;
+        let next = blank_version(alloc, kinds.len())?;
         Ok(Chunk {
             table,
             first,
             key,
             positions,
             seen,
+            next,
         })
     }
 
@@ -250,5 +256,55 @@ impl Chunk {
             keep(alloc, &self.seen, pred, columns, gathered)?;
         }
         Ok(())
+    }
+
+    /// The least position that may take a new row from a watermark on, or how many there are.
+    fn first_free(&self, watermark: u64) -> usize
+        ensures least { result ≡ least_free watermark self.now.shown.places }
+        ensures within { result ≤ length self.now.shown.places }
+    {
+        for place in 0..self.positions.len() {
+            if self.positions.is_free(place, watermark) {
+                return place;
+            }
+        }
+        self.positions.len()
+    }
+
+    /// Puts a new row at the least position that may take it, notes it, and answers the position. It fails only where
+    /// no position may, and then changes nothing. It takes no memory.
+    pub fn place(
+        &mut self,
+        viewer: &Viewer,
+        label: Label,
+        cover: &Cover,
+        row: &Row,
+        changes: &mut Changes,
+    ) -> Result<u32, NoRoom>
+        requires fits { FitsRow self.old.kinds row.now }
+        requires room { 0 < self.old.room }
+        requires notes { 0 < changes.old.room }
+        requires wide { length self.old.kinds ≤ changes.old.width }
+        ensures pos { IfOk result (λ pos. pos ≡ self.old.shown.first + least_free (watermark_of cover.now) self.old.shown.places) }
+        ensures there { OnOk result (least_free (watermark_of cover.now) self.old.shown.places < length self.old.shown.places) }
+        ensures all { self.new ≡ with_places self.old self.new.shown.places self.new.room }
+        ensures places { OnOk result (IsPut (least_free (watermark_of cover.now) self.old.shown.places)
+            (Placed viewer.now label (watermark_of cover.now) row.now) self.old.shown.places self.new.shown.places) }
+        ensures noted { IfOk result (λ pos. changes.new.notes
+            ≡ with_note (record { table = self.old.shown.table; pos = pos; before = None; after = Some row.now }) changes.old.notes) }
+        ensures none { OnErr result (least_free (watermark_of cover.now) self.old.shown.places ≡ length self.old.shown.places) }
+        ensures kept { OnErr result ((self.new ≡ self.old) × (changes.new ≡ changes.old)) }
+        ensures room { self.old.room ≤ self.new.room + 1 }
+        ensures notes_room { changes.old.room ≤ changes.new.room + 1 }
+        ensures notes_width { changes.new.width ≡ changes.old.width }
+    {
+        let place = self.first_free(watermark(cover));
+        if place == self.positions.len() {
+            return Err(NoRoom);
+        }
+        self.positions.place_at(place, viewer, label, row);
+        let pos = self.first + place as u32;
+        changes.note_reserved(self.table, pos, None, Some(row));
+        Ok(pos)
     }
 }

@@ -6,5 +6,6 @@
 mod chunk;
 mod positions;
 mod rows;
+mod writes;
 
 pub use chunk::{Chunk, NoRoom};

@@ -19,10 +19,10 @@ use Rattle.hy_chunk.proofs.chunk.Chunk.find_key.Goals as goal
 pub invariant_of-self-then-has_value : goal.invariant_of-self-then-has_value
 invariant_of-self-then-has_value c =
     let v = c.loop-place.invariant in
-    still_whole c.self.inside.first (length c.self.inside.positions.places) (length c.self.inside.positions.kinds) (length c.self.inside.seen.row)
-    c.loop-place.self-inside.first (length c.loop-place.self-inside.positions.places) (length c.loop-place.self-inside.positions.kinds) (length c.see.new.version.row)
+    still_whole c.self.inside.first (length c.self.inside.positions.places) (length c.self.inside.positions.kinds) (length c.self.inside.seen.row) (length c.self.inside.next.row)
+    c.loop-place.self-inside.first (length c.loop-place.self-inside.positions.places) (length c.loop-place.self-inside.positions.kinds) (length c.see.new.version.row) (length c.loop-place.self-inside.next.row)
     c.self.invariant v.first (ap (λ (h : Held). length h.places) v.positions) (ap (λ (h : Held). length h.kinds) v.positions)
-    (fits_length c.loop-place.self-inside.positions.kinds c.see.new.version.row c.see.ensures.fits ∙ ap (λ (h : Held). length h.kinds) c.loop-place.invariant.positions)
+    (fits_length c.loop-place.self-inside.positions.kinds c.see.new.version.row c.see.ensures.fits ∙ ap (λ (h : Held). length h.kinds) c.loop-place.invariant.positions) v.next
 
 pub returns-then-has_value-clause-found : goal.returns-then-has_value-clause-found
 returns-then-has_value-clause-found c =
@@ -47,6 +47,7 @@ loop-place-preserved c =
       first = v.first;
       key = v.key;
       positions = v.positions;
+      next = v.next;
       wide = fits_length c.loop-place.self-inside.positions.kinds c.see.new.version.row c.see.ensures.fits ∙ ap (λ (h : Held). length h.kinds) c.loop-place.invariant.positions;
       none = none_more test c.args.viewer.now old k v.none (ap test (sym here) ∙ (sym c.has_value.ensures ∙ c.if-has_value.false));
     }

@@ -15,6 +15,7 @@ invariant-loop-place l = record {
   first : l.self-inside.first ≡ l.initial.self-inside.first;
   key : l.self-inside.key ≡ l.initial.self-inside.key;
   positions : l.self-inside.positions ≡ l.initial.self-inside.positions;
+  next : length l.self-inside.next.row ≡ length l.initial.self-inside.positions.kinds;
   wide : length l.self-inside.seen.row ≡ length l.initial.self-inside.positions.kinds;
   none : (k : ℕ) → k < l.place → truth_at (Compare l.column Eq (Literal l.value)) (sees l.viewer (nth l.initial.self-inside.positions.places k)) ≡ false;
 }

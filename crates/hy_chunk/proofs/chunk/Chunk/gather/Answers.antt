@@ -18,10 +18,10 @@ use Rattle.hy_chunk.proofs.chunk.Chunk.gather.Goals as goal
 pub invariant_of-self-in_err-keep : goal.invariant_of-self-in_err-keep
 invariant_of-self-in_err-keep c =
     let v = c.loop-place.invariant in
-    still_whole c.self.inside.first (length c.self.inside.positions.places) (length c.self.inside.positions.kinds) (length c.self.inside.seen.row)
-    c.loop-place.self-inside.first (length c.loop-place.self-inside.positions.places) (length c.loop-place.self-inside.positions.kinds) (length c.see.new.version.row)
+    still_whole c.self.inside.first (length c.self.inside.positions.places) (length c.self.inside.positions.kinds) (length c.self.inside.seen.row) (length c.self.inside.next.row)
+    c.loop-place.self-inside.first (length c.loop-place.self-inside.positions.places) (length c.loop-place.self-inside.positions.kinds) (length c.see.new.version.row) (length c.loop-place.self-inside.next.row)
     c.self.invariant v.first (ap (λ (h : Held). length h.places) v.positions) (ap (λ (h : Held). length h.kinds) v.positions)
-    (fits_length c.loop-place.self-inside.positions.kinds c.see.new.version.row c.see.ensures.fits ∙ ap (λ (h : Held). length h.kinds) c.loop-place.invariant.positions)
+    (fits_length c.loop-place.self-inside.positions.kinds c.see.new.version.row c.see.ensures.fits ∙ ap (λ (h : Held). length h.kinds) c.loop-place.invariant.positions) v.next
 
 pub loop-place-preserved : goal.loop-place-preserved
 loop-place-preserved c =
@@ -36,6 +36,7 @@ loop-place-preserved c =
       first = v.first;
       key = v.key;
       positions = v.positions;
+      next = v.next;
       wide = fits_length c.loop-place.self-inside.positions.kinds c.see.new.version.row c.see.ensures.fits ∙ ap (λ (h : Held). length h.kinds) c.loop-place.invariant.positions;
       rows = c.in_ok-keep.ensures.rows
           ∙ ((λ i. v.rows i ++ keeps (here i)) ∙ gathered_more keeps c.args.viewer.now old k c.args.gathered.now.rows (omega (arith, c.loop-place-test.true, c.len-place-end.ensures)));

@@ -15,6 +15,7 @@ invariant-loop-place l = record {
   first : l.self-inside.first ≡ l.initial.self-inside.first;
   key : l.self-inside.key ≡ l.initial.self-inside.key;
   positions : l.self-inside.positions ≡ l.initial.self-inside.positions;
+  next : length l.self-inside.next.row ≡ length l.initial.self-inside.positions.kinds;
   wide : length l.self-inside.seen.row ≡ length l.initial.self-inside.positions.kinds;
   rows : l.gathered.rows ≡ l.initial.gathered.rows ++ gathered_of l.columns l.pred (rows_seen l.viewer (take l.place l.initial.self-inside.positions.places));
   width : l.gathered.width ≡ l.initial.gathered.width;

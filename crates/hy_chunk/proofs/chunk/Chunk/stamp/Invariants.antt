@@ -10,6 +10,7 @@ invariant-loop-place l = record {
   first : l.self-inside.first ≡ l.initial.self-inside.first;
   key : l.self-inside.key ≡ l.initial.self-inside.key;
   kinds : l.self-inside.positions.kinds ≡ l.initial.self-inside.positions.kinds;
+  next : length l.self-inside.next.row ≡ length l.initial.self-inside.positions.kinds;
   wide : length l.self-inside.seen.row ≡ length l.initial.self-inside.positions.kinds;
   places : DoneUpTo (stamped_place l.id l.time) l.initial.self-inside.positions.places l.self-inside.positions.places l.place;
   room : l.initial.self-inside.positions.room ≤ l.self-inside.positions.room;

@@ -12,5 +12,6 @@ invariant-loop-place l = record {
   kinds : l.self-inside.positions.kinds ≡ l.initial.self-inside.positions.kinds;
   places : DoneUpTo (undone_place l.id) l.initial.self-inside.positions.places l.self-inside.positions.places l.place;
   room : l.initial.self-inside.positions.room ≤ l.self-inside.positions.room;
+  next : length l.self-inside.next.row ≡ length l.initial.self-inside.positions.kinds;
   wide : length l.self-inside.seen.row ≡ length l.initial.self-inside.positions.kinds;
 }

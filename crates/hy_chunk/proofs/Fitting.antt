@@ -122,8 +122,8 @@ pub fits_undone : (kinds : List Kind) (id : ℕ) (version : Version) (used : Boo
 fits_undone kinds id version used death [] f = f
 fits_undone kinds id version used death (undo ∷ older) f =
     elim (undo.stamp.mark == id) as (λ (b : Bool). FitsPlace kinds (cond b
-      (record { version = before undo.image version; used = used && (undo.image.live || not (death == 0)); death = death; chain = older })
-      (record { version = version; used = used; death = death; chain = undo ∷ older }))) [
+    (record { version = before undo.image version; used = used && (undo.image.live || not (death == 0)); death = death; chain = older })
+    (record { version = version; used = used; death = death; chain = undo ∷ older }))) [
       | true ↦ undone_fits kinds version used death undo older f
       | false ↦ f
     ]

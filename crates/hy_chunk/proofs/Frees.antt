@@ -19,6 +19,6 @@ pub put_there : (does : Place → Place → Type 0) (watermark : ℕ) (olds news
     → (is_free watermark (nth olds k) ≡ true → does (nth olds k) (nth news k)) → IsPut (least_free watermark olds) does olds news
 put_there does watermark olds news k is l others here =
     let free : is_free watermark (nth olds k) ≡ true =
-        ap (λ (j : ℕ). is_free watermark (nth olds j)) is ∙ least_is_free watermark olds (subst (λ (j : ℕ). j < length olds) is l) in
+    ap (λ (j : ℕ). is_free watermark (nth olds j)) is ∙ least_is_free watermark olds (subst (λ (j : ℕ). j < length olds) is l) in
     let put : IsPut k does olds news = record { others = others; here = here free } in
     subst (λ (j : ℕ). IsPut j does olds news) is put

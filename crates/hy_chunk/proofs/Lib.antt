@@ -14,3 +14,4 @@ pub mod WriteAt
 pub mod PlaceAt
 pub mod Setting
 pub mod Frees
+pub mod Sweeping

@@ -123,7 +123,7 @@ values_more olds news now image old made column v d e f l at rows values put =
     let size : length all ≡ length image = changes_length olds news image e f in
     let read : get_or now column d ≡ get_or olds column d = ap (λ (xs : List Value). get_or xs column d) rows ∙ over_at column news olds d e in
     let noted : get_or old column None ≡ get_or image column None =
-        ap (λ (xs : List (Option Value)). get_or xs column None) values ∙ over_at column all image None size in
+    ap (λ (xs : List (Option Value)). get_or xs column None) values ∙ over_at column all image None size in
     let x : Option Value = change_noted (get_or olds column d) (get_or news column v) (get_or image column None) in
     let change : change_noted (get_or now column d) v (get_or old column None) ≡ x = λ i. change_noted (read i) (at i) (noted i) in
     let is : x ≡ get_or all column x = sym (changes_at olds news image column d v x e f l) in

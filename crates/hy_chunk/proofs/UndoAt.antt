@@ -26,9 +26,9 @@ not_own : (id : ℕ) (version : Version) (used : Bool) (death : ℕ) (chain : Li
 not_own id version used death [] none = refl
 not_own id version used death (undo ∷ older) none =
     elim (undo.stamp.mark == id) as (λ (b : Bool). cond b (Some undo.image) None ≡ None
-      → ◌≡◌ {A = Place} (record { version = version; used = used; death = death; chain = cond b older (undo ∷ older) })
-        (cond b (record { version = before undo.image version; used = used && (undo.image.live || not (death == 0)); death = death; chain = older })
-        (record { version = version; used = used; death = death; chain = undo ∷ older }))) [
+    → ◌≡◌ {A = Place} (record { version = version; used = used; death = death; chain = cond b older (undo ∷ older) })
+    (cond b (record { version = before undo.image version; used = used && (undo.image.live || not (death == 0)); death = death; chain = older })
+    (record { version = version; used = used; death = death; chain = undo ∷ older }))) [
       | true ↦ λ e. absurd (cc)
       | false ↦ λ e. refl
     ] none
@@ -40,9 +40,9 @@ own_undone : (id : ℕ) (version : Version) (used : Bool) (death : ℕ) (chain :
 own_undone id version used death [] image some = absurd (cc)
 own_undone id version used death (undo ∷ older) image some =
     elim (undo.stamp.mark == id) as (λ (b : Bool). Some image ≡ cond b (Some undo.image) None
-      → ◌≡◌ {A = Place} (record { version = before image version; used = used && (image.live || not (death == 0)); death = death; chain = cond b older (undo ∷ older) })
-        (cond b (record { version = before undo.image version; used = used && (undo.image.live || not (death == 0)); death = death; chain = older })
-        (record { version = version; used = used; death = death; chain = undo ∷ older }))) [
+    → ◌≡◌ {A = Place} (record { version = before image version; used = used && (image.live || not (death == 0)); death = death; chain = cond b older (undo ∷ older) })
+    (cond b (record { version = before undo.image version; used = used && (undo.image.live || not (death == 0)); death = death; chain = older })
+    (record { version = version; used = used; death = death; chain = undo ∷ older }))) [
       | true ↦ λ e. let same : image ≡ undo.image = cc in
           let place : Image → Place = λ x. record { version = before x version; used = used && (x.live || not (death == 0)); death = death; chain = older } in ap place same
       | false ↦ λ e. absurd (cc)

@@ -115,6 +115,6 @@ module _ (f : Fields) (kinds : List Kind) (spare : List Image) (seen_places : Li
           let old_size = fits_length kinds (at f place).version.row (fits_there f kinds spare seen_places view s place l).row in
           let new_size = fits_length kinds version.row fits in
           let does = overwritten laws viewer label version (at f place).version (at f place).used (at f place).death (length kinds) (new_size ∙ sym old_size) old_size live_there
-              kinds (at f place).chain refl (fits_there f kinds spare seen_places view s place l).images in
+          kinds (at f place).chain refl (fits_there f kinds spare seen_places view s place l).images in
           subst (λ (p : Place). Written viewer label (cell_of version) p (nth (all new) place)) (sym there)
           (subst (λ (p : Place). Written viewer label (cell_of version) (at f place) p) (sym ((changed_there place f new seen_places view changed l).1 ∙ here)) does)

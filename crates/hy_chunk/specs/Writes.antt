@@ -1,5 +1,5 @@
 -- What an UPDATE or a DELETE asks, what it makes of a row, and what it notes.
-use Rattle.std.specs.Prelude.{◌≡◌, ◌≢◌, ℕ, suc, ◌<◌, List, [], ◌∷◌, Option, None, Some, Result, Ok, Err, length, slice_index_or, slice_set}
+use Rattle.std.specs.Prelude.{◌≡◌, ◌≢◌, ℕ, suc, ◌<◌, List, [], ◌∷◌, Option, None, Some, Result, Ok, Err, length, slice_index_or, slice_set, count_by, is_some}
 use Rattle.std.specs.List.{AllByRecursion}
 use Rattle.hy_value.specs.declared.Value.{Value}
 use Rattle.hy_value.specs.declared.Kind.{Kind}
@@ -14,7 +14,12 @@ use Rattle.hy_change.specs.declared.Change.{Change}
 use Rattle.hy_column.specs.Cells.{FitsKind}
 use Rattle.hy_notes.specs.Notes.{with_note}
 use Rattle.hy_undo.specs.declared.refusal.Refusal.{Refusal}
+use Rattle.hy_stamp.specs.declared.Label.{Label}
+use Rattle.hy_bound.specs.Condition.{Condition}
+use Rattle.hy_chain.specs.Chains.{rival}
 use Rattle.hy_undo.specs.Places.{Place, Cell, sees}
+use Rattle.hy_undo.specs.Chunks.{Written}
+use Rattle.hy_undo.specs.Sweeps.{verdict, AllWritten}
 use Rattle.hy_chunk.specs.Sound.{FitsRow}
 
 -- the assignments of an UPDATE
@@ -57,3 +62,23 @@ all_noted table pos viewer (cell ∷ cells) [] notes = notes
 all_noted table pos viewer (None ∷ cells) (place ∷ places) notes = all_noted table (suc pos) viewer cells places notes
 all_noted table pos viewer (Some cell ∷ cells) (place ∷ places) notes =
     all_noted table (suc pos) viewer cells places (with_note (record { table = table; pos = pos; before = sees viewer place; after = cell }) notes)
+
+-- what is judged at a position
+abbrev pub judged_at : Option (List Assign) → Condition → Viewer → ℕ → Place → Result (Option Cell) Refusal
+judged_at sets pred viewer pos place = verdict sets pred pos (rival viewer place.chain) (sees viewer place)
+
+-- a position is written as it was judged
+abbrev pub WrittenAs : Viewer → Label → Result (Option Cell) Refusal → Place → Place → Type 0
+WrittenAs viewer label (Err refusal) old new = ⊥
+WrittenAs viewer label (Ok None) old new = new ≡ old
+WrittenAs viewer label (Ok (Some cell)) old new = Written viewer label cell old new
+
+-- an UPDATE or a DELETE is done: each position with a new cell is written and noted, and so many are
+pub record AreDone (viewer : Viewer) (label : Label) (table first : ℕ) (cells : List (Option Cell)) (olds news : List Place) (notes now : List Change) (count : ℕ) : Type 0 where
+  pub written : AllWritten viewer label cells olds news
+  pub noted : now ≡ all_noted table first viewer cells olds notes
+  pub counted : count ≡ count_by is_some cells
+
+abbrev pub IsDone : Viewer → Label → ℕ → ℕ → Result (List (Option Cell)) Refusal → List Place → List Place → List Change → List Change → ℕ → Type 0
+IsDone viewer label table first (Err refusal) olds news notes now count = ⊥
+IsDone viewer label table first (Ok cells) olds news notes now count = AreDone viewer label table first cells olds news notes now count

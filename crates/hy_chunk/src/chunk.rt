@@ -1,6 +1,6 @@
 //! A chunk of a table.
 
-ghost use Rattle.std.specs.Prelude.{◌≡◌, ◌++◌, take, None, Some, ◌+◌, ◌<◌, ◌≤◌, ◌^◌, ℕ, List, IfOk, OnOk, OnErr, length, replicate, slice_set};
+ghost use Rattle.std.specs.Prelude.{◌≡◌, ◌++◌, take, None, Some, IfErr, ◌+◌, ◌<◌, ◌≤◌, ◌^◌, ℕ, List, IfOk, OnOk, OnErr, length, replicate, slice_set};
 ghost use Rattle.std.specs.List.{AllByRecursion, list_any};
 ghost use Rattle.hy_bound.specs.Condition.{Compare};
 ghost use Rattle.hy_bound.specs.Predicate.{truth_at};
@@ -15,17 +15,20 @@ ghost use Rattle.hy_chunk.specs.Gathering.{kept_of, gathered_of};
 ghost use Rattle.hy_chunk.specs.Sound.{FitsRow};
 ghost use Rattle.hy_chunk.specs.Steps.{loaded_place, least_unused, least_free, IsPut};
 ghost use Rattle.hy_chunk.specs.Views.{with_places};
+ghost use Rattle.hy_chunk.specs.Writes.{FitsWrite, IsDone, refusal_in, sets_of};
+ghost use Rattle.hy_undo.specs.Sweeps.{swept};
 ghost use Rattle.hy_value.specs.declared.Value.{Value};
 ghost use Rattle.hy_value.specs.declared.Cmp.{Cmp};
 ghost use Rattle.hy_bound.specs.declared.predicate.Side.{Side};
 
 use crate::positions::Positions;
-use hy_bound::{Pred, column_value, compare, project_row, truth};
-use hy_plan::Gathered;
+use crate::writes::{is_selected, make_next, note, refusal_at};
+use hy_bound::{Pred, WriteKind, column_value, compare, project_row, truth};
 use hy_notes::Changes;
+use hy_plan::Gathered;
 use hy_prune::{Cover, watermark};
 use hy_stamp::{Label, Viewer};
-use hy_undo::Version;
+use hy_undo::{Refusal, Version};
 use hy_value::{Cmp, ColMask, Kind, Row, Seq, Value};
 use std::alloc::{AllocError, Global};
 use std::marker::Model;
@@ -122,7 +125,7 @@ impl Chunk {
         rows: usize,
         key: Option<u32>,
     ) -> Result<Chunk, AllocError>
-        requires { first + rows ≤ 2 ^ 32 }
+        requires { first + rows < 2 ^ 32 }
         ensures shown { IfOk result (λ chunk. chunk.shown
             ≡ record { table = table; first = first; width = length kinds.now; key = key; places = replicate rows (blank_place kinds.now) }) }
         ensures kinds { IfOk result (λ chunk. chunk.kinds ≡ kinds.now) }
@@ -207,7 +210,7 @@ impl Chunk {
         ensures pos { IfOk result (λ pos. pos ≡ self.old.shown.first + least_unused self.old.shown.places) }
         ensures ok { OnOk result (self.new ≡ with_places self.old
             (slice_set self.old.shown.places (least_unused self.old.shown.places)
-              (loaded_place row.now (nth self.old.shown.places (least_unused self.old.shown.places)))) self.new.room) }
+            (loaded_place row.now (nth self.old.shown.places (least_unused self.old.shown.places)))) self.new.room) }
         ensures there { OnOk result (least_unused self.old.shown.places < length self.old.shown.places) }
         ensures none { OnErr result (least_unused self.old.shown.places ≡ length self.old.shown.places) }
         ensures kept { OnErr result (self.new ≡ self.old) }
@@ -306,5 +309,90 @@ impl Chunk {
         let pos = self.first + place as u32;
         changes.note_reserved(self.table, pos, None, Some(row));
         Ok(pos)
+    }
+
+    /// Why a write is refused, if it is: the first refusal, position by position.
+    fn refusal(&mut self, viewer: &Viewer, pred: &Pred, kind: &WriteKind) -> Option<Refusal>
+        ensures refusal { result ≡ refusal_in (swept (sets_of kind.now) pred.now viewer.now self.old.shown.first self.old.shown.places) }
+        ensures all { self.new ≡ self.old }
+    {
+        for place in 0..self.positions.len() {
+            self.positions.see(place, viewer, &mut self.seen);
+            let rival = self.positions.rival(place, viewer);
+            let pos = self.first + place as u32;
+            if let Some(refusal) = refusal_at(&self.seen, pred, kind, rival, pos) {
+                return Some(refusal);
+            }
+        }
+        None
+    }
+
+    /// Writes and notes each position that is selected, and answers how many they are.
+    fn write_all(
+        &mut self,
+        viewer: &Viewer,
+        label: Label,
+        pred: &Pred,
+        kind: &WriteKind,
+        changes: &mut Changes,
+    ) -> u32
+        requires ok { refusal_in (swept (sets_of kind.now) pred.now viewer.now self.old.shown.first self.old.shown.places) ≡ None }
+        requires room { length self.old.shown.places ≤ self.old.room }
+        requires notes { length self.old.shown.places ≤ changes.old.room }
+        requires wide { length self.old.kinds ≤ changes.old.width }
+        requires fits { FitsWrite self.old.kinds self.old.shown.key kind.now }
+        ensures all { self.new ≡ with_places self.old self.new.shown.places self.new.room }
+        ensures done { IsDone viewer.now label self.old.shown.table self.old.shown.first
+            (swept (sets_of kind.now) pred.now viewer.now self.old.shown.first self.old.shown.places)
+            self.old.shown.places self.new.shown.places changes.old.notes changes.new.notes result }
+        ensures room { self.old.room ≤ self.new.room + length self.old.shown.places }
+        ensures notes_room { changes.old.room ≤ changes.new.room + length self.old.shown.places }
+        ensures notes_width { changes.new.width ≡ changes.old.width }
+    {
+        let mut written = 0;
+        for place in 0..self.positions.len() {
+            self.positions.see(place, viewer, &mut self.seen);
+            if !is_selected(&self.seen, pred) {
+                continue;
+            }
+            make_next(kind, &self.seen.row, &mut self.next);
+            self.positions.write_at(place, viewer, label, &self.next);
+            let pos = self.first + place as u32;
+            note(changes, self.table, pos, &self.seen.row, &self.next);
+            written += 1;
+        }
+        written
+    }
+
+    /// Does an UPDATE or a DELETE: it writes and notes each position whose row the viewer sees and the condition
+    /// selects, and answers how many they are. It fails with the first refusal, position by position, and then
+    /// changes nothing. It takes no memory.
+    pub fn write(
+        &mut self,
+        viewer: &Viewer,
+        label: Label,
+        pred: &Pred,
+        kind: &WriteKind,
+        changes: &mut Changes,
+    ) -> Result<u32, Refusal>
+        requires room { length self.old.shown.places ≤ self.old.room }
+        requires notes { length self.old.shown.places ≤ changes.old.room }
+        requires wide { length self.old.kinds ≤ changes.old.width }
+        requires fits { FitsWrite self.old.kinds self.old.shown.key kind.now }
+        ensures all { self.new ≡ with_places self.old self.new.shown.places self.new.room }
+        ensures done { IfOk result (λ count. IsDone viewer.now label self.old.shown.table self.old.shown.first
+            (swept (sets_of kind.now) pred.now viewer.now self.old.shown.first self.old.shown.places)
+            self.old.shown.places self.new.shown.places changes.old.notes changes.new.notes count) }
+        ensures refused { IfErr result (λ refusal. Some refusal
+            ≡ refusal_in (swept (sets_of kind.now) pred.now viewer.now self.old.shown.first self.old.shown.places)) }
+        ensures kept { OnErr result ((self.new ≡ self.old) × (changes.new ≡ changes.old)) }
+        ensures room { self.old.room ≤ self.new.room + length self.old.shown.places }
+        ensures notes_room { changes.old.room ≤ changes.new.room + length self.old.shown.places }
+        ensures notes_width { changes.new.width ≡ changes.old.width }
+    {
+        match self.refusal(viewer, pred, kind) {
+            Some(refusal) => Err(refusal),
+            None => Ok(self.write_all(viewer, label, pred, kind, changes)),
+        }
     }
 }

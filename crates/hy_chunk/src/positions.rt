@@ -76,13 +76,7 @@ fn death_after(newest: Option<Stamp>, id: u64, live: bool, death: u64, time: u64
     ensures { result ≡ (if is_own id newest then (if live then death else time) else death) }
 {
     match newest {
-        Some(stamp) if stamp.mark == id => {
-            if live {
-                death
-            } else {
-                time
-            }
-        }
+        Some(stamp) if stamp.mark == id => { if live { death } else { time } }
         _ => death,
     }
 }
@@ -144,12 +138,7 @@ fn take_spare(spare: &mut Vec<Delta>) -> Delta
 
 /// Takes the writer's own before-image out of its chain, where it is the newest; else a spare one, which says that a
 /// row was there.
-fn take_image(
-    chains: &mut Chains<Delta>,
-    spare: &mut Vec<Delta>,
-    place: usize,
-    id: u64,
-) -> Delta
+fn take_image(chains: &mut Chains<Delta>, spare: &mut Vec<Delta>, place: usize, id: u64) -> Delta
     requires within { place < length chains.old.chains }
     requires room { 0 < chains.old.room }
     requires some { 0 < vec_len spare.old }

@@ -1,9 +1,10 @@
 //! What an UPDATE or a DELETE makes of a version, and why it may not.
 
-ghost use Rattle.std.specs.Prelude.{◌≡◌, ◌<◌, ℕ, List, Option, None, Some, is_some, is_ok, length, true, not as negated};
+ghost use Rattle.std.specs.Prelude.{◌≡◌, ◌+◌, ◌<◌, ◌≤◌, ℕ, List, Option, None, Some, is_some, is_ok, length, true, not as negated};
 ghost use Rattle.std.specs.List.{AllByRecursion};
 ghost use Rattle.hy_bound.specs.Assignment.{assigned, value_of};
 ghost use Rattle.hy_bound.specs.Predicate.{truth_at};
+ghost use Rattle.hy_notes.specs.Notes.{with_note};
 ghost use Rattle.hy_undo.specs.Places.{cell_of};
 ghost use Rattle.hy_undo.specs.Sweeps.{judged, new_cell, verdict};
 ghost use Rattle.hy_chunk.specs.Writes.{FitsWrite, SetColumns, refusal_in, sets_of, with_value};
@@ -11,6 +12,7 @@ ghost use Rattle.hy_chunk.specs.Sound.{FitsRow};
 ghost use Rattle.hy_value.specs.declared.Kind.{Kind};
 
 use hy_bound::{Assign, Pred, Range, WriteKind, truth, value};
+use hy_notes::Changes;
 use hy_stamp::Label;
 use hy_undo::{Refusal, Version};
 use hy_value::{Row, Value};
@@ -126,5 +128,22 @@ pub fn make_next(kind: &WriteKind, row: &Row, next: &mut Version)
         WriteKind::Delete => {
             next.live = false;
         }
+    }
+}
+
+/// Notes that a row was there before, and whether the one after is. It takes no memory.
+pub fn note(changes: &mut Changes, table: u32, pos: u32, before: &Row, after: &Version)
+    requires room { 0 < changes.old.room }
+    requires before { length before.now ≤ changes.old.width }
+    requires after { length after.now.row ≤ changes.old.width }
+    ensures notes { changes.new.notes
+        ≡ with_note (record { table = table; pos = pos; before = Some before.now; after = cell_of after.now }) changes.old.notes }
+    ensures room { changes.old.room ≤ changes.new.room + 1 }
+    ensures width { changes.new.width ≡ changes.old.width }
+{
+    if after.live {
+        changes.note_reserved(table, pos, Some(before), Some(&after.row));
+    } else {
+        changes.note_reserved(table, pos, Some(before), None);
     }
 }

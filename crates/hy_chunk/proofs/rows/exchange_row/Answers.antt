@@ -35,7 +35,7 @@ exchange_value-requires-clause-slot c =
     let slots = image_length kinds image c.requires.image in
     let now = ap length c.loop-column.invariant.values in
     let less : k < length c.loop-column.image.values =
-        omega (arith, c.loop-column-test.true, c.width-column-end.ensures, slots, now, length_over k (changes_noted old c.args.row.now image) image) in
+    omega (arith, c.loop-column-test.true, c.width-column-end.ensures, slots, now, length_over k (changes_noted old c.args.row.now image) image) in
     less
 
 pub exchange_value-requires-clause-fits : goal.exchange_value-requires-clause-fits

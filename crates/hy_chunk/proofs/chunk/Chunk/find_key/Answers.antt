@@ -29,7 +29,7 @@ returns-then-has_value-clause-found c =
     let old = c.self.inside.positions.places in
     let k = c.loop-place.place in
     let here : cell_of c.see.new.version ≡ sees c.args.viewer.now (nth old k) =
-        ap (λ (v : Version). cell_of v) c.see.ensures.version ∙ ap (λ (h : Held). sees c.args.viewer.now (nth h.places k)) c.loop-place.invariant.positions in
+    ap (λ (v : Version). cell_of v) c.see.ensures.version ∙ ap (λ (h : Held). sees c.args.viewer.now (nth h.places k)) c.loop-place.invariant.positions in
     let test : Cell → Bool = truth_at (Compare c.args.column Eq (Literal c.args.value.now)) in
     sym (ap (λ (w : Whole). list_any test (rows_seen c.args.viewer.now w.shown.places)) (sym c.self.view_is)
     ∙ found_at test c.args.viewer.now old k (omega (arith, c.loop-place-test.true, c.len-place-end.ensures)) (ap test (sym here) ∙ (sym c.has_value.ensures ∙ c.if-has_value.true)))
@@ -39,7 +39,7 @@ loop-place-preserved c =
     let old = c.self.inside.positions.places in
     let k = c.loop-place.place in
     let here : cell_of c.see.new.version ≡ sees c.args.viewer.now (nth old k) =
-        ap (λ (v : Version). cell_of v) c.see.ensures.version ∙ ap (λ (h : Held). sees c.args.viewer.now (nth h.places k)) c.loop-place.invariant.positions in
+    ap (λ (v : Version). cell_of v) c.see.ensures.version ∙ ap (λ (h : Held). sees c.args.viewer.now (nth h.places k)) c.loop-place.invariant.positions in
     let test : Cell → Bool = truth_at (Compare c.args.column Eq (Literal c.args.value.now)) in
     let v = c.loop-place.invariant in
     record {

@@ -28,7 +28,7 @@ loop-place-preserved c =
     let old = c.self.inside.positions.places in
     let k = c.loop-place.place in
     let here : cell_of c.see.new.version ≡ sees c.args.viewer.now (nth old k) =
-        ap (λ (v : Version). cell_of v) c.see.ensures.version ∙ ap (λ (h : Held). sees c.args.viewer.now (nth h.places k)) c.loop-place.invariant.positions in
+    ap (λ (v : Version). cell_of v) c.see.ensures.version ∙ ap (λ (h : Held). sees c.args.viewer.now (nth h.places k)) c.loop-place.invariant.positions in
     let v = c.loop-place.invariant in
     let keeps : Cell → List (List Value) = kept_of c.args.columns c.args.pred.now in
     record {

@@ -33,6 +33,6 @@ returns-clause-places c =
     let view : olds ≡ c.args.self.now.shown.places = ap (λ (x : Whole). x.shown.places) c.self.view_is in
     let is : k ≡ least_free w olds = c.first_free-place.ensures.least ∙ ((λ i. least_free (c.watermark.ensures i) (sym view i))) in
     let within : k < length olds =
-        omega (arith, c.first_free-place.ensures.within, c.if-place-len.false, c.len.ensures, ap (λ (x : Whole). length x.shown.places) c.self.view_is) in
+    omega (arith, c.first_free-place.ensures.within, c.if-place-len.false, c.len.ensures, ap (λ (x : Whole). length x.shown.places) c.self.view_is) in
     subst (λ (places : List Place). IsPut (least_free w places) does places news) view
     (put_there does w olds news k is within c.place_at.ensures.places (c.place_at.ensures.placed w))

@@ -1,20 +1,19 @@
 -- What is done at a position leaves one that fits.
-use Rattle.std.proofs.Common.{◌≡◌, ℕ, Bool, true, false, List, [], ◌∷◌, ◌++◌, length, Option, None, Some, refl, sym, ap, ◌∙◌, cond, subst, replicate}
-use Rattle.std.specs.Prelude.{◌==◌, ◌&&◌, ◌||◌, not, zero, suc}
+use Rattle.std.proofs.Common.{◌≡◌, ℕ, Bool, true, false, List, [], ◌∷◌, ◌++◌, length, Option, None, Some, refl, ap, cond, replicate}
+use Rattle.std.specs.Prelude.{◌==◌, ◌&&◌, ◌||◌, not}
 use Rattle.hy_value.specs.declared.Value.{Value}
 use Rattle.hy_value.specs.declared.Kind.{Kind}
 use Rattle.hy_prune.specs.declared.Cover.{Cover}
 use Rattle.hy_prune.specs.declared.Fate.{Fate}
 use Rattle.hy_prune.specs.declared.Fate.TheVariants.{Keep, Merge, Drop}
 use Rattle.hy_prune.specs.Fates.{fate_of}
-use Rattle.hy_stamp.specs.declared.Stamp.{Stamp}
 use Rattle.hy_chain.specs.Chains.{Undo, marked, stamped}
-use Rattle.hy_chain.specs.Pruning.{mark_of, alone, joined, joined_to, by_fate, pruned_behind, pruned}
+use Rattle.hy_chain.specs.Pruning.{alone, joined, by_fate, pruned_behind, pruned}
 use Rattle.hy_column.specs.Cells.{FitsKind}
 use Rattle.hy_undo.specs.declared.version.Version.{Version}
 use Rattle.hy_undo.specs.Images.{Image, old_or, put_back, older_or, with_older, before, both}
 use Rattle.hy_undo.specs.Places.{Place}
-use Rattle.hy_undo.specs.Steps.{undone_by, IsBlankUnused}
+use Rattle.hy_undo.specs.Steps.{undone_by}
 use Rattle.hy_chunk.specs.Sound.{FitsRow, FitsNoted, FitsImage, FitsChain, FitsPlace}
 
 fits_older : (kind : Kind) (newer older : Option Value) → FitsNoted kind newer → FitsNoted kind older → FitsNoted kind (older_or newer older)

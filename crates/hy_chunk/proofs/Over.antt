@@ -1,11 +1,11 @@
 -- A list over another one, as far as some place.
 use Rattle.std.proofs.Common.{◌≡◌, ℕ, zero, suc, ◌+◌, ◌<◌, ◌≤◌, List, [], ◌∷◌, length, get_or, Option, None, refl, sym, ap, ◌∙◌, arith, add-one, subst}
 use Rattle.std.proofs.Math.ListN.{set}
-use Rattle.std.proofs.lemmas.List.{set-set, set-get_or, get_or-set_same, get_or_default, length-set}
+use Rattle.std.proofs.lemmas.List.{set-set, get_or-set_same, get_or_default}
 use Rattle.hy_value.specs.declared.Value.{Value}
 use Rattle.hy_value.specs.declared.Kind.{Kind}
 use Rattle.hy_column.specs.Cells.{FitsKind}
-use Rattle.hy_chunk.specs.Sound.{FitsRow, FitsNoted, FitsImage}
+use Rattle.hy_chunk.specs.Sound.{FitsRow, FitsImage}
 use Rattle.hy_chunk.specs.Noting.{change_noted, changes_noted}
 
 -- the first so many of the new list, and the old one behind them

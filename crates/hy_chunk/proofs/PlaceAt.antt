@@ -1,40 +1,21 @@
 -- A position with a new row.
-use Rattle.std.proofs.Common.{◌≡◌, ℕ, ◌<◌, Bool, true, false, List, [], ◌∷◌, length, get_or, Option, None, Some, refl, sym, ap, ◌∙◌, cond, subst, arith}
-use Rattle.std.specs.Prelude.{◌==◌, ◌&&◌, ◌||◌, not, if◌then◌else◌}
+use Rattle.std.proofs.Common.{◌≡◌, ℕ, ◌<◌, Bool, true, false, List, [], ◌∷◌, length, get_or, refl, sym, ap, ◌∙◌, subst}
 use Rattle.std.proofs.Math.ListN.{set}
 use Rattle.hy_value.specs.declared.Value.{Value}
 use Rattle.hy_value.specs.declared.Kind.{Kind}
-use Rattle.hy_prune.specs.declared.Cover.{Cover}
-use Rattle.hy_stamp.specs.declared.Stamp.{Stamp}
 use Rattle.hy_stamp.specs.declared.Viewer.{Viewer}
-use Rattle.hy_chain.specs.Chains.{Undo, newest, seen, stamped, marked, own_image, without_own}
-use Rattle.hy_chain.specs.Pruning.{pruned}
+use Rattle.hy_chain.specs.Chains.{Undo}
 use Rattle.hy_undo.specs.declared.version.Version.{Version}
-use Rattle.hy_undo.specs.Images.{Image, before, both, put_back}
+use Rattle.hy_undo.specs.Images.{Image}
 use Rattle.hy_undo.specs.Places.{Place}
-use Rattle.hy_undo.specs.Chunks.{is_own}
-use Rattle.hy_undo.specs.Steps.{pruned_place, stamped_place, undone_place, undone_by}
 use Rattle.hy_chunk.specs.Fields.{places_of, nth}
 use Rattle.hy_chunk.specs.Sound.{FitsRow, FitsImage, FitsChain, FitsPlace, Sound}
-use Rattle.hy_chunk.specs.Steps.{loaded_place}
-use Rattle.hy_chunk.proofs.Places.{Fields, at, all, Changed, kept, put, put_there, in_rows, in_live, in_used, in_deaths, in_chains, fits_there, changed_to, sound_changed}
-use Rattle.hy_chunk.proofs.Fitting.{fits_pruned, fits_stamped, fits_undone, fits_put_back}
-use Rattle.std.proofs.Common.{replicate}
-use Rattle.std.specs.Ordering.{is_eq}
-use Rattle.std.specs.declared.cmp.Ordering.{Ordering}
-use Rattle.std.specs.declared.cmp.Ordering.TheVariants.{Less, Equal, Greater}
-use Rattle.std.proofs.lemmas.Bool.{eqb-true}
-use Rattle.hy_value.specs.Order.{value_cmp}
-use Rattle.hy_value.specs.TotalOrder.{values_tie}
+use Rattle.hy_chunk.proofs.Places.{Fields, at, all, Changed, kept, put, put_there, in_rows, in_live, in_used, in_chains, fits_there, sound_changed}
 use Rattle.hy_stamp.specs.declared.Label.{Label}
-use Rattle.hy_column.specs.Cells.{FitsKind}
-use Rattle.hy_undo.specs.Images.{old_or, older_or}
-use Rattle.hy_undo.specs.Places.{cell_of, is_free}
-use Rattle.hy_undo.specs.Chunks.{Written, Placed}
-use Rattle.hy_undo.specs.Steps.{PlacesStep, written_place, rewritten_place, placed_place, IsBlankUnused}
+use Rattle.hy_undo.specs.Places.{is_free}
+use Rattle.hy_undo.specs.Chunks.{Placed}
+use Rattle.hy_undo.specs.Steps.{PlacesStep, placed_place, IsBlankUnused}
 use Rattle.hy_chunk.specs.Sound.{FitsNoted, blank_image}
-use Rattle.hy_chunk.specs.Noting.{change_noted, changes_noted, own_stamp, own_or_blank}
-use Rattle.hy_chunk.proofs.Over.{fits_length, image_length}
 use Rattle.hy_chunk.proofs.Fitting.{fits_blank}
 use Rattle.hy_chunk.proofs.Places.{changed_there, nth_is}
 

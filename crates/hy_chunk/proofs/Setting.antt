@@ -1,5 +1,5 @@
 -- Rows after SET.
-use Rattle.std.proofs.Common.{◌≡◌, ℕ, zero, suc, ◌+◌, ◌<◌, ◌≤◌, Bool, true, false, List, [], ◌∷◌, length, get_or, drop, Option, None, Some, Result, Ok, Err, refl, sym, ap, ◌∙◌, subst, arith}
+use Rattle.std.proofs.Common.{◌≡◌, ℕ, zero, suc, ◌+◌, ◌<◌, true, false, List, [], ◌∷◌, length, get_or, drop, Option, None, Some, Result, Ok, Err, refl, sym, ap, ◌∙◌, subst, arith}
 use Rattle.std.specs.Prelude.{is_some, is_ok, not}
 use Rattle.std.proofs.Math.ListN.{set}
 use Rattle.std.specs.List.{AllByRecursion}
@@ -9,10 +9,10 @@ use Rattle.hy_value.specs.declared.Kind.{Kind}
 use Rattle.hy_value.specs.declared.Kind.TheVariants.{Int}
 use Rattle.hy_bound.specs.declared.Assign.{Assign}
 use Rattle.hy_bound.specs.declared.Range.{Range}
-use Rattle.hy_bound.specs.Assignment.{value_of, set_column, assigned_to, assigned}
+use Rattle.hy_bound.specs.Assignment.{value_of, set_column, assigned_to}
 use Rattle.hy_column.specs.Cells.{FitsKind}
 use Rattle.hy_chunk.specs.Sound.{FitsRow}
-use Rattle.hy_chunk.specs.Writes.{FitsSet, FitsSets, with_value}
+use Rattle.hy_chunk.specs.Writes.{FitsSets, with_value}
 
 pub none_stays : (sets : List Assign) (row : List Value) → assigned_to sets row None ≡ None
 none_stays [] row = refl

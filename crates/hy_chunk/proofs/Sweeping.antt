@@ -1,5 +1,5 @@
 -- A sweep over the positions, one after the other.
-use Rattle.std.proofs.Common.{◌≡◌, ℕ, zero, suc, ◌+◌, ◌<◌, ◌≤◌, Bool, true, false, List, [], ◌∷◌, length, get_or, drop, Option, None, Some, Result, Ok, Err, refl, sym, ap, ◌∙◌, cond, subst, arith}
+use Rattle.std.proofs.Common.{◌≡◌, ℕ, zero, suc, ◌+◌, ◌<◌, ◌≤◌, Bool, true, false, List, [], ◌∷◌, length, drop, Option, None, Some, Result, Ok, Err, refl, sym, ap, ◌∙◌, cond, subst, arith}
 use Rattle.std.specs.Prelude.{is_some, count_by}
 use Rattle.std.proofs.lemmas.List.{at_drop_more, at_drop_all}
 use Rattle.std.proofs.lemmas.List.Sums.{sum_by-cons}
@@ -9,9 +9,9 @@ use Rattle.hy_stamp.specs.declared.Label.{Label}
 use Rattle.hy_stamp.specs.declared.Viewer.{Viewer}
 use Rattle.hy_bound.specs.Condition.{Condition}
 use Rattle.hy_bound.specs.declared.Assign.{Assign}
-use Rattle.hy_bound.specs.Predicate.{truth_of, truth_at}
+use Rattle.hy_bound.specs.Predicate.{truth_at}
 use Rattle.hy_change.specs.declared.Change.{Change}
-use Rattle.hy_chain.specs.Chains.{Undo, rival, seen, stops, newest}
+use Rattle.hy_chain.specs.Chains.{Undo, rival, seen, stops}
 use Rattle.hy_undo.specs.declared.refusal.Refusal.{Refusal}
 use Rattle.hy_undo.specs.declared.version.Version.{Version}
 use Rattle.hy_undo.specs.Images.{Image, before}
@@ -25,7 +25,7 @@ use Rattle.std.proofs.Common.{inl, inr}
 use Rattle.hy_value.specs.declared.Kind.{Kind}
 use Rattle.hy_bound.specs.declared.WriteKind.{WriteKind}
 use Rattle.hy_bound.specs.declared.WriteKind.TheVariants.{Set, Delete}
-use Rattle.hy_chunk.specs.Writes.{FitsSet, FitsSets, FitsWrite, SetColumns, judged_at, refusal_in, WrittenAs, all_noted, AreDone, IsDone}
+use Rattle.hy_chunk.specs.Writes.{FitsSets, FitsWrite, SetColumns, judged_at, refusal_in, WrittenAs, all_noted, IsDone}
 
 -- a refusal here is the first one
 refused_here : (v : Result (Option Cell) Refusal) (rest : Result (List (Option Cell)) Refusal) (refusal : Refusal) → Some refusal ≡ refusal_in v → Some refusal ≡ refusal_in (and_new v rest)

@@ -1,5 +1,5 @@
 -- A chunk whose positions changed.
-use Rattle.std.proofs.Common.{◌≡◌, ℕ, ◌+◌, ◌≤◌, ◌^◌, List, Option, length, sym, ap, ◌∙◌, arith}
+use Rattle.std.proofs.Common.{◌≡◌, ℕ, List, Option, length, sym, ◌∙◌, arith}
 use Rattle.hy_value.specs.declared.Kind.{Kind}
 use Rattle.hy_undo.specs.Places.{Place}
 use Rattle.hy_chunk.specs.Views.{Whole}

@@ -1,4 +1,4 @@
-use Rattle.std.proofs.Common.{◌≡◌, ◌<◌, [], length, get_or, refl, sym, ap, ◌∙◌, arith}
+use Rattle.std.proofs.Common.{◌<◌, [], length, get_or, refl, sym, ap, ◌∙◌, arith}
 use Rattle.std.proofs.lemmas.List.{set-get_or}
 use Rattle.hy_value.specs.declared.Kind.TheVariants.{Int}
 use Rattle.hy_chunk.proofs.Over.{fits_length, value_fits, copied_at, row_more, over_all}

@@ -1,8 +1,8 @@
-use Rattle.std.proofs.Common.{◌≡◌, ◌<◌, List, length, sym, ap, ◌∙◌, arith}
+use Rattle.std.proofs.Common.{◌<◌, List, length, sym, ap, ◌∙◌, arith}
 use Rattle.std.proofs.Math.ListN.{set}
 use Rattle.std.proofs.lemmas.List.{length-set}
 use Rattle.hy_value.specs.declared.Value.{Value}
-use Rattle.hy_chunk.proofs.Over.{over, over_more, over_all, copied_at}
+use Rattle.hy_chunk.proofs.Over.{over_more, over_all, copied_at}
 use Rattle.hy_chunk.proofs.writes.copy_over.Goals as goal
 
 pub loop-column-preserved : goal.loop-column-preserved

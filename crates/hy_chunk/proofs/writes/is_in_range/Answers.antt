@@ -1,4 +1,4 @@
-use Rattle.std.proofs.Common.{◌≡◌, sym, ◌∙◌, arith}
+use Rattle.std.proofs.Common.{sym, ◌∙◌, arith}
 use Rattle.hy_chunk.proofs.Setting.{range_step}
 use Rattle.hy_chunk.proofs.writes.is_in_range.Goals as goal
 

@@ -1,12 +1,10 @@
-use Rattle.std.proofs.Common.{◌≡◌, ℕ, ◌<◌, ◌++◌, length, take, false}
+use Rattle.std.proofs.Common.{◌≡◌, ℕ, ◌<◌, length, false}
 use Rattle.hy_value.specs.declared.Cmp.TheVariants.{Eq}
 use Rattle.hy_bound.specs.Condition.{Compare}
 use Rattle.hy_bound.specs.Predicate.{truth_at}
 use Rattle.hy_bound.specs.declared.predicate.Side.TheVariants.{Literal}
 use Rattle.hy_undo.specs.Places.{sees}
-use Rattle.hy_undo.specs.Chunks.{rows_seen}
 use Rattle.hy_chunk.specs.Fields.{nth}
-use Rattle.hy_chunk.specs.Gathering.{gathered_of}
 use Rattle.hy_chunk.proofs.chunk.Chunk.find_key.Given as goal
 
 abbrev pub invariant-loop-place : goal.invariant-loop-place

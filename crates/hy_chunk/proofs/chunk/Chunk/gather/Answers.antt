@@ -1,17 +1,12 @@
-use Rattle.std.proofs.Common.{◌≡◌, ℕ, ◌<◌, ◌≤◌, ◌++◌, Bool, true, false, List, length, take, refl, sym, ap, ◌∙◌, subst, arith}
+use Rattle.std.proofs.Common.{◌≡◌, ◌++◌, List, length, ap, ◌∙◌, arith}
 use Rattle.hy_value.specs.declared.Value.{Value}
-use Rattle.hy_value.specs.declared.Cmp.TheVariants.{Eq}
-use Rattle.hy_bound.specs.Condition.{Compare}
-use Rattle.hy_bound.specs.Predicate.{truth_at}
-use Rattle.hy_bound.specs.declared.predicate.Side.TheVariants.{Literal}
 use Rattle.hy_undo.specs.declared.version.Version.{Version}
-use Rattle.hy_undo.specs.Places.{Place, Cell, cell_of, sees}
-use Rattle.hy_undo.specs.Chunks.{rows_seen}
+use Rattle.hy_undo.specs.Places.{Cell, cell_of, sees}
 use Rattle.hy_chunk.specs.Fields.{nth}
-use Rattle.hy_chunk.specs.Gathering.{kept_of, gathered_of}
-use Rattle.hy_chunk.specs.Views.{Held, Whole}
+use Rattle.hy_chunk.specs.Gathering.{kept_of}
+use Rattle.hy_chunk.specs.Views.{Held}
 use Rattle.hy_chunk.proofs.Over.{fits_length}
-use Rattle.hy_chunk.proofs.Looks.{found_at, found_nowhere, none_more, gathered_more}
+use Rattle.hy_chunk.proofs.Looks.{gathered_more}
 use Rattle.hy_chunk.proofs.Wholes.{still_whole}
 use Rattle.hy_chunk.proofs.chunk.Chunk.gather.Goals as goal
 

@@ -1,4 +1,4 @@
-use Rattle.std.proofs.Common.{◌≡◌, ◌<◌, length, ap, arith}
+use Rattle.std.proofs.Common.{length, ap, arith}
 use Rattle.hy_chunk.specs.Views.{Whole}
 use Rattle.hy_chunk.proofs.chunk.Chunk.load.Goals as goal
 

@@ -1,9 +1,9 @@
-use Rattle.std.proofs.Common.{◌≡◌, ◌≤◌, List, length, sym, ap, ◌∙◌, subst, arith}
+use Rattle.std.proofs.Common.{◌≤◌, List, length, sym, ap, ◌∙◌, subst, arith}
 use Rattle.std.specs.List.{AllByRecursion}
 use Rattle.hy_chain.specs.Chains.{Falls}
 use Rattle.hy_undo.specs.Places.{Place}
-use Rattle.hy_undo.specs.Chunks.{Everywhere, AtOwn, StampedPlace, Undone, Pruned}
-use Rattle.hy_undo.specs.Steps.{stamped_place, undone_place, pruned_place}
+use Rattle.hy_undo.specs.Chunks.{Everywhere, Pruned}
+use Rattle.hy_undo.specs.Steps.{pruned_place}
 use Rattle.hy_value.specs.declared.Kind.{Kind}
 use Rattle.hy_chunk.specs.Fields.{nth}
 use Rattle.hy_chunk.specs.Views.{Whole, with_places}

@@ -1,13 +1,11 @@
-use Rattle.std.proofs.Common.{◌≡◌, ◌≤◌, List, length, sym, ap, ◌∙◌, subst, arith}
-use Rattle.std.specs.List.{AllByRecursion}
-use Rattle.hy_chain.specs.Chains.{Falls}
+use Rattle.std.proofs.Common.{◌≤◌, List, length, ap, ◌∙◌, subst, arith}
 use Rattle.hy_undo.specs.Places.{Place}
-use Rattle.hy_undo.specs.Chunks.{Everywhere, AtOwn, StampedPlace, Undone, Pruned}
-use Rattle.hy_undo.specs.Steps.{stamped_place, undone_place, pruned_place}
+use Rattle.hy_undo.specs.Chunks.{Everywhere, AtOwn, StampedPlace}
+use Rattle.hy_undo.specs.Steps.{stamped_place}
 use Rattle.hy_value.specs.declared.Kind.{Kind}
 use Rattle.hy_chunk.specs.Fields.{nth}
 use Rattle.hy_chunk.specs.Views.{Whole, with_places}
-use Rattle.hy_chunk.proofs.Mapped.{all_done, all_at}
+use Rattle.hy_chunk.proofs.Mapped.{all_done}
 use Rattle.hy_chunk.proofs.Wholes.{whole_of, still_whole}
 use Rattle.hy_chunk.proofs.chunk.Chunk.stamp.Goals as goal
 

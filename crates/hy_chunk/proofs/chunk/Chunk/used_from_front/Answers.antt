@@ -1,7 +1,7 @@
-use Rattle.std.proofs.Common.{◌≡◌, ℕ, ◌<◌, ◌≤◌, List, [], length, true, false, sym, ap, ◌∙◌, arith}
+use Rattle.std.proofs.Common.{◌≡◌, ◌≤◌, [], length, sym, ap, ◌∙◌, arith}
 use Rattle.std.proofs.lemmas.List.Sums.{prefix_len_is}
 use Rattle.hy_undo.specs.Places.{Place}
-use Rattle.hy_chunk.specs.Fields.{nth, blank_with}
+use Rattle.hy_chunk.specs.Fields.{blank_with}
 use Rattle.hy_chunk.specs.Steps.{least_unused}
 use Rattle.hy_chunk.specs.Views.{Whole}
 use Rattle.hy_chunk.proofs.chunk.Chunk.used_from_front.Goals as goal

@@ -1,25 +1,20 @@
-use Rattle.std.proofs.Common.{◌≡◌, ℕ, suc, ◌+◌, ◌<◌, ◌≤◌, Bool, true, false, List, [], length, get_or, drop, Option, None, Some, Result, Ok, Err, refl, sym, ap, ◌∙◌, cond, subst, arith}
+use Rattle.std.proofs.Common.{◌≡◌, ℕ, ◌+◌, ◌<◌, ◌≤◌, Bool, true, false, List, [], length, drop, None, Some, Ok, sym, ap, ◌∙◌, cond, subst, arith}
 use Rattle.std.proofs.Math.ListN.{set}
 use Rattle.std.proofs.lemmas.List.{length-set, get_or-set_other}
-use Rattle.hy_value.specs.declared.Value.{Value}
 use Rattle.hy_value.specs.declared.Kind.{Kind}
-use Rattle.hy_stamp.specs.declared.Label.{Label}
-use Rattle.hy_chain.specs.Chains.{rival, seen}
+use Rattle.hy_chain.specs.Chains.{seen}
 use Rattle.hy_change.specs.declared.Change.{Change}
 use Rattle.hy_notes.specs.Notes.{with_note}
 use Rattle.hy_bound.specs.Predicate.{truth_at}
-use Rattle.hy_undo.specs.declared.refusal.Refusal.{Refusal}
 use Rattle.hy_undo.specs.declared.version.Version.{Version}
 use Rattle.hy_undo.specs.Images.{before}
 use Rattle.hy_undo.specs.Places.{Place, Cell, cell_of, sees}
-use Rattle.hy_undo.specs.Sweeps.{verdict, swept}
+use Rattle.hy_undo.specs.Sweeps.{swept}
 use Rattle.hy_chunk.specs.Fields.{nth, blank_with}
-use Rattle.hy_chunk.specs.Sound.{FitsRow}
-use Rattle.hy_chunk.specs.Views.{Held, Whole}
-use Rattle.hy_chunk.specs.Writes.{FitsWrite, SetColumns, sets_of, refusal_in, judged_at, WrittenAs, IsDone}
+use Rattle.hy_chunk.specs.Views.{Whole}
+use Rattle.hy_chunk.specs.Writes.{FitsWrite, sets_of, refusal_in, judged_at, WrittenAs, IsDone}
 use Rattle.hy_chunk.proofs.Over.{fits_length}
-use Rattle.hy_chunk.proofs.Wholes.{still_whole}
-use Rattle.hy_chunk.proofs.Sweeping.{refused_at, goes_on, unselected, is_live, new_judged, without_rival, is_in_range, is_in_place, noted_of, counted_of, here_ok, left_ok, unnoted, uncounted, noted, counted, all_written, all_done, done_more, as_none, as_some, sets_within}
+use Rattle.hy_chunk.proofs.Sweeping.{unselected, is_live, new_judged, without_rival, is_in_range, is_in_place, noted_of, here_ok, left_ok, unnoted, uncounted, noted, counted, all_written, all_done, done_more, as_none, as_some, sets_within}
 use Rattle.hy_chunk.proofs.chunk.Chunk.write_all.Goals as goal
 
 pub loop-place-preserved-then-not-is_selected : goal.loop-place-preserved-then-not-is_selected

@@ -1,16 +1,8 @@
-use Rattle.std.proofs.Common.{◌≡◌, ℕ, ◌<◌, Bool, true, false, List, [], ◌∷◌, length, get_or, Option, None, Some, refl, sym, ap, ◌∙◌, subst, arith}
-use Rattle.std.proofs.lemmas.List.{get_or_read, get_or_default}
-use Rattle.hy_value.specs.declared.Value.{Value}
-use Rattle.hy_value.specs.declared.Kind.{Kind}
-use Rattle.hy_chain.specs.Chains.{Undo, newest, rival, seen}
-use Rattle.hy_undo.specs.declared.version.Version.{Version}
-use Rattle.hy_undo.specs.Images.{Image, before}
+use Rattle.std.proofs.Common.{false, sym, ap, ◌∙◌, arith}
+use Rattle.std.proofs.lemmas.List.{get_or_read}
 use Rattle.hy_undo.specs.Places.{Place}
 use Rattle.hy_chunk.specs.Views.{Held}
-use Rattle.hy_chunk.specs.Fields.{nth}
-use Rattle.hy_chunk.specs.Sound.{FitsRow}
-use Rattle.hy_chunk.proofs.Over.{fits_length}
-use Rattle.hy_chunk.proofs.Places.{Fields, at, all, length_all, nth_is, in_rows, in_live, in_used, in_deaths, in_chains, fits_there, all_blank, sound_blank}
+use Rattle.hy_chunk.proofs.Places.{Fields, nth_is, in_used}
 use Rattle.hy_chunk.proofs.positions.Positions.is_used.Goals as goal
 
 pub index-requires : goal.index-requires

@@ -1,0 +1,17 @@
+pub mod Over
+pub mod Places
+pub mod Fitting
+pub mod PruneAt
+pub mod StampAt
+pub mod LoadAt
+pub mod UndoAt
+pub mod SeeAt
+pub mod Mapped
+pub mod Wholes
+pub mod Looks
+pub mod Overwriting
+pub mod WriteAt
+pub mod PlaceAt
+pub mod Setting
+pub mod Frees
+pub mod Sweeping

@@ -1,0 +1,17 @@
+use Rattle.std.proofs.Common.{◌≡◌, ◌+◌, length, drop}
+use Rattle.hy_undo.specs.Sweeps.{swept}
+use Rattle.hy_chunk.specs.Writes.{sets_of, refusal_in}
+use Rattle.hy_chunk.proofs.chunk.Chunk.refusal.Given as goal
+
+-- what is left is refused as all is
+abbrev pub invariant-loop-place : goal.invariant-loop-place
+invariant-loop-place l = record {
+  table : l.self-inside.table ≡ l.initial.self-inside.table;
+  first : l.self-inside.first ≡ l.initial.self-inside.first;
+  key : l.self-inside.key ≡ l.initial.self-inside.key;
+  positions : l.self-inside.positions ≡ l.initial.self-inside.positions;
+  next : length l.self-inside.next.row ≡ length l.initial.self-inside.positions.kinds;
+  wide : length l.self-inside.seen.row ≡ length l.initial.self-inside.positions.kinds;
+  rest : refusal_in (swept (sets_of l.kind) l.pred l.viewer (l.initial.self-inside.first + l.place) (drop l.place l.initial.self-inside.positions.places))
+      ≡ refusal_in (swept (sets_of l.kind) l.pred l.viewer l.initial.self-inside.first l.initial.self-inside.positions.places);
+}

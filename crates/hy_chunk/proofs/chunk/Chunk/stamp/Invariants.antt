@@ -1,0 +1,17 @@
+use Rattle.std.proofs.Common.{◌≡◌, ◌≤◌, length}
+use Rattle.hy_undo.specs.Steps.{stamped_place}
+use Rattle.hy_chunk.proofs.Mapped.{DoneUpTo}
+use Rattle.hy_chunk.proofs.chunk.Chunk.stamp.Given as goal
+
+-- the positions so far are done
+abbrev pub invariant-loop-place : goal.invariant-loop-place
+invariant-loop-place l = record {
+  table : l.self-inside.table ≡ l.initial.self-inside.table;
+  first : l.self-inside.first ≡ l.initial.self-inside.first;
+  key : l.self-inside.key ≡ l.initial.self-inside.key;
+  kinds : l.self-inside.positions.kinds ≡ l.initial.self-inside.positions.kinds;
+  next : length l.self-inside.next.row ≡ length l.initial.self-inside.positions.kinds;
+  wide : length l.self-inside.seen.row ≡ length l.initial.self-inside.positions.kinds;
+  places : DoneUpTo (stamped_place l.id l.time) l.initial.self-inside.positions.places l.self-inside.positions.places l.place;
+  room : l.initial.self-inside.positions.room ≤ l.self-inside.positions.room;
+}

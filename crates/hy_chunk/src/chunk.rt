@@ -1,0 +1,398 @@
+//! A chunk of a table.
+
+ghost use Rattle.std.specs.Prelude.{◌≡◌, ◌++◌, take, None, Some, IfErr, ◌+◌, ◌<◌, ◌≤◌, ◌^◌, ℕ, List, IfOk, OnOk, OnErr, length, replicate, slice_set};
+ghost use Rattle.std.specs.List.{AllByRecursion, list_any};
+ghost use Rattle.hy_bound.specs.Condition.{Compare};
+ghost use Rattle.hy_bound.specs.Predicate.{truth_at};
+ghost use Rattle.hy_bound.specs.Projection.{projected};
+ghost use Rattle.hy_chain.specs.Chains.{Falls};
+ghost use Rattle.hy_notes.specs.Notes.{with_note};
+ghost use Rattle.hy_prune.specs.Fates.{watermark_of};
+ghost use Rattle.hy_undo.specs.Places.{cell_of};
+ghost use Rattle.hy_undo.specs.Chunks.{rows_seen, Placed, Everywhere, AtOwn, StampedPlace, Undone, Pruned};
+ghost use Rattle.hy_chunk.specs.Fields.{blank_place, nth};
+ghost use Rattle.hy_chunk.specs.Gathering.{kept_of, gathered_of};
+ghost use Rattle.hy_chunk.specs.Sound.{FitsRow};
+ghost use Rattle.hy_chunk.specs.Steps.{loaded_place, least_unused, least_free, IsPut};
+ghost use Rattle.hy_chunk.specs.Views.{with_places};
+ghost use Rattle.hy_chunk.specs.Writes.{FitsWrite, IsDone, refusal_in, sets_of};
+ghost use Rattle.hy_undo.specs.Sweeps.{swept};
+ghost use Rattle.hy_value.specs.declared.Value.{Value};
+ghost use Rattle.hy_value.specs.declared.Cmp.{Cmp};
+ghost use Rattle.hy_bound.specs.declared.predicate.Side.{Side};
+
+use crate::positions::Positions;
+use crate::writes::{is_selected, make_next, note, refusal_at};
+use hy_bound::{Pred, WriteKind, column_value, compare, project_row, truth};
+use hy_notes::Changes;
+use hy_plan::Gathered;
+use hy_prune::{Cover, watermark};
+use hy_stamp::{Label, Viewer};
+use hy_undo::{Refusal, Version};
+use hy_value::{Cmp, ColMask, Kind, Row, Seq, Value};
+use std::alloc::{AllocError, Global};
+use std::marker::Model;
+
+/// Every position is used.
+#[derive(Clone, Copy, Debug, PartialEq, Eq)]
+pub struct NoRoom;
+
+/// A chunk: some positions of a table, with the versions before beside what is in place.
+#[derive(Drop)]
+pub struct Chunk {
+    table: u32,
+    first: u32,
+    key: Option<u32>,
+    positions: Positions,
+    /// Versions to work on, so that neither looking nor writing needs memory.
+    seen: Version,
+    next: Version,
+}
+
+impl Model for Chunk {
+    ghost use Rattle.std.specs.Prelude.{length};
+    ghost use Rattle.hy_chunk.specs.Views.{Whole, whole_code};
+    ghost use Rattle.hy_chunk.specs.Whole.{IsWhole};
+
+    ghost Value = { Whole };
+
+    ghost coded = { whole_code };
+
+    ghost view = { λ a. record {
+      shown = record { table = a.table; first = a.first; width = length a.positions.kinds; key = a.key; places = a.positions.places };
+      kinds = a.positions.kinds;
+      room = a.positions.room;
+    } };
+
+    ghost invariant = { λ a. IsWhole a.first (length a.positions.places) (length a.positions.kinds) (length a.seen.row) (length a.next.row) };
+}
+
+/// A version of so many NULLs. Err is for want of memory.
+fn blank_version(alloc: Global, width: usize) -> Result<Version, AllocError>
+    ensures { IfOk result (λ version. length version.row ≡ width) }
+{
+    let mut row = Vec::with_capacity(alloc, width)?;
+    for _column in 0..width {
+        row.push(Value::Null)?;
+    }
+    Ok(Version {
+        row: Seq::from_vec(row),
+        live: false,
+    })
+}
+
+/// Whether a version is a row that has this value in a column.
+fn has_value(version: &Version, column: u32, value: &Value) -> bool
+    ensures { result ≡ truth_at (Compare column Cmp.Eq (Side.Literal value.now)) (cell_of version.now) }
+{
+    if version.live {
+        let held = column_value(&version.row, column);
+        matches!(compare(Cmp::Eq, &held, value), Some(true))
+    } else {
+        false
+    }
+}
+
+/// Adds the values in a set of columns, where a version is a row that a condition selects. Without memory nothing
+/// changes.
+fn keep(
+    alloc: Global,
+    version: &Version,
+    pred: &Pred,
+    columns: ColMask,
+    gathered: &mut Gathered,
+) -> Result<(), AllocError>
+    requires { length (projected columns version.now.row) ≡ gathered.old.width }
+    ensures rows { OnOk result (gathered.new.rows ≡ gathered.old.rows ++ kept_of columns pred.now (cell_of version.now)) }
+    ensures err { OnErr result (gathered.new.rows ≡ gathered.old.rows) }
+    ensures width { gathered.new.width ≡ gathered.old.width }
+{
+    if version.live && truth(pred, &version.row) {
+        let row = project_row(alloc, columns, &version.row)?;
+        gathered.push(row.as_slice())?;
+    }
+    Ok(())
+}
+
+impl Chunk {
+    /// So many unused positions from `first` on of a table whose columns have these types; one of them may be its key.
+    /// Err is for want of memory.
+    pub fn new(
+        alloc: Global,
+        table: u32,
+        first: u32,
+        kinds: &[Kind],
+        rows: usize,
+        key: Option<u32>,
+    ) -> Result<Chunk, AllocError>
+        requires { first + rows < 2 ^ 32 }
+        ensures shown { IfOk result (λ chunk. chunk.shown
+            ≡ record { table = table; first = first; width = length kinds.now; key = key; places = replicate rows (blank_place kinds.now) }) }
+        ensures kinds { IfOk result (λ chunk. chunk.kinds ≡ kinds.now) }
+    {
+        let positions = Positions::new(alloc, kinds, rows)?;
+        let seen = blank_version(alloc, kinds.len())?;
+        let next = blank_version(alloc, kinds.len())?;
+        Ok(Chunk {
+            table,
+            first,
+            key,
+            positions,
+            seen,
+            next,
+        })
+    }
+
+    /// Makes room for so many more records. There is never less room, and all else stays, without memory too.
+    pub fn reserve(&mut self, additional: usize) -> Result<(), AllocError>
+        ensures all { self.new ≡ with_places self.old self.old.shown.places self.new.room }
+        ensures ok { OnOk result (additional ≤ self.new.room) }
+        ensures kept { self.old.room ≤ self.new.room }
+        ensures err { OnErr result (self.old.room < additional) }
+    {
+        self.positions.reserve(additional)
+    }
+
+    /// Gives the own records of a transaction their commit time, and the rows of it that are gone their death time.
+    pub fn stamp(&mut self, id: u64, time: u64)
+        ensures all { self.new ≡ with_places self.old self.new.shown.places self.new.room }
+        ensures places { Everywhere (AtOwn id (StampedPlace id time)) self.old.shown.places self.new.shown.places }
+        ensures room { self.old.room ≤ self.new.room }
+    {
+        hy_undo::places_step();
+        for place in 0..self.positions.len() {
+            self.positions.stamp_at(place, id, time);
+        }
+    }
+
+    /// Puts back what the own records of a transaction say.
+    pub fn undo(&mut self, id: u64)
+        ensures all { self.new ≡ with_places self.old self.new.shown.places self.new.room }
+        ensures places { Everywhere (AtOwn id (Undone id)) self.old.shown.places self.new.shown.places }
+        ensures room { self.old.room ≤ self.new.room }
+    {
+        hy_undo::places_step();
+        for place in 0..self.positions.len() {
+            self.positions.undo_at(place, id, &mut self.seen);
+        }
+    }
+
+    /// Prunes every chain by a cover.
+    pub fn prune(&mut self, cover: &Cover)
+        requires { AllByRecursion (λ place. Falls place.chain) self.old.shown.places }
+        ensures all { self.new ≡ with_places self.old self.new.shown.places self.new.room }
+        ensures places { Everywhere (Pruned cover.now) self.old.shown.places self.new.shown.places }
+        ensures room { self.old.room ≤ self.new.room }
+    {
+        hy_undo::places_step();
+        for place in 0..self.positions.len() {
+            self.positions.prune_at(place, cover);
+        }
+    }
+
+    /// How many positions from the front on are used.
+    fn used_from_front(&self) -> usize
+        ensures least { result ≡ least_unused self.now.shown.places }
+        ensures within { result ≤ length self.now.shown.places }
+    {
+        for place in 0..self.positions.len() {
+            if !self.positions.is_used(place) {
+                return place;
+            }
+        }
+        self.positions.len()
+    }
+
+    /// Puts a first row into the least unused position, which it answers. It fails only where every position is used,
+    /// and then changes nothing.
+    pub fn load(&mut self, row: &Row) -> Result<u32, NoRoom>
+        requires { FitsRow self.old.kinds row.now }
+        ensures pos { IfOk result (λ pos. pos ≡ self.old.shown.first + least_unused self.old.shown.places) }
+        ensures ok { OnOk result (self.new ≡ with_places self.old
+            (slice_set self.old.shown.places (least_unused self.old.shown.places)
+            (loaded_place row.now (nth self.old.shown.places (least_unused self.old.shown.places)))) self.new.room) }
+        ensures there { OnOk result (least_unused self.old.shown.places < length self.old.shown.places) }
+        ensures none { OnErr result (least_unused self.old.shown.places ≡ length self.old.shown.places) }
+        ensures kept { OnErr result (self.new ≡ self.old) }
+        ensures room { self.old.room ≤ self.new.room }
+    {
+        let place = self.used_from_front();
+        if place == self.positions.len() {
+            return Err(NoRoom);
+        }
+        self.positions.load_at(place, row);
+        Ok(self.first + place as u32)
+    }
+
+    /// Whether a viewer sees a row that has this value in a column.
+    pub fn find_key(&mut self, viewer: &Viewer, column: u32, value: &Value) -> bool
+        ensures found { result ≡ list_any (truth_at (Compare column Cmp.Eq (Side.Literal value.now))) (rows_seen viewer.now self.old.shown.places) }
+        ensures all { self.new ≡ self.old }
+    {
+        for place in 0..self.positions.len() {
+            self.positions.see(place, viewer, &mut self.seen);
+            if has_value(&self.seen, column, value) {
+                return true;
+            }
+        }
+        false
+    }
+
+    /// Appends, position by position, of the rows that a viewer sees and a condition selects the values in a set of
+    /// columns. Err is for want of memory: then only the rows that were there before are there for certain.
+    pub fn gather(
+        &mut self,
+        alloc: Global,
+        viewer: &Viewer,
+        pred: &Pred,
+        columns: ColMask,
+        gathered: &mut Gathered,
+    ) -> Result<(), AllocError>
+        requires { (row : List Value) → FitsRow self.old.kinds row → length (projected columns row) ≡ gathered.old.width }
+        ensures rows { OnOk result (gathered.new.rows ≡ gathered.old.rows ++ gathered_of columns pred.now (rows_seen viewer.now self.old.shown.places)) }
+        ensures err { OnErr result (take (length gathered.old.rows) gathered.new.rows ≡ gathered.old.rows) }
+        ensures width { gathered.new.width ≡ gathered.old.width }
+        ensures all { self.new ≡ self.old }
+    {
+        for place in 0..self.positions.len() {
+            self.positions.see(place, viewer, &mut self.seen);
+            keep(alloc, &self.seen, pred, columns, gathered)?;
+        }
+        Ok(())
+    }
+
+    /// The least position that may take a new row from a watermark on, or how many there are.
+    fn first_free(&self, watermark: u64) -> usize
+        ensures least { result ≡ least_free watermark self.now.shown.places }
+        ensures within { result ≤ length self.now.shown.places }
+    {
+        for place in 0..self.positions.len() {
+            if self.positions.is_free(place, watermark) {
+                return place;
+            }
+        }
+        self.positions.len()
+    }
+
+    /// Puts a new row at the least position that may take it, notes it, and answers the position. It fails only where
+    /// no position may, and then changes nothing. It takes no memory.
+    pub fn place(
+        &mut self,
+        viewer: &Viewer,
+        label: Label,
+        cover: &Cover,
+        row: &Row,
+        changes: &mut Changes,
+    ) -> Result<u32, NoRoom>
+        requires fits { FitsRow self.old.kinds row.now }
+        requires room { 0 < self.old.room }
+        requires notes { 0 < changes.old.room }
+        requires wide { length self.old.kinds ≤ changes.old.width }
+        ensures pos { IfOk result (λ pos. pos ≡ self.old.shown.first + least_free (watermark_of cover.now) self.old.shown.places) }
+        ensures there { OnOk result (least_free (watermark_of cover.now) self.old.shown.places < length self.old.shown.places) }
+        ensures all { self.new ≡ with_places self.old self.new.shown.places self.new.room }
+        ensures places { OnOk result (IsPut (least_free (watermark_of cover.now) self.old.shown.places)
+            (Placed viewer.now label (watermark_of cover.now) row.now) self.old.shown.places self.new.shown.places) }
+        ensures noted { IfOk result (λ pos. changes.new.notes
+            ≡ with_note (record { table = self.old.shown.table; pos = pos; before = None; after = Some row.now }) changes.old.notes) }
+        ensures none { OnErr result (least_free (watermark_of cover.now) self.old.shown.places ≡ length self.old.shown.places) }
+        ensures kept { OnErr result ((self.new ≡ self.old) × (changes.new ≡ changes.old)) }
+        ensures room { self.old.room ≤ self.new.room + 1 }
+        ensures notes_room { changes.old.room ≤ changes.new.room + 1 }
+        ensures notes_width { changes.new.width ≡ changes.old.width }
+    {
+        let place = self.first_free(watermark(cover));
+        if place == self.positions.len() {
+            return Err(NoRoom);
+        }
+        self.positions.place_at(place, viewer, label, row);
+        let pos = self.first + place as u32;
+        changes.note_reserved(self.table, pos, None, Some(row));
+        Ok(pos)
+    }
+
+    /// Why a write is refused, if it is: the first refusal, position by position.
+    fn refusal(&mut self, viewer: &Viewer, pred: &Pred, kind: &WriteKind) -> Option<Refusal>
+        ensures refusal { result ≡ refusal_in (swept (sets_of kind.now) pred.now viewer.now self.old.shown.first self.old.shown.places) }
+        ensures all { self.new ≡ self.old }
+    {
+        for place in 0..self.positions.len() {
+            self.positions.see(place, viewer, &mut self.seen);
+            let rival = self.positions.rival(place, viewer);
+            let pos = self.first + place as u32;
+            if let Some(refusal) = refusal_at(&self.seen, pred, kind, rival, pos) {
+                return Some(refusal);
+            }
+        }
+        None
+    }
+
+    /// Writes and notes each position that is selected, and answers how many they are.
+    fn write_all(
+        &mut self,
+        viewer: &Viewer,
+        label: Label,
+        pred: &Pred,
+        kind: &WriteKind,
+        changes: &mut Changes,
+    ) -> u32
+        requires ok { refusal_in (swept (sets_of kind.now) pred.now viewer.now self.old.shown.first self.old.shown.places) ≡ None }
+        requires room { length self.old.shown.places ≤ self.old.room }
+        requires notes { length self.old.shown.places ≤ changes.old.room }
+        requires wide { length self.old.kinds ≤ changes.old.width }
+        requires fits { FitsWrite self.old.kinds self.old.shown.key kind.now }
+        ensures all { self.new ≡ with_places self.old self.new.shown.places self.new.room }
+        ensures done { IsDone viewer.now label self.old.shown.table self.old.shown.first
+            (swept (sets_of kind.now) pred.now viewer.now self.old.shown.first self.old.shown.places)
+            self.old.shown.places self.new.shown.places changes.old.notes changes.new.notes result }
+        ensures room { self.old.room ≤ self.new.room + length self.old.shown.places }
+        ensures notes_room { changes.old.room ≤ changes.new.room + length self.old.shown.places }
+        ensures notes_width { changes.new.width ≡ changes.old.width }
+    {
+        let mut written = 0;
+        for place in 0..self.positions.len() {
+            self.positions.see(place, viewer, &mut self.seen);
+            if !is_selected(&self.seen, pred) {
+                continue;
+            }
+            make_next(kind, &self.seen.row, &mut self.next);
+            self.positions.write_at(place, viewer, label, &self.next);
+            let pos = self.first + place as u32;
+            note(changes, self.table, pos, &self.seen.row, &self.next);
+            written += 1;
+        }
+        written
+    }
+
+    /// Does an UPDATE or a DELETE: it writes and notes each position whose row the viewer sees and the condition
+    /// selects, and answers how many they are. It fails with the first refusal, position by position, and then
+    /// changes nothing. It takes no memory.
+    pub fn write(
+        &mut self,
+        viewer: &Viewer,
+        label: Label,
+        pred: &Pred,
+        kind: &WriteKind,
+        changes: &mut Changes,
+    ) -> Result<u32, Refusal>
+        requires room { length self.old.shown.places ≤ self.old.room }
+        requires notes { length self.old.shown.places ≤ changes.old.room }
+        requires wide { length self.old.kinds ≤ changes.old.width }
+        requires fits { FitsWrite self.old.kinds self.old.shown.key kind.now }
+        ensures all { self.new ≡ with_places self.old self.new.shown.places self.new.room }
+        ensures done { IfOk result (λ count. IsDone viewer.now label self.old.shown.table self.old.shown.first
+            (swept (sets_of kind.now) pred.now viewer.now self.old.shown.first self.old.shown.places)
+            self.old.shown.places self.new.shown.places changes.old.notes changes.new.notes count) }
+        ensures refused { IfErr result (λ refusal. Some refusal
+            ≡ refusal_in (swept (sets_of kind.now) pred.now viewer.now self.old.shown.first self.old.shown.places)) }
+        ensures kept { OnErr result ((self.new ≡ self.old) × (changes.new ≡ changes.old)) }
+        ensures room { self.old.room ≤ self.new.room + length self.old.shown.places }
+        ensures notes_room { changes.old.room ≤ changes.new.room + length self.old.shown.places }
+        ensures notes_width { changes.new.width ≡ changes.old.width }
+    {
+        match self.refusal(viewer, pred, kind) {
+            Some(refusal) => Err(refusal),
+            None => Ok(self.write_all(viewer, label, pred, kind, changes)),
+        }
+    }
+}

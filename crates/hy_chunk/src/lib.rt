@@ -1,0 +1,11 @@
+//! A chunk of a table: columns that are changed in place, and the versions before beside them (Neumann,
+//! Mühlbauer, Kemper, "Fast Serializable Multi-Version Concurrency Control for Main-Memory Database Systems",
+//! SIGMOD 2015).
+#![tactic(auto)]
+
+mod chunk;
+mod positions;
+mod rows;
+mod writes;
+
+pub use chunk::{Chunk, NoRoom};

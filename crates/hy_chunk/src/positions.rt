@@ -1,0 +1,373 @@
+//! The positions of a chunk.
+
+ghost use Rattle.std.specs.Prelude.{◌≡◌, ◌+◌, ◌<◌, ◌≤◌, ◌&&◌, ◌||◌, ◌==◌, not as negated, IfOk, OnOk, OnErr, length, replicate, slice_set, vec_len, true, ℕ, slice_index_or, []};
+ghost use Rattle.std.specs.Prelude.{if◌then◌else◌};
+ghost use Rattle.hy_chain.specs.Chains.{rival, seen as seen_through, without_own};
+ghost use Rattle.hy_undo.specs.Images.{before};
+ghost use Rattle.hy_undo.specs.Places.{cell_of, is_free, is_older};
+ghost use Rattle.hy_undo.specs.Chunks.{is_own, Placed, Written};
+ghost use Rattle.hy_undo.specs.Steps.{pruned_place, stamped_place, undone_place};
+ghost use Rattle.hy_chunk.specs.Fields.{blank_place, nth};
+ghost use Rattle.hy_chunk.specs.Sound.{AreBlank, FitsRow, blank_image};
+ghost use Rattle.hy_chunk.specs.Noting.{own_stamp, own_or_blank};
+ghost use Rattle.hy_chunk.specs.Steps.{loaded_place};
+
+use crate::rows::{exchange_row, put_row};
+use hy_chain::{Chains, Image};
+use hy_column::Columns;
+use hy_prune::Cover;
+use hy_stamp::{Label, Stamp, Viewer};
+use hy_undo::{Delta, Version};
+use hy_value::{Kind, Row};
+use std::alloc::{AllocError, Global};
+use std::marker::Model;
+
+/// The positions of a chunk: by column the rows in place, and beside them which rows are there, which positions
+/// are used, since when their rows are gone, and the chains of the versions before. Contracts see them position by
+/// position.
+#[derive(Drop)]
+pub struct Positions {
+    columns: Columns,
+    live: Vec<bool>,
+    used: Vec<bool>,
+    deaths: Vec<u64>,
+    chains: Chains<Delta>,
+    /// Blank before-images, so that a write needs no memory.
+    spare: Vec<Delta>,
+}
+
+impl Model for Positions {
+    ghost use Rattle.std.specs.Prelude.{min, vec_len};
+    ghost use Rattle.hy_chunk.specs.Views.{Held, held_code};
+    ghost use Rattle.hy_chunk.specs.Fields.{places_of};
+    ghost use Rattle.hy_chunk.specs.Sound.{Sound};
+
+    ghost Value = { Held };
+
+    ghost coded = { held_code };
+
+    ghost view = { λ a. record {
+      kinds = a.columns.kinds;
+      places = places_of a.columns.rows a.live.items a.used.items a.deaths.items a.chains.chains;
+      room = min a.chains.room (vec_len a.spare);
+    } };
+
+    ghost invariant = { λ a. Sound a.columns.kinds a.columns.rows a.live.items a.used.items a.deaths.items a.chains.chains a.spare.items };
+}
+
+/// Puts a flag at a place.
+fn put_flag(flags: &mut Vec<bool>, place: usize, flag: bool)
+    requires { place < vec_len flags.old }
+    ensures { flags.new.items ≡ slice_set flags.old.items place flag }
+{
+    flags[place] = flag;
+}
+
+/// Puts a time at a place.
+fn put_time(times: &mut Vec<u64>, place: usize, time: u64)
+    requires { place < vec_len times.old }
+    ensures { times.new.items ≡ slice_set times.old.items place time }
+{
+    times[place] = time;
+}
+
+/// The death time of a position after a stamp.
+fn death_after(newest: Option<Stamp>, id: u64, live: bool, death: u64, time: u64) -> u64
+    ensures { result ≡ (if is_own id newest then (if live then death else time) else death) }
+{
+    match newest {
+        Some(stamp) if stamp.mark == id => { if live { death } else { time } }
+        _ => death,
+    }
+}
+
+/// Whether a position is used still after an undo: a row was there before, or it had one that went.
+fn used_after(used: bool, was_live: bool, death: u64) -> bool
+    ensures { result ≡ (used && (was_live || negated (death == 0))) }
+{
+    used && (was_live || death != 0)
+}
+
+/// Whether a position may take a new row, by what is known of it.
+fn free_by(used: bool, live: bool, is_older: bool, is_dead: bool) -> bool
+    ensures { result ≡ (negated used || (negated live && (is_older && is_dead))) }
+{
+    !used || (!live && is_older && is_dead)
+}
+
+/// Adds blank before-images of so many columns until there are so many. Err is for want of memory.
+fn add_images(spare: &mut Vec<Delta>, count: usize, width: usize) -> Result<(), AllocError>
+    requires { AreBlank width spare.old.items }
+    ensures blank { AreBlank width spare.new.items }
+    ensures ok { OnOk result (count ≤ vec_len spare.new) }
+    ensures kept { vec_len spare.old ≤ vec_len spare.new }
+    ensures err { OnErr result (vec_len spare.old < count) }
+{
+    let alloc = *spare.allocator();
+    for _image in spare.len()..count {
+        spare.push(Delta::blank(alloc, width)?)?;
+    }
+    Ok(())
+}
+
+/// The writer's own stamp where it is the newest, else a new one.
+fn stamp_over(newest: Option<Stamp>, label: Label, id: u64) -> Stamp
+    ensures { result ≡ own_stamp label id newest }
+{
+    match newest {
+        Some(stamp) if stamp.mark == id => stamp,
+        _ => Stamp {
+            owner: label,
+            mark: id,
+        },
+    }
+}
+
+/// Takes a spare before-image out.
+fn take_spare(spare: &mut Vec<Delta>) -> Delta
+    requires { 0 < vec_len spare.old }
+    ensures image { (width : ℕ) → AreBlank width spare.old.items → result ≡ blank_image width }
+    ensures blank { (width : ℕ) → AreBlank width spare.old.items → AreBlank width spare.new.items }
+    ensures left { vec_len spare.old ≡ vec_len spare.new + 1 }
+{
+    match spare.pop() {
+        Some(image) => image,
+        None => unreachable!(),
+    }
+}
+
+/// Takes the writer's own before-image out of its chain, where it is the newest; else a spare one, which says that a
+/// row was there.
+fn take_image(chains: &mut Chains<Delta>, spare: &mut Vec<Delta>, place: usize, id: u64) -> Delta
+    requires within { place < length chains.old.chains }
+    requires room { 0 < chains.old.room }
+    requires some { 0 < vec_len spare.old }
+    ensures image { (width : ℕ) → AreBlank width spare.old.items → result ≡ own_or_blank width id (slice_index_or chains.old.chains place []) }
+    ensures blank { (width : ℕ) → AreBlank width spare.old.items → AreBlank width spare.new.items }
+    ensures chains { chains.new.chains ≡ slice_set chains.old.chains place (without_own id (slice_index_or chains.old.chains place [])) }
+    ensures kept { chains.old.room ≤ chains.new.room }
+    ensures left { vec_len spare.old ≤ vec_len spare.new + 1 }
+{
+    match chains.pop_own(place, id) {
+        Some(image) => image,
+        None => {
+            let mut image = take_spare(spare);
+            image.set_live(true);
+            image
+        }
+    }
+}
+
+impl Positions {
+    /// So many unused positions, with columns of these types. Err is for want of memory.
+    pub fn new(alloc: Global, kinds: &[Kind], rows: usize) -> Result<Positions, AllocError>
+        ensures kinds { IfOk result (λ made. made.kinds ≡ kinds.now) }
+        ensures places { IfOk result (λ made. made.places ≡ replicate rows (blank_place kinds.now)) }
+    {
+        let columns = Columns::new(alloc, kinds, rows)?;
+        let live = vec![in alloc; false; rows]?;
+        let used = vec![in alloc; false; rows]?;
+        let deaths = vec![in alloc; 0u64; rows]?;
+        let chains = Chains::new(alloc, rows)?;
+        Ok(Positions {
+            columns,
+            live,
+            used,
+            deaths,
+            chains,
+            spare: Vec::new(alloc),
+        })
+    }
+
+    /// How many positions there are.
+    pub fn len(&self) -> usize
+        ensures { result ≡ length self.now.places }
+    {
+        self.live.len()
+    }
+
+    /// How many columns there are.
+    pub fn width(&self) -> usize
+        ensures { result ≡ length self.now.kinds }
+    {
+        self.columns.width()
+    }
+
+    /// Makes room for so many more records. There is never less room, and the positions stay, without memory too.
+    pub fn reserve(&mut self, additional: usize) -> Result<(), AllocError>
+        ensures kinds { self.new.kinds ≡ self.old.kinds }
+        ensures places { self.new.places ≡ self.old.places }
+        ensures ok { OnOk result (additional ≤ self.new.room) }
+        ensures kept { self.old.room ≤ self.new.room }
+        ensures err { OnErr result (self.old.room < additional) }
+    {
+        self.chains.reserve(additional)?;
+        add_images(&mut self.spare, additional, self.columns.width())
+    }
+
+    /// Prunes the chain of a position by a cover.
+    pub fn prune_at(&mut self, place: usize, cover: &Cover)
+        requires { place < length self.old.places }
+        ensures kinds { self.new.kinds ≡ self.old.kinds }
+        ensures places { self.new.places ≡ slice_set self.old.places place (pruned_place cover.now (nth self.old.places place)) }
+        ensures room { self.old.room ≤ self.new.room }
+    {
+        self.chains.prune(place, cover);
+    }
+
+    /// Gives the newest record of a position its commit time, where it is of this identifier, and a row that is
+    /// gone its death time.
+    pub fn stamp_at(&mut self, place: usize, id: u64, time: u64)
+        requires { place < length self.old.places }
+        ensures kinds { self.new.kinds ≡ self.old.kinds }
+        ensures places { self.new.places ≡ slice_set self.old.places place (stamped_place id time (nth self.old.places place)) }
+        ensures room { self.old.room ≤ self.new.room }
+    {
+        let newest = self.chains.head(place);
+        let death = death_after(newest, id, self.live[place], self.deaths[place], time);
+        put_time(&mut self.deaths, place, death);
+        self.chains.stamp_own(place, id, time);
+    }
+
+    /// Puts the newest before-image of a position back, where it is of this identifier. `version` is a scratch one of
+    /// as many columns.
+    pub fn undo_at(&mut self, place: usize, id: u64, version: &mut Version)
+        requires within { place < length self.old.places }
+        requires width { length version.old.row ≡ length self.old.kinds }
+        ensures kinds { self.new.kinds ≡ self.old.kinds }
+        ensures places { self.new.places ≡ slice_set self.old.places place (undone_place id (nth self.old.places place)) }
+        ensures room { self.old.room ≤ self.new.room }
+        ensures width { length version.new.row ≡ length self.old.kinds }
+    {
+        let Some(image) = self.chains.pop_own(place, id) else {
+            return;
+        };
+        self.columns.read(place, &mut version.row);
+        image.apply(version);
+        put_row(&mut self.columns, place, &version.row);
+        put_flag(&mut self.live, place, version.live);
+        let used = used_after(self.used[place], version.live, self.deaths[place]);
+        put_flag(&mut self.used, place, used);
+    }
+
+    /// Puts a row into an unused position, without a record.
+    pub fn load_at(&mut self, place: usize, row: &Row)
+        requires within { place < length self.old.places }
+        requires fits { FitsRow self.old.kinds row.now }
+        ensures kinds { self.new.kinds ≡ self.old.kinds }
+        ensures places { self.new.places ≡ slice_set self.old.places place (loaded_place row.now (nth self.old.places place)) }
+        ensures room { self.old.room ≤ self.new.room }
+    {
+        put_row(&mut self.columns, place, row);
+        put_flag(&mut self.live, place, true);
+        put_flag(&mut self.used, place, true);
+    }
+
+    /// Puts another version in place of a row that is there, over a record of the writer that says what was there
+    /// before: its own where that is the newest, else a new one, for which there is room.
+    pub fn write_at(&mut self, place: usize, viewer: &Viewer, label: Label, version: &Version)
+        requires within { place < length self.old.places }
+        requires room { 0 < self.old.room }
+        requires live { (nth self.old.places place).version.live ≡ true }
+        requires fits { FitsRow self.old.kinds version.now.row }
+        ensures kinds { self.new.kinds ≡ self.old.kinds }
+        ensures places { self.new.places ≡ slice_set self.old.places place (nth self.new.places place) }
+        ensures written { Written viewer.now label (cell_of version.now) (nth self.old.places place) (nth self.new.places place) }
+        ensures room { self.old.room ≤ self.new.room + 1 }
+    {
+        hy_undo::places_step();
+        let newest = self.chains.head(place);
+        let mut image = take_image(&mut self.chains, &mut self.spare, place, viewer.id);
+        exchange_row(&mut self.columns, place, &version.row, &mut image);
+        put_flag(&mut self.live, place, version.live);
+        let stamp = stamp_over(newest, label, viewer.id);
+        self.chains.push_reserved(place, stamp, image);
+    }
+
+    /// Puts a new row at a position, over the writer's record alone, for which there is room. What the chain told
+    /// before goes.
+    pub fn place_at(&mut self, place: usize, viewer: &Viewer, label: Label, row: &Row)
+        requires within { place < length self.old.places }
+        requires room { 0 < self.old.room }
+        requires fits { FitsRow self.old.kinds row.now }
+        ensures kinds { self.new.kinds ≡ self.old.kinds }
+        ensures places { self.new.places ≡ slice_set self.old.places place (nth self.new.places place) }
+        ensures placed { (watermark : ℕ) → is_free watermark (nth self.old.places place) ≡ true
+            → Placed viewer.now label watermark row.now (nth self.old.places place) (nth self.new.places place) }
+        ensures room { self.old.room ≤ self.new.room + 1 }
+    {
+        hy_undo::places_step();
+        let image = take_spare(&mut self.spare);
+        self.chains.clear(place);
+        put_row(&mut self.columns, place, row);
+        put_flag(&mut self.live, place, true);
+        put_flag(&mut self.used, place, true);
+        let stamp = Stamp {
+            owner: label,
+            mark: viewer.id,
+        };
+        self.chains.push_reserved(place, stamp, image);
+    }
+
+    /// Makes a version of as many columns the one in place at a position.
+    pub fn read(&self, place: usize, version: &mut Version)
+        requires within { place < length self.now.places }
+        requires width { length version.old.row ≡ length self.now.kinds }
+        ensures version { version.new ≡ (nth self.now.places place).version }
+        ensures fits { FitsRow self.now.kinds version.new.row }
+    {
+        self.columns.read(place, &mut version.row);
+        version.live = self.live[place];
+    }
+
+    /// Makes a version of as many columns the one that a viewer sees at a position.
+    pub fn see(&self, place: usize, viewer: &Viewer, version: &mut Version)
+        requires within { place < length self.now.places }
+        requires width { length version.old.row ≡ length self.now.kinds }
+        ensures version { version.new ≡ seen_through before viewer.now (nth self.now.places place).version (nth self.now.places place).chain }
+        ensures fits { FitsRow self.now.kinds version.new.row }
+    {
+        self.read(place, version);
+        self.chains.see(place, viewer, version);
+    }
+
+    /// Whom a write by a viewer at a position would be in conflict with.
+    pub fn rival(&self, place: usize, viewer: &Viewer) -> Option<Label>
+        requires { place < length self.now.places }
+        ensures { result ≡ rival viewer.now (nth self.now.places place).chain }
+    {
+        self.chains.rival(place, viewer)
+    }
+
+    /// Whether a position is used.
+    pub fn is_used(&self, place: usize) -> bool
+        requires { place < length self.now.places }
+        ensures { result ≡ (nth self.now.places place).used }
+    {
+        self.used[place]
+    }
+
+    /// Whether a position may take a new row: it is unused, or its row is gone for everyone from the watermark on.
+    pub fn is_free(&self, place: usize, watermark: u64) -> bool
+        requires { place < length self.now.places }
+        ensures { result ≡ is_free watermark (nth self.now.places place) }
+    {
+        let newest = self.chains.head(place);
+        free_by(
+            self.used[place],
+            self.live[place],
+            is_before(newest, watermark),
+            self.deaths[place] < watermark,
+        )
+    }
+}
+
+/// Whether a stamp, if there is one, is older than a time.
+fn is_before(newest: Option<Stamp>, time: u64) -> bool
+    ensures { result ≡ is_older time newest }
+{
+    match newest {
+        None => true,
+        Some(stamp) => stamp.mark < time,
+    }
+}

@@ -1,0 +1,149 @@
+//! What an UPDATE or a DELETE makes of a version, and why it may not.
+
+ghost use Rattle.std.specs.Prelude.{◌≡◌, ◌+◌, ◌<◌, ◌≤◌, ℕ, List, Option, None, Some, is_some, is_ok, length, true, not as negated};
+ghost use Rattle.std.specs.List.{AllByRecursion};
+ghost use Rattle.hy_bound.specs.Assignment.{assigned, value_of};
+ghost use Rattle.hy_bound.specs.Predicate.{truth_at};
+ghost use Rattle.hy_notes.specs.Notes.{with_note};
+ghost use Rattle.hy_undo.specs.Places.{cell_of};
+ghost use Rattle.hy_undo.specs.Sweeps.{judged, new_cell, verdict};
+ghost use Rattle.hy_chunk.specs.Writes.{FitsWrite, SetColumns, refusal_in, sets_of, with_value};
+ghost use Rattle.hy_chunk.specs.Sound.{FitsRow};
+ghost use Rattle.hy_value.specs.declared.Kind.{Kind};
+
+use hy_bound::{Assign, Pred, Range, WriteKind, truth, value};
+use hy_notes::Changes;
+use hy_stamp::Label;
+use hy_undo::{Refusal, Version};
+use hy_value::{Row, Value};
+
+/// Whether a value of SET is out of range for a row.
+fn is_out_of_range(set: &Assign, row: &Row) -> bool
+    ensures { result ≡ negated (is_ok (value_of set.now.value row.now)) }
+{
+    value(&set.value, row).is_err()
+}
+
+/// Whether each value of SET is in range for a row.
+fn is_in_range(sets: &[Assign], row: &Row) -> bool
+    ensures { result ≡ is_some (assigned sets.now row.now) }
+{
+    for set in sets {
+        if is_out_of_range(set, row) {
+            return false;
+        }
+    }
+    true
+}
+
+/// Why a row that is selected is not written, if a value for it is out of range.
+fn range_refusal(kind: &WriteKind, row: &Row, pos: u32) -> Option<Refusal>
+    ensures { result ≡ refusal_in (judged pos None (new_cell (sets_of kind.now) row.now)) }
+{
+    match kind {
+        WriteKind::Set(sets) => {
+            if is_in_range(sets.as_slice(), row) {
+                None
+            } else {
+                Some(Refusal::Range { pos })
+            }
+        }
+        WriteKind::Delete => None,
+    }
+}
+
+/// Whether a version is a row that a condition selects.
+pub fn is_selected(version: &Version, pred: &Pred) -> bool
+    ensures { result ≡ truth_at pred.now (cell_of version.now) }
+{
+    version.live && truth(pred, &version.row)
+}
+
+/// Why a version at a position is not written, if it is selected and may not be.
+pub fn refusal_at(
+    version: &Version,
+    pred: &Pred,
+    kind: &WriteKind,
+    rival: Option<Label>,
+    pos: u32,
+) -> Option<Refusal>
+    ensures { result ≡ refusal_in (verdict (sets_of kind.now) pred.now pos rival (cell_of version.now)) }
+{
+    if !is_selected(version, pred) {
+        return None;
+    }
+    match rival {
+        Some(other) => Some(Refusal::Conflict { pos, other }),
+        None => range_refusal(kind, &version.row, pos),
+    }
+}
+
+/// Puts a value into a column of a row, where it is in range.
+fn set_value(row: &mut Row, column: u32, value: Result<Value, Range>)
+    requires { column < length row.old }
+    ensures { row.new ≡ with_value row.old column value }
+{
+    if let Ok(value) = value {
+        let _old = row.replace(column as usize, value);
+    }
+}
+
+/// Puts the values of SET for a row, which are in range, into a copy of it.
+fn set_columns(sets: &[Assign], row: &Row, next: &mut Row)
+    requires same { next.old ≡ row.now }
+    requires within { AllByRecursion (λ assign. assign.column < length row.now) sets.now }
+    requires in_range { is_some (assigned sets.now row.now) ≡ true }
+    ensures { assigned sets.now row.now ≡ Some next.new }
+{
+    for set in sets {
+        set_value(next, set.column, value(&set.value, row));
+    }
+}
+
+/// Makes a row a copy of another one, of as many values. It takes no memory.
+fn copy_over(row: &Row, next: &mut Row)
+    requires { length next.old ≡ length row.now }
+    ensures { next.new ≡ row.now }
+{
+    for column in 0..row.len() {
+        let _old = next.replace(column, row.as_slice()[column].copy());
+    }
+}
+
+/// Makes a version, of as many values, what an UPDATE or a DELETE makes of a row, where its values are in range.
+pub fn make_next(kind: &WriteKind, row: &Row, next: &mut Version)
+    requires width { length next.old.row ≡ length row.now }
+    requires within { SetColumns (length row.now) kind.now }
+    requires in_range { is_some (new_cell (sets_of kind.now) row.now) ≡ true }
+    ensures cell { new_cell (sets_of kind.now) row.now ≡ Some (cell_of next.new) }
+    ensures fits { (kinds : List Kind) (key : Option ℕ) → FitsRow kinds row.now → FitsWrite kinds key kind.now → FitsRow kinds next.new.row }
+    ensures size { length next.new.row ≡ length row.now }
+{
+    copy_over(row, &mut next.row);
+    match kind {
+        WriteKind::Set(sets) => {
+            set_columns(sets.as_slice(), row, &mut next.row);
+            next.live = true;
+        }
+        WriteKind::Delete => {
+            next.live = false;
+        }
+    }
+}
+
+/// Notes that a row was there before, and whether the one after is. It takes no memory.
+pub fn note(changes: &mut Changes, table: u32, pos: u32, before: &Row, after: &Version)
+    requires room { 0 < changes.old.room }
+    requires before { length before.now ≤ changes.old.width }
+    requires after { length after.now.row ≤ changes.old.width }
+    ensures notes { changes.new.notes
+        ≡ with_note (record { table = table; pos = pos; before = Some before.now; after = cell_of after.now }) changes.old.notes }
+    ensures room { changes.old.room ≤ changes.new.room + 1 }
+    ensures width { changes.new.width ≡ changes.old.width }
+{
+    if after.live {
+        changes.note_reserved(table, pos, Some(before), Some(&after.row));
+    } else {
+        changes.note_reserved(table, pos, Some(before), None);
+    }
+}

@@ -12,7 +12,7 @@ use Rattle.hy_neighbours.specs.Examples.{number}
 use Rattle.hy_neighbours.specs.Runs.{DifferMissed, OwnPositionsMayDiffer, one_position, standing, setting_first, first_set}
 
 -- the second value that was written at the position
-abbrev second : Option (Option (List Value)) → Value
+abbrev pub second : Option (Option (List Value)) → Value
 second (Some (Some (one ∷ two ∷ row))) = two
 second other = Null
 
@@ -20,17 +20,17 @@ abbrev second_own : Option Ran → Value
 second_own None = Null
 second_own (Some given) = second (item_at given.own 0 0)
 
-only_one : {X : Type 0} (P : X → Type 0) (x : X) → P x → All P (x ∷ [])
+pub only_one : {X : Type 0} (P : X → Type 0) (x : X) → P x → All P (x ∷ [])
 only_one P x p zero d below = p
 only_one P x p (suc k) d below = absurd (omega (arith, below))
 
-shape_fits : FitsShape (record { width = 2; key = None })
+pub shape_fits : FitsShape (record { width = 2; key = None })
 shape_fits = record { some = omega arith; few = omega arith; key = λ key e. absurd cc }
 
 are_tables : (value : Value) → AreTables one_position (standing value)
 are_tables value = record { many = refl; long = (refl, tt) }
 
-have_widths : (value : Value) → HaveWidths one_position.shapes (standing value)
+pub have_widths : (value : Value) → HaveWidths one_position.shapes (standing value)
 have_widths value zero = (refl, tt)
 have_widths value (suc table) = tt
 

@@ -12,7 +12,7 @@ use Rattle.hy_neighbours.specs.Examples.{row_of, unkeyed, keyed, wide, counting,
 use Rattle.hy_neighbours.specs.Unseen.{MissBy, HaveColumns, hits_after, hits_before, logged_before, leaving, coming, narrowing, changing_last, inserting}
 use Rattle.hy_neighbours.specs.Unseen.{AfterImagesSuffice, BeforeImagesSuffice, AnyWidthsSuffice, InsertsNeedNoRecord, ManyColumnsSuffice}
 
-no_key : (width : ℕ) → HasItsKey (record { width = width; key = None })
+pub no_key : (width : ℕ) → HasItsKey (record { width = width; key = None })
 no_key width key e = absurd cc
 
 first_key : HasItsKey (record { width = 1; key = Some 0 })

@@ -78,7 +78,8 @@ group_missed records upto group change filed not_asked n c = by (slice_get recor
         let table : logged.table ≡ group.table = ap (λ (r : Record). r.table) (sym at) ∙ sym own.0 in
         let first : first_condition_of logged.pred ≡ group.first.now = ap (λ (r : Record). first_condition_of r.pred) (sym at) ∙ sym own.1 in
         let hit : is_hit_by change logged ≡ true = sym (ap (λ o. option_map_or (is_hit_by change) o false) e) ∙ c.1 in
-        left_out (logged.table == change.table) (truth_at (first_condition_of logged.pred) change.before) (truth_at (first_condition_of logged.pred) change.after)
+        left_out (logged.table == change.table)
+        (truth_at (first_condition_of logged.pred) change.before) (truth_at (first_condition_of logged.pred) change.after)
         (truth_at logged.pred change.before) (truth_at logged.pred change.after) (changes_on logged.columns change.before change.after)
         (ap (λ (f : Condition). logged.table == change.table && (truth_at f change.before || truth_at f change.after)) first
         ∙ (ap (λ (t : ℕ). t == change.table && (truth_at group.first.now change.before || truth_at group.first.now change.after)) table ∙ not_asked))

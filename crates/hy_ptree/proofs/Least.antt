@@ -59,6 +59,8 @@ least_is_position p (x ∷ xs) (Some m) P least f g =
     let l : m < length (x ∷ xs) = within_of p (x ∷ xs) m (f m least.0) in
     placed p (x ∷ xs) m true
     (position_or_len_is p (x ∷ xs) m x (omega arith)
-    (λ k below. not_true _ (λ t. let in' : k < length (x ∷ xs) = omega arith in let up = least.1 k (g k in' (passes p (x ∷ xs) k x in' ∙ t)) in absurd (omega arith)))
+    (λ k below. not_true _ (λ t.
+    let in' : k < length (x ∷ xs) = omega arith in
+    let up = least.1 k (g k in' (passes p (x ∷ xs) k x in' ∙ t)) in absurd (omega arith)))
     (λ _. sym (passes p (x ∷ xs) m x l) ∙ f m least.0))
     (grind arith)

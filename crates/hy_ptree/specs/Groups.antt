@@ -10,10 +10,15 @@ use Rattle.hy_ptree.specs.FirstConditions.{first_condition_of}
 abbrev pub IsOf : ℕ → Condition → Group → Type 0
 IsOf table first group = (group.table ≡ table) × (group.first.now ≡ first)
 
--- a group has numbers of the first so many records, ascending, and these are of its table and its first condition
+-- the record of a number is of a group's table, and has its first condition
+abbrev pub IsOwn : List Record → Group → ℕ → Type 0
+IsOwn records group number = (d : Record)
+    → IsOf (slice_index_or records number d).table (first_condition_of (slice_index_or records number d).pred) group
+
+-- a group has the numbers of its own ones among the first so many records, ascending
 pub record IsFiled (records : List Record) (upto : ℕ) (group : Group) : Type 0 where
   pub below : All (λ number. number < upto) group.numbers.items
-  pub own : All (λ number. (d : Record) → IsOf (slice_index_or records number d).table (first_condition_of (slice_index_or records number d).pred) group) group.numbers.items
+  pub own : All (IsOwn records group) group.numbers.items
   pub ascends : IsStrictlyIncreasing group.numbers.items
 
 -- each of the first so many records is in a group, each group has its own ones, and no two are of the same table and

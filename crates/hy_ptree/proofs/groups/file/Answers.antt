@@ -17,7 +17,8 @@ returns-in_ok-add-in-Some c =
     let within : c.in-Some.at < length groups = omega (arith, len, c.in-Some.ensures.within) in
     let found : IsOf logged.table c.first_condition-first.result.now group =
     subst (λ (g : Group). IsOf logged.table c.first_condition-first.result.now g) there
-    (subst (λ (gs : List Group). IsOf logged.table c.first_condition-first.result.now (get_or gs c.in-Some.at group)) c.as_slice.ensures.value (c.in-Some.ensures.of group)) in
+    (subst (λ (gs : List Group). IsOf logged.table c.first_condition-first.result.now (get_or gs c.in-Some.at group))
+    c.as_slice.ensures.value (c.in-Some.ensures.of group)) in
     let of : IsOf logged.table (first_condition_of logged.pred) group =
     subst (λ (first : Condition). IsOf logged.table first group) c.first_condition-first.ensures found in
     let same : IsOf group.table group.first.now c.add.new.self = c.add.ensures.of in
@@ -41,4 +42,5 @@ returns-in_ok-push-in-None c =
     let numbers : group.numbers.items ≡ c.args.number ∷ [] = c.in_ok-new-in-None.ensures.numbers ∙ ap (λ (n : ℕ). n ∷ []) c.in_ok-number.ensures in
     let pushed : c.push.new.self.items ≡ groups ++ group ∷ [] = search rules in
     subst (λ (gs : List Group). IsGrouped c.args.records.now (c.args.number + 1) gs) (sym pushed)
-    (one_in_a_new_group c.args.records.now c.args.number logged groups group c.requires.within (sym c.index-records-number.is) none of numbers c.requires.grouped)
+    (one_in_a_new_group c.args.records.now c.args.number logged groups group c.requires.within
+    (sym c.index-records-number.is) none of numbers c.requires.grouped)

@@ -6,14 +6,16 @@ use Rattle.hy_ptree.proofs.groups.first_among.Goals as goal
 
 pub first_in-requires : goal.first_in-requires
 first_in-requires c =
-    subst (IsFiled c.args.records.now (length c.args.records.now)) (sym c.group-item.is) (c.requires.filed c.loop-group.group-index c.group-item.result (omega arith))
+    subst (IsFiled c.args.records.now (length c.args.records.now)) (sym c.group-item.is)
+    (c.requires.filed c.loop-group.group-index c.group-item.result (omega arith))
 
 pub loop-group-preserved : goal.loop-group-preserved
 loop-group-preserved c =
     let passes = is_hit_number c.args.records.now c.args.change.now in
     let less : c.earlier-first.result ≡ earlier_of c.loop-group.first c.first_in.result = search rules in
     subst (λ (o : Option ℕ). IsLeast (λ n. InFirst c.args.groups.now (c.loop-group.group-index + 1) n × (passes n ≡ true)) o) (sym less)
-    (one_group_more c.args.groups.now c.loop-group.group-index c.group-item.result passes c.loop-group.first c.first_in.result (omega arith) (sym c.group-item.is)
+    (one_group_more c.args.groups.now c.loop-group.group-index c.group-item.result passes c.loop-group.first c.first_in.result
+    (omega arith) (sym c.group-item.is)
     c.loop-group.invariant c.first_in.ensures)
 
 pub returns : goal.returns

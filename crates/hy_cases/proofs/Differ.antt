@@ -1,0 +1,88 @@
+-- Tests by which values are told apart that a case has.
+use Rattle.std.proofs.Common.{◌≡◌, sym, ◌∙◌, ap, ℕ, Bool, true, false, List, [], ◌∷◌, ℤ, pos, negsuc}
+use Rattle.std.specs.Prelude.{Option, None, Some, ◌&&◌, ◌==◌, IsTrue, IsFalse}
+use Rattle.hy_value.specs.declared.Value.{Value}
+use Rattle.hy_value.specs.declared.Value.TheVariants as value
+use Rattle.hy_bound.specs.declared.Grouped.{Grouped}
+use Rattle.hy_bound.specs.declared.Reply.{Reply}
+use Rattle.hy_bound.specs.declared.Reply.TheVariants as reply
+use Rattle.hy_render.specs.declared.Ending.{Ending}
+use Rattle.hy_render.specs.declared.Ending.TheVariants as ending
+use Rattle.hy_render.specs.declared.Place.{Place}
+use Rattle.hy_machine.specs.declared.Cause.{Cause}
+use Rattle.hy_machine.specs.declared.Cause.TheVariants as cause
+use Rattle.hy_lawful.specs.Outcomes.{is_label}
+
+-- values that a test tells apart are not the same
+pub differ : {A : Type 0} (same : A → A → Bool) {a b : A} → a ≡ b → IsTrue (same a a) → IsFalse (same a b) → ⊥
+differ same {a} {b} e itself other = let no : true ≡ false = sym itself ∙ ap (same a) e ∙ other in absurd cc
+
+pub not_true : false ≡ true → ⊥
+not_true e = absurd cc
+
+pub not_false : true ≡ false → ⊥
+not_false e = absurd cc
+
+abbrev pub same_list : {A : Type 0} → (A → A → Bool) → List A → List A → Bool
+same_list same [] [] = true
+same_list same [] (y ∷ ys) = false
+same_list same (x ∷ xs) [] = false
+same_list same (x ∷ xs) (y ∷ ys) = same x y && same_list same xs ys
+
+abbrev pub same_option : {A : Type 0} → (A → A → Bool) → Option A → Option A → Bool
+same_option same None None = true
+same_option same None (Some y) = false
+same_option same (Some x) None = false
+same_option same (Some x) (Some y) = same x y
+
+abbrev pub same_integer : ℤ → ℤ → Bool
+same_integer (pos m) (pos n) = m == n
+same_integer (pos m) (negsuc n) = false
+same_integer (negsuc m) (pos n) = false
+same_integer (negsuc m) (negsuc n) = m == n
+
+abbrev pub same_number : ℕ → ℕ → Bool
+same_number m n = m == n
+
+abbrev pub same_value : Value → Value → Bool
+same_value value.Null value.Null = true
+same_value (value.Int m) (value.Int n) = same_integer m n
+same_value (value.Text s) (value.Text t) = same_list same_number s t
+same_value one other = false
+
+abbrev pub same_row : List Value → List Value → Bool
+same_row = same_list same_value
+
+abbrev pub same_rows : List (List Value) → List (List Value) → Bool
+same_rows = same_list same_row
+
+abbrev pub same_grouped : Grouped → Grouped → Bool
+same_grouped one other = same_value one.value other.value && same_integer one.total other.total
+
+abbrev pub same_reply : Reply → Reply → Bool
+same_reply (reply.Rows rows) (reply.Rows others) = same_rows rows others
+same_reply (reply.Value total) (reply.Value other) = same_integer total other
+same_reply (reply.Groups groups) (reply.Groups others) = same_list same_grouped groups others
+same_reply reply.Inserted reply.Inserted = true
+same_reply reply.Duplicate reply.Duplicate = true
+same_reply (reply.Updated count) (reply.Updated other) = count == other
+same_reply (reply.Deleted count) (reply.Deleted other) = count == other
+same_reply one other = false
+
+abbrev pub same_replies : List Reply → List Reply → Bool
+same_replies = same_list same_reply
+
+abbrev pub same_cause : Cause → Cause → Bool
+same_cause (cause.Invalid table place other statement) (cause.Invalid of at rival number) =
+    table == of && (place == at && (is_label other rival && statement == number))
+same_cause one other = false
+
+abbrev pub same_ending : Ending → Ending → Bool
+same_ending (ending.Committed rank) (ending.Committed other) = rank == other
+same_ending ending.Read ending.Read = true
+same_ending ending.RolledBack ending.RolledBack = true
+same_ending (ending.Conflict table place other) (ending.Conflict of at rival) = table == of && (place == at && is_label other rival)
+same_ending one other = false
+
+abbrev pub same_place : Place → Place → Bool
+same_place place other = place.table == other.table && place.pos == other.pos

@@ -1,0 +1,12 @@
+pub mod Computed
+pub mod Comes
+pub mod Fitting
+pub mod Right
+pub mod Differ
+pub mod Serial
+pub mod Replies
+pub mod Starts
+pub mod Orders
+pub mod Commits
+pub mod Refusals
+pub mod Writes

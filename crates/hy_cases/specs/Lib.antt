@@ -1,0 +1,5 @@
+pub mod Words
+pub mod Cases
+pub mod Scripts
+pub mod Right
+pub mod Wrong

@@ -1,0 +1,48 @@
+//! Small outcomes on which the definition of serializable outcomes is tried: right ones, which it takes, and wrong ones,
+//! which it refuses, each made from a right one by what its name says.
+#![tactic(auto)]
+
+ghost use Rattle.hy_cases.specs.Right.{RightOutcomes};
+ghost use Rattle.hy_cases.specs.Wrong.{WrongReplies, WrongStarts, WrongOrders, WrongCommits};
+ghost use Rattle.hy_cases.specs.Wrong.{WrongConflicts, WrongInvalids, WrongRefusals, WrongWrites, WrongChanges};
+
+use hy_lawful::runs_are_lawful;
+
+/// These outcomes are lawful and serializable, and each comes by a schedule: of transactions that read and write, of each
+/// ending that there is, and of two and three sessions that do so at a time.
+pub fn right_outcomes_are_serial()
+    ensures { RightOutcomes }
+{
+    runs_are_lawful();
+}
+
+/// Where replies are not those that a transaction gets alone from its start on, the outcome is lawful and still not
+/// serializable; where they are too many or too few, it is not lawful.
+pub fn wrong_replies_are_refused()
+    ensures { WrongReplies }
+{}
+
+/// Where transactions are missing or start where they can't, and where the commit order is not of those that committed,
+/// the outcome is not lawful. Where the final tables are not those of the order, or one committed that must not have by
+/// what others did, it is lawful and still not serializable.
+pub fn wrong_orders_are_refused()
+    ensures starts { WrongStarts }
+    ensures orders { WrongOrders }
+    ensures commits { WrongCommits }
+{}
+
+/// Where a transaction is refused that may not be by its script, the outcome is not lawful. Where it may be, but for no
+/// cause or for another one, the outcome is lawful and still not serializable.
+pub fn wrong_refusals_are_refused()
+    ensures conflicts { WrongConflicts }
+    ensures invalids { WrongInvalids }
+    ensures others { WrongRefusals }
+{}
+
+/// Where positions are none of the tables, or don't ascend, the outcome is not lawful. Where a transaction wrote others
+/// than its statements select and place, or an entry tells other changes than were made, it is lawful and still not
+/// serializable.
+pub fn wrong_writes_are_refused()
+    ensures writes { WrongWrites }
+    ensures changes { WrongChanges }
+{}

@@ -1,0 +1,3 @@
+mod Groups
+mod Gathered
+mod Recorded

@@ -1,0 +1,300 @@
+//! SELECTs that are answered from what is gathered for their plans and from their whole tables.
+
+use crate::gather::{gather, gather_part, rows_of, spread};
+use crate::random::{Random, group, select, shapes, tables};
+use hy_bound::{
+    Bound, Grouped, Items, On, Pred, Record, Records, Reply, Rows, Shape, Shapes, truth,
+};
+use hy_group::{answer_groups, plan_group};
+use hy_join::answer;
+use hy_meaning::{Tables, copy_rows};
+use hy_plan::{Gathered, Plan, PlanPart, plan_statement, records};
+use hy_value::{Row, Seq, Value};
+use std::alloc::{AllocError, Global};
+use std::test::Fail;
+
+/// Tables, and a SELECT over them.
+#[derive(Drop)]
+struct Case {
+    /// The shapes of the tables.
+    shapes: Shapes,
+    /// Their rows.
+    tables: Tables,
+    /// The SELECT.
+    select: Bound,
+}
+
+#[test]
+fn gathered_rows_are_enough_for_a_select(rt: HostRuntime) -> Result<(), Fail> {
+    let alloc = rt.alloc();
+    let mut random = Random::new(1);
+    for number in 0..400u32 {
+        assert!(rt; next_select_agrees(alloc, &mut random)?, "SELECT {number}");
+    }
+    Ok(())
+}
+
+/// Whether the next SELECT without groups agrees.
+fn next_select_agrees(alloc: Global, random: &mut Random) -> Result<bool, AllocError> {
+    let case = random_select(alloc, random)?;
+    select_agrees(alloc, &case)
+}
+
+/// A SELECT without groups.
+fn random_select(alloc: Global, random: &mut Random) -> Result<Case, AllocError> {
+    let shapes = shapes(alloc, random)?;
+    let tables = tables(alloc, random)?;
+    let select = select(alloc, random, shapes.as_slice())?;
+    Ok(Case {
+        shapes,
+        tables,
+        select,
+    })
+}
+
+/// Whether a SELECT without groups has the same reply and the same records from what is gathered for its plan as
+/// from its whole tables.
+fn select_agrees(alloc: Global, case: &Case) -> Result<bool, AllocError> {
+    let Some(plan) = plan_statement(alloc, case.shapes.as_slice(), &case.select)? else {
+        return Ok(false);
+    };
+    let gathered = gather(alloc, plan.parts.as_slice(), case.tables.as_slice())?;
+    Ok(
+        reply_agrees(alloc, case, &plan, gathered.as_slice())?
+            && records_agree(alloc, case, plan.parts.as_slice(), gathered.as_slice())?,
+    )
+}
+
+/// Whether the reply is the same.
+fn reply_agrees(
+    alloc: Global,
+    case: &Case,
+    plan: &Plan,
+    gathered: &[Gathered],
+) -> Result<bool, AllocError> {
+    let wanted = whole_answer(alloc, case, plan.parts.as_slice())?;
+    Ok(are_same(&answer(alloc, plan, gathered)?, &wanted))
+}
+
+/// The reply from the whole tables.
+fn whole_answer(alloc: Global, case: &Case, parts: &[PlanPart]) -> Result<Reply, AllocError> {
+    let Bound::Select {
+        tables: _,
+        ons,
+        pred,
+        items,
+    } = &case.select
+    else {
+        return Err(AllocError);
+    };
+    let whole = whole(alloc, parts, case.tables.as_slice())?;
+    hy_meaning::answer(alloc, ons.as_slice(), pred, items, whole.as_slice())
+}
+
+/// Whether the records are the same.
+fn records_agree(
+    alloc: Global,
+    case: &Case,
+    parts: &[PlanPart],
+    gathered: &[Gathered],
+) -> Result<bool, AllocError> {
+    let whole = whole(alloc, parts, case.tables.as_slice())?;
+    let wanted = logged(alloc, case, whole.as_slice())?;
+    let spread = spread_all(alloc, parts, gathered)?;
+    let all = logged(alloc, case, spread.as_slice())?;
+    Ok(are_same_records(all.as_slice(), wanted.as_slice(), case.tables.as_slice()))
+}
+
+/// What the SELECT logs, its tables having these rows.
+fn logged(alloc: Global, case: &Case, rows: &[Rows]) -> Result<Records, AllocError> {
+    records(alloc, case.shapes.as_slice(), &case.select, 1, rows)
+}
+
+/// The rows of the parts' tables.
+fn whole(alloc: Global, parts: &[PlanPart], tables: &[Rows]) -> Result<Tables, AllocError> {
+    let mut all = Seq::new(alloc);
+    for part in parts {
+        all.push(Seq::from_vec(copy_rows(alloc, rows_of(tables, part.table))?))?;
+    }
+    Ok(all)
+}
+
+/// What was gathered for the parts, as rows of their tables.
+fn spread_all(
+    alloc: Global,
+    parts: &[PlanPart],
+    gathered: &[Gathered],
+) -> Result<Tables, AllocError> {
+    let mut all = Seq::new(alloc);
+    for (part, rows) in parts.iter().zip(gathered) {
+        all.push(spread(alloc, part, rows)?)?;
+    }
+    Ok(all)
+}
+
+/// Whether two replies are the same.
+fn are_same(one: &Reply, other: &Reply) -> bool {
+    match (one, other) {
+        (Reply::Rows(one), Reply::Rows(other)) => {
+            are_same_rows(one.as_slice(), other.as_slice())
+        }
+        (Reply::Value(one), Reply::Value(other)) => one == other,
+        (Reply::Groups(one), Reply::Groups(other)) => {
+            are_same_groups(one.as_slice(), other.as_slice())
+        }
+        _ => false,
+    }
+}
+
+/// Whether rows are the same.
+fn are_same_rows(one: &[Row], other: &[Row]) -> bool {
+    one.len() == other.len()
+        && one
+            .iter()
+            .zip(other)
+            .all(|(row, other)| row.as_slice() == other.as_slice())
+}
+
+/// Whether groups are the same.
+fn are_same_groups(one: &[Grouped], other: &[Grouped]) -> bool {
+    one.len() == other.len()
+        && one.iter().zip(other).all(|(group, other)| group.value == other.value
+            && group.total == other.total)
+}
+
+/// Whether records are the same, one by one.
+fn are_same_records(one: &[Record], other: &[Record], tables: &[Rows]) -> bool {
+    one.len() == other.len()
+        && one
+            .iter()
+            .zip(other)
+            .all(|(of, other)| is_same_record(of, other, tables))
+}
+
+/// Whether records are of the same table and columns, and say the same of each of the table's rows.
+fn is_same_record(one: &Record, other: &Record, tables: &[Rows]) -> bool {
+    one.table == other.table
+        && one.columns == other.columns
+        && rows_of(tables, one.table)
+            .iter()
+            .all(|row| truth(&one.pred, row) == truth(&other.pred, row))
+}
+
+#[test]
+fn gathered_rows_are_enough_for_groups(rt: HostRuntime) -> Result<(), Fail> {
+    let alloc = rt.alloc();
+    let mut random = Random::new(2);
+    for number in 0..400u32 {
+        assert!(rt; next_groups_agree(alloc, &mut random)?, "SELECT {number}");
+    }
+    Ok(())
+}
+
+/// Whether the next SELECT with GROUP BY agrees.
+fn next_groups_agree(alloc: Global, random: &mut Random) -> Result<bool, AllocError> {
+    let case = random_group(alloc, random)?;
+    groups_agree(alloc, &case)
+}
+
+/// A SELECT with GROUP BY.
+fn random_group(alloc: Global, random: &mut Random) -> Result<Case, AllocError> {
+    let shapes = shapes(alloc, random)?;
+    let tables = tables(alloc, random)?;
+    let select = group(alloc, random)?;
+    Ok(Case {
+        shapes,
+        tables,
+        select,
+    })
+}
+
+/// Whether a SELECT with GROUP BY has the same reply from what is gathered for its plan as from its whole table.
+fn groups_agree(alloc: Global, case: &Case) -> Result<bool, AllocError> {
+    let Some(plan) = plan_group(alloc, case.shapes.as_slice(), &case.select)? else {
+        return Ok(false);
+    };
+    let rows = rows_of(case.tables.as_slice(), plan.part.table);
+    let gathered = gather_part(alloc, &plan.part, None, rows)?;
+    let reply = answer_groups(alloc, &plan, &gathered)?;
+    Ok(are_same(&reply, &whole_groups(alloc, case)?))
+}
+
+/// The groups of the whole table.
+fn whole_groups(alloc: Global, case: &Case) -> Result<Reply, AllocError> {
+    let Bound::Group {
+        table,
+        pred,
+        key,
+        aggregate,
+    } = &case.select
+    else {
+        return Err(AllocError);
+    };
+    let rows = rows_of(case.tables.as_slice(), *table);
+    hy_meaning::group(alloc, pred, *key, *aggregate, rows)
+}
+
+#[test]
+fn over_so_many_keys_all_rows_are_gathered(rt: HostRuntime) -> Result<(), Fail> {
+    let alloc = rt.alloc();
+    for (numbers, wanted) in [(1024, 2), (1025, 3)] {
+        assert!(rt; look_up_gathers(alloc, numbers, wanted)?, "{numbers}");
+    }
+    Ok(())
+}
+
+/// Whether a look-up by so many numbers agrees and gathers so many rows.
+fn look_up_gathers(alloc: Global, numbers: i64, wanted: usize) -> Result<bool, AllocError> {
+    let case = look_up(alloc, numbers)?;
+    Ok(select_agrees(alloc, &case)? && last_gathered(alloc, &case)? == wanted)
+}
+
+/// A join of a table of so many numbers from 0 on with one of the numbers -1, 0 and 1, which is looked up by its
+/// key.
+fn look_up(alloc: Global, numbers: i64) -> Result<Case, AllocError> {
+    let mut tables = Seq::new(alloc);
+    tables.push(number_rows(alloc, 0, numbers)?)?;
+    tables.push(number_rows(alloc, -1, 2)?)?;
+    let (width, key) = (1, Some(0));
+    let shapes = Seq::from_slice(alloc, &[Shape { width, key: None }, Shape { width, key }])?;
+    Ok(Case {
+        shapes,
+        tables,
+        select: join(alloc)?,
+    })
+}
+
+/// Rows of one number each, from one number to another, which is left out.
+fn number_rows(alloc: Global, from: i64, to: i64) -> Result<Rows, AllocError> {
+    let mut rows = Seq::new(alloc);
+    for number in from..to {
+        let mut row = Seq::new(alloc);
+        row.push(Value::Int(number))?;
+        rows.push(row)?;
+    }
+    Ok(rows)
+}
+
+/// SELECT of the only columns of the first two tables, where ON makes them equal.
+fn join(alloc: Global) -> Result<Bound, AllocError> {
+    let items = Items::Columns(Seq::from_slice(alloc, &[0, 1])?);
+    let ons = Seq::from_slice(alloc, &[On { left: 0, right: 1 }])?;
+    Ok(Bound::Select {
+        tables: Seq::from_slice(alloc, &[0, 1])?,
+        ons,
+        pred: Pred::always(),
+        items,
+    })
+}
+
+/// How many rows are gathered of the last table.
+fn last_gathered(alloc: Global, case: &Case) -> Result<usize, AllocError> {
+    let Some(plan) = plan_statement(alloc, case.shapes.as_slice(), &case.select)? else {
+        return Ok(0);
+    };
+    let gathered = gather(alloc, plan.parts.as_slice(), case.tables.as_slice())?;
+    Ok(match gathered.last() {
+        Some(last) => last.len(),
+        None => 0,
+    })
+}

@@ -1,0 +1,9 @@
+pub mod Stamped
+pub mod Transactions
+pub mod Numbers
+pub mod Sessions
+pub mod Places
+pub mod Parts
+pub mod Shows
+pub mod Kept
+pub mod Laws

@@ -1,1 +1,4 @@
 mod Openings
+mod Stamps
+mod PrunedPlaces
+mod Prunings

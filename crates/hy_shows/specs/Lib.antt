@@ -6,4 +6,5 @@ pub mod Places
 pub mod Parts
 pub mod Shows
 pub mod Kept
+pub mod Pruned
 pub mod Laws

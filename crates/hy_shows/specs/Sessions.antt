@@ -9,6 +9,7 @@ use Rattle.hy_plan.specs.declared.PlanPart.{PlanPart}
 use Rattle.hy_plan.specs.Reads.{is_read_of}
 use Rattle.hy_meaning.specs.Statement.{Table}
 use Rattle.hy_join.specs.Answers.{spread_all}
+use Rattle.hy_prune.specs.declared.Cover.{Cover}
 use Rattle.hy_prune.specs.Fates.{watermark_of}
 use Rattle.hy_notes.specs.Notes.{Ascends, note_at}
 use Rattle.hy_journal.specs.declared.CoreData.{CoreData}
@@ -48,12 +49,15 @@ pub record CountsBelow (entries : List Entry) (count bound : ℕ) : Type 0 where
   pub early : (rank : ℕ) (entry : Entry) → slice_get entries rank ≡ Some entry → rank < count → entry.time < bound
   pub late : (rank : ℕ) (entry : Entry) → slice_get entries rank ≡ Some entry → count ≤ rank → bound ≤ entry.time
 
--- the cover of an open transaction is held: its watermark is at most the start, its next time is past, and each open
--- start is in it or at least its next time
+-- a cover is held: its next time is past, and each open start is in it or at least its next time
+pub record IsHeld (core : CoreData) (cover : Cover) : Type 0 where
+  pub past : cover.next ≤ core.next
+  pub safe : (start : ℕ) → Contains core.active start → Contains cover.starts start ⊎ (cover.next ≤ start)
+
+-- so is that of an open transaction, and its watermark is at most the start
 pub record CoverHolds (core : CoreData) (now : Open) : Type 0 where
   pub below : watermark_of now.cover ≤ now.start
-  pub past : now.cover.next ≤ core.next
-  pub safe : (start : ℕ) → Contains core.active start → Contains now.cover.starts start ⊎ (now.cover.next ≤ start)
+  pub held : IsHeld core now.cover
 
 -- ---- what an open transaction has done
 

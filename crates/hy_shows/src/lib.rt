@@ -4,9 +4,27 @@
 //! they do is said by sentences on the core, on sessions and on positions, and the laws here are about these.
 #![tactic(auto)]
 
+use hy_undo::Delta;
+
 ghost use Rattle.hy_shows.specs.Laws.{OpeningIsShown};
+ghost use Rattle.hy_shows.specs.Pruned.{PrunedTells, PruningShowsNothing};
 
 /// Before anything has happened the parts and the sessions show the machine's opening.
 pub fn the_opening_is_shown()
     ensures { OpeningIsShown }
 {}
+
+/// What a position that was pruned tells of its stamps.
+pub fn pruned_places_tell()
+    ensures { PrunedTells }
+{
+    hy_chain::pruning_keeps_stamps::<Delta>();
+    hy_chain::pruning_shrinks::<Delta>();
+}
+
+/// Pruning by a cover that is held changes nothing that a position shows.
+pub fn pruning_shows_nothing()
+    ensures { PruningShowsNothing }
+{
+    pruned_places_tell();
+}

@@ -2,3 +2,6 @@ mod Openings
 mod Stamps
 mod PrunedPlaces
 mod Prunings
+mod Written
+mod Orders
+mod Holders

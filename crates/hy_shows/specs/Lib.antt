@@ -7,4 +7,5 @@ pub mod Parts
 pub mod Shows
 pub mod Kept
 pub mod Pruned
+pub mod Rivals
 pub mod Laws

@@ -5,3 +5,6 @@ mod Prunings
 mod Written
 mod Orders
 mod Holders
+mod RivalTops
+mod Changers
+mod Rivals

@@ -8,6 +8,7 @@ use hy_undo::Delta;
 
 ghost use Rattle.hy_shows.specs.Laws.{OpeningIsShown};
 ghost use Rattle.hy_shows.specs.Pruned.{PrunedTells, PruningShowsNothing};
+ghost use Rattle.hy_shows.specs.Rivals.{RivalsAreOpponents};
 
 /// Before anything has happened the parts and the sessions show the machine's opening.
 pub fn the_opening_is_shown()
@@ -28,3 +29,10 @@ pub fn pruning_shows_nothing()
 {
     pruned_places_tell();
 }
+
+/// Where an open transaction that has no entry yet sees a row, the newest record of the position names as its rival
+/// exactly whom the machine names as its opponent: another transaction that holds the position, or else the last one that
+/// changed it since its start.
+pub fn rivals_are_the_machines()
+    ensures { RivalsAreOpponents }
+{}

@@ -1,7 +1,4 @@
 use Rattle.hy_shows.proofs.Openings.{opening_shown}
-use Rattle.hy_shows.proofs.Written.{own_among}
-use Rattle.hy_shows.proofs.Orders.{cell_stays}
-use Rattle.hy_shows.proofs.Holders.{stamped_or_not}
 use Rattle.hy_shows.proofs.the_opening_is_shown.Goals as goal
 
 pub returns : goal.returns

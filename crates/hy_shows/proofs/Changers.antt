@@ -1,8 +1,7 @@
 -- The last entry that wrote a position where a transaction sees a row changed it.
-use Rattle.std.proofs.Common.{◌≡◌, ◌⊎◌, ℕ, suc, ◌+◌, ◌-◌, ◌<◌, ◌≤◌, List, length, Option, None, Some, Bool, true, false, refl, sym, ap, ◌∙◌, subst, arith, inl, inr}
-use Rattle.std.specs.Prelude.{slice_get, is_some, ◌||◌}
+use Rattle.std.proofs.Common.{◌≡◌, ℕ, ◌<◌, ◌≤◌, List, length, Option, None, Some, true, false, refl, sym, ap, ◌∙◌, arith, inl, inr}
+use Rattle.std.specs.Prelude.{slice_get, is_some}
 use Rattle.std.proofs.lemmas.Bool.{cases_Bool, cases_lt}
-use Rattle.std.proofs.lemmas.Option.{same_Some}
 use Rattle.hy_value.specs.declared.Value.{Value}
 use Rattle.hy_stamp.specs.declared.Label.{Label}
 use Rattle.hy_machine.specs.declared.Setting.{Setting}
@@ -10,7 +9,6 @@ use Rattle.hy_machine.specs.declared.State.{State}
 use Rattle.hy_machine.specs.declared.Open.{Open}
 use Rattle.hy_machine.specs.declared.Begun.{Begun}
 use Rattle.hy_machine.specs.declared.Entry.{Entry}
-use Rattle.hy_machine.specs.declared.Pair.{Pair}
 use Rattle.hy_machine.specs.Positions.{item_at}
 use Rattle.hy_machine.specs.Tables.{Cell}
 use Rattle.hy_machine.specs.Sessions.{snapshot, pair_of}
@@ -53,6 +51,7 @@ is_changed setting state table pos kept number current is row sees rank entry st
   where
     found : (begun : Begun) × IsRanked state rank entry.label begun
     found = kept.ranks.each rank entry stands
+
     never : changes_row (item_at entry.cells table pos) ≡ false → ⊥
     never isnt =
         let begun : Begun = found.0 in

@@ -1,8 +1,8 @@
 -- Who holds a position: sessions of the machine, and the same in the engine.
-use Rattle.std.proofs.Common.{◌≡◌, ◌⊎◌, ℕ, zero, suc, ◌+◌, ◌-◌, ◌<◌, ◌≤◌, List, [], ◌∷◌, length, get_or, Option, None, Some, Bool, true, false, not, refl, sym, ap, ◌∙◌, subst, arith, inl, inr, cond}
-use Rattle.std.specs.Prelude.{slice_get, is_some, ◌&&◌, ◌==◌, slice_index_or}
+use Rattle.std.proofs.Common.{◌≡◌, ◌⊎◌, ℕ, zero, suc, ◌+◌, ◌-◌, ◌≤◌, List, [], ◌∷◌, length, get_or, Option, None, Some, Bool, true, false, not, refl, sym, ap, ◌∙◌, subst, arith, inl, inr, cond}
+use Rattle.std.specs.Prelude.{slice_get, ◌&&◌, ◌==◌}
 use Rattle.std.proofs.lemmas.Bool.{cases_Bool, cases_eq, cases_lt, ne_eqb, eq-eqb}
-use Rattle.std.proofs.lemmas.Option.{same_Some, slice_get_within, slice_get-get_or, get_or_from_slice_get}
+use Rattle.std.proofs.lemmas.Option.{same_Some, slice_get_within, slice_get-get_or}
 use Rattle.hy_stamp.specs.declared.Label.{Label}
 use Rattle.hy_render.specs.declared.TxnOutcome.{TxnOutcome}
 use Rattle.hy_journal.specs.declared.CoreData.{CoreData}
@@ -60,8 +60,10 @@ holder_cases setting number table pos first (session ∷ sessions) =
   where
     left_is : first ≡ number → (not (first == number) && holds setting table pos session.now) ≡ false
     left_is same = ap (λ (b : Bool). not b && holds setting table pos session.now) (eq-eqb first number same)
+
     held_here : (first ≡ number → ⊥) → (not (first == number) && holds setting table pos session.now) ≡ true → holds setting table pos session.now ≡ true
     held_here apart e = sym (ap (λ (b : Bool). not b && holds setting table pos session.now) (ne_eqb first number apart)) ∙ e
+
     later : holder_from setting number table pos first (session ∷ sessions) ≡ holder_from setting number table pos (suc first) sessions
         → (not (first == number) && holds setting table pos session.now) ≡ false
         → Holder setting number table pos (suc first) sessions (holder_from setting number table pos (suc first) sessions)

@@ -1,37 +1,30 @@
 -- Before anything has happened the parts and the sessions show the machine's opening.
-use Rattle.std.proofs.Common.{◌≡◌, ◌⊎◌, ℕ, zero, suc, ◌+◌, ◌*◌, ◌<◌, List, [], ◌∷◌, length, map, get_or, Option, None, Some, Bool, false, true, refl, sym, ap, ◌∙◌, subst, arith, Contains}
-use Rattle.std.specs.Prelude.{sum_by, slice_get, ◌||◌, is_some}
+use Rattle.std.proofs.Common.{◌≡◌, ℕ, zero, suc, ◌+◌, ◌*◌, List, [], ◌∷◌, length, map, get_or, Option, None, Some, Bool, false, true, refl, sym, ap, ◌∙◌, subst, arith}
+use Rattle.std.specs.Prelude.{sum_by, ◌||◌, is_some}
 use Rattle.std.specs.List.{list_any}
 use Rattle.std.proofs.lemmas.List.Sums.{sum_by-cons}
 use Rattle.hy_bound.specs.declared.Txn.{Txn}
 use Rattle.hy_stamp.specs.declared.Stamp.{Stamp}
-use Rattle.hy_stamp.specs.declared.Viewer.{Viewer}
 use Rattle.hy_chain.specs.Chains.{Undo, Falls, seen}
 use Rattle.hy_chain.specs.Pruning.{stamps_of}
 use Rattle.hy_undo.specs.Images.{Image, before}
-use Rattle.hy_undo.specs.Places.{Place, cell_of, sees, stamps}
-use Rattle.hy_journal.specs.declared.Entry.{Entry}
-use Rattle.hy_render.specs.declared.TxnOutcome.{TxnOutcome}
+use Rattle.hy_undo.specs.Places.{Place, cell_of, stamps}
 use Rattle.hy_event.specs.declared.SessionData.{SessionData}
 use Rattle.hy_event.specs.declared.Open.{Open}
-use Rattle.hy_event.specs.Events.{Part}
 use Rattle.hy_machine.specs.declared.Setting.{Setting}
-use Rattle.hy_machine.specs.declared.State.{State}
 use Rattle.hy_machine.specs.declared.Session.{Session}
-use Rattle.hy_machine.specs.declared.Finished.{Finished}
 use Rattle.hy_machine.specs.declared.Open.{Open as Current}
-use Rattle.hy_machine.specs.declared.Entry.{Entry as Entered}
 use Rattle.hy_machine.specs.Positions.{item_at}
 use Rattle.hy_machine.specs.Tables.{opening_tables}
 use Rattle.hy_machine.specs.Sessions.{fresh, session_at}
 use Rattle.hy_machine.specs.Holding.{holds}
 use Rattle.hy_machine.specs.Outcomes.{outcomes_from}
 use Rattle.hy_machine.specs.Runs.{opening_of}
-use Rattle.hy_shows.specs.Transactions.{IsOpen, count_begun, count_open}
+use Rattle.hy_shows.specs.Transactions.{IsOpen, count_open}
 use Rattle.hy_shows.specs.Numbers.{CoreShows}
 use Rattle.hy_shows.specs.Sessions.{NowShows, SessionShows}
-use Rattle.hy_shows.specs.Places.{PlaceShows, is_used}
-use Rattle.hy_shows.specs.Shows.{Shows, IsLaidOut, IsFresh, IsOpening, blank_core}
+use Rattle.hy_shows.specs.Places.{PlaceShows}
+use Rattle.hy_shows.specs.Shows.{IsLaidOut, IsFresh, blank_core}
 use Rattle.hy_shows.specs.Laws.{OpeningIsShown}
 
 -- no session has done anything

@@ -1,10 +1,9 @@
 -- The commit order: its last entry that does something, and positions that its entries don't write.
-use Rattle.std.proofs.Common.{◌≡◌, ◌⊎◌, ℕ, zero, suc, ◌+◌, ◌-◌, ◌<◌, ◌≤◌, List, [], ◌∷◌, length, take, drop, get_or, Option, None, Some, Bool, true, false, refl, sym, ap, ◌∙◌, subst, arith, inl, inr, cond}
+use Rattle.std.proofs.Common.{◌≡◌, ◌⊎◌, ℕ, zero, suc, ◌+◌, ◌-◌, ◌<◌, ◌≤◌, List, [], ◌∷◌, length, take, drop, get_or, Option, None, Some, Bool, true, false, refl, ap, ◌∙◌, subst, arith, inl, inr, cond}
 use Rattle.std.specs.Prelude.{slice_get, is_some}
 use Rattle.std.specs.Option.{option_or}
 use Rattle.std.proofs.lemmas.Bool.{cases_Bool}
-use Rattle.std.proofs.lemmas.Option.{same_Some, slice_get_within, slice_get-get_or}
-use Rattle.hy_stamp.specs.declared.Label.{Label}
+use Rattle.std.proofs.lemmas.Option.{same_Some, slice_get-get_or}
 use Rattle.hy_machine.specs.declared.Setting.{Setting}
 use Rattle.hy_machine.specs.declared.State.{State}
 use Rattle.hy_machine.specs.declared.Entry.{Entry}
@@ -44,9 +43,11 @@ last_or_none {A} test (x ∷ xs) = elim (last_or_none test xs) [
     further : (found : IsLastOf test xs) (other : ℕ) (later : A) → suc found.rank < other → slice_get (x ∷ xs) other ≡ Some later → test later ≡ false
     further found zero later less e = absurd (omega (arith, less))
     further found (suc other) later less e = found.last other later (omega (arith, less)) e
+
     first : ((k : ℕ) (y : A) → slice_get xs k ≡ Some y → test y ≡ false) → (other : ℕ) (later : A) → zero < other → slice_get (x ∷ xs) other ≡ Some later → test later ≡ false
     first none zero later less e = absurd (omega (arith, less))
     first none (suc other) later less e = none other later e
+
     all : test x ≡ false → ((k : ℕ) (y : A) → slice_get xs k ≡ Some y → test y ≡ false) → (k : ℕ) (y : A) → slice_get (x ∷ xs) k ≡ Some y → test y ≡ false
     all isnt none zero y e = subst (λ (z : A). test z ≡ false) (same_Some x y e) isnt
     all isnt none (suc k) y e = none k y e

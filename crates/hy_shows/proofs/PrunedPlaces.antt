@@ -1,14 +1,12 @@
 -- The stamps of a position that was pruned.
-use Rattle.std.proofs.Common.{◌≡◌, ◌⊎◌, ℕ, ◌<◌, ◌≤◌, List, [], ◌∷◌, inl, inr, map, refl, sym, ap, ◌∙◌, subst, arith, Contains, Some, Option}
+use Rattle.std.proofs.Common.{◌≡◌, ◌⊎◌, ℕ, ◌<◌, ◌≤◌, List, [], ◌∷◌, inl, inr, sym, ap, ◌∙◌, subst, Contains, Some}
 use Rattle.hy_stamp.specs.declared.Stamp.{Stamp}
 use Rattle.hy_prune.specs.declared.Cover.{Cover}
 use Rattle.hy_prune.specs.Fates.{group}
 use Rattle.hy_chain.specs.Chains.{Undo, newest, Under, Falls}
 use Rattle.hy_chain.specs.Pruning.{pruned, stamps_of, KeepsStamps, Shrinks}
 use Rattle.hy_undo.specs.Images.{Image, both}
-use Rattle.hy_undo.specs.Places.{Place, stamps}
-use Rattle.hy_undo.specs.Chunks.{Pruned}
-use Rattle.hy_shows.specs.Pruned.{StaysOver, Tells, PrunedTells}
+use Rattle.hy_shows.specs.Pruned.{PrunedTells}
 
 under_by_stamps : (time : ℕ) (c d : List (Undo Image)) → stamps_of c ≡ stamps_of d → Under time c → Under time d
 under_by_stamps time [] [] e u = tt

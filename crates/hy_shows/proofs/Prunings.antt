@@ -1,6 +1,5 @@
 -- Pruning by a held cover.
-use Rattle.std.proofs.Common.{◌≡◌, ◌⊎◌, ℕ, zero, suc, ◌<◌, ◌≤◌, List, [], ◌∷◌, length, get_or, inl, inr, refl, sym, ap, ◌∙◌, subst, arith, Contains, Some, None, Option, Bool, true, false}
-use Rattle.std.specs.Prelude.{slice_get, ◌==◌}
+use Rattle.std.proofs.Common.{◌≡◌, ◌⊎◌, ℕ, ◌<◌, ◌≤◌, List, [], ◌∷◌, get_or, inl, inr, sym, ap, ◌∙◌, subst, arith, Contains, Some, None, false}
 use Rattle.std.proofs.lemmas.Bool.{cases_lt, ne_eqb}
 use Rattle.std.proofs.lemmas.Option.{same_Some}
 use Rattle.hy_stamp.specs.declared.Stamp.{Stamp}
@@ -12,24 +11,20 @@ use Rattle.hy_prune.specs.Groups.{none_below}
 use Rattle.hy_chain.specs.Chains.{Undo, Falls, Under, IsSafe, newest}
 use Rattle.hy_chain.specs.Pruning.{stamps_of}
 use Rattle.hy_undo.specs.Images.{Image}
-use Rattle.hy_undo.specs.Places.{Place, stamps, sees}
+use Rattle.hy_undo.specs.Places.{Place, stamps}
 use Rattle.hy_undo.specs.Chunks.{Pruned, is_own}
 use Rattle.hy_journal.specs.declared.CoreData.{CoreData}
-use Rattle.hy_journal.specs.declared.Entry.{Entry}
 use Rattle.hy_event.specs.declared.SessionData.{SessionData}
 use Rattle.hy_event.specs.declared.Open.{Open}
 use Rattle.hy_event.specs.Sessions.{label_of, viewer_of}
 use Rattle.hy_machine.specs.declared.Setting.{Setting}
 use Rattle.hy_machine.specs.declared.State.{State}
 use Rattle.hy_machine.specs.declared.Open.{Open as Current}
-use Rattle.hy_machine.specs.declared.Entry.{Entry as Entered}
-use Rattle.hy_machine.specs.Holding.{holds}
-use Rattle.hy_shows.specs.Stamped.{HasNotStamped}
 use Rattle.hy_shows.specs.Transactions.{IsOpen}
 use Rattle.hy_shows.specs.Numbers.{CoreShows}
 use Rattle.hy_shows.specs.Sessions.{IsHeld}
-use Rattle.hy_shows.specs.Places.{IsOwnStamp, IsOfWriter, OwnHead, TimesAreWriters, newest_below, IsLastWriter, IsNewcomer, PlaceShows}
-use Rattle.hy_shows.specs.Pruned.{Tells, StaysOver, PrunedTells, PruningShowsNothing, IsBelowIds}
+use Rattle.hy_shows.specs.Places.{IsOwnStamp, IsOfWriter, OwnHead, newest_below, IsNewcomer, PlaceShows}
+use Rattle.hy_shows.specs.Pruned.{Tells, PrunedTells, PruningShowsNothing, IsBelowIds}
 use Rattle.hy_shows.proofs.Stamps.{behind, first_of, here_or, nothing, empty_or, newest_first, first_newest, none_newest, apart_all, below_here, below_later}
 
 -- a start below a time makes a group of it
@@ -70,7 +65,6 @@ falls_below (undo ∷ chain) stamp rest e f other c =
 module _ (setting : Setting) (state : State) (core : CoreData) (sessions : List SessionData) (cover : Cover) (table chunk pos : ℕ) (old new : Place)
     (low : IsBelowIds core) (core_shows : CoreShows state core sessions) (held : IsHeld core cover)
     (shows : PlaceShows setting state core sessions table chunk pos old) (p : Pruned cover old new) (t : Tells cover old new) where
-
   -- each stamp is an open transaction's own or a writer's
   known : (stamp : Stamp) → Contains (stamps old) stamp → IsOwnStamp setting state sessions table chunk stamp ⊎ IsOfWriter setting state core table chunk pos stamp
   known stamp c = elim (empty_or (stamps old)) [

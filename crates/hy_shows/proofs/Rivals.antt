@@ -1,6 +1,6 @@
 -- The newest record of a position names the machine's opponent.
-use Rattle.std.proofs.Common.{◌≡◌, ◌⊎◌, ℕ, zero, suc, ◌+◌, ◌-◌, ◌<◌, ◌≤◌, List, length, drop, Option, None, Some, Bool, true, false, refl, sym, ap, ◌∙◌, subst, arith, inl, inr, cond}
-use Rattle.std.specs.Prelude.{slice_get, is_some, ◌&&◌, if◌then◌else◌}
+use Rattle.std.proofs.Common.{◌≡◌, ◌⊎◌, ℕ, ◌+◌, ◌-◌, ◌<◌, List, length, drop, Option, None, Some, Bool, true, false, refl, sym, ap, ◌∙◌, subst, arith, inl, inr, cond}
+use Rattle.std.specs.Prelude.{slice_get, is_some}
 use Rattle.std.specs.Option.{option_or}
 use Rattle.std.proofs.lemmas.Bool.{cases_Bool, cases_lt, cases_eq, eq-eqb, and_from, and_parts}
 use Rattle.std.proofs.lemmas.Option.{same_Some, slice_get_within, get_or_from_slice_get}
@@ -9,7 +9,7 @@ use Rattle.hy_stamp.specs.declared.Label.{Label}
 use Rattle.hy_stamp.specs.declared.Stamp.{Stamp}
 use Rattle.hy_stamp.specs.Times.{id_of}
 use Rattle.hy_chain.specs.Chains.{newest, rival}
-use Rattle.hy_undo.specs.Places.{Place, sees}
+use Rattle.hy_undo.specs.Places.{Place}
 use Rattle.hy_undo.specs.Chunks.{is_own}
 use Rattle.hy_journal.specs.declared.CoreData.{CoreData}
 use Rattle.hy_event.specs.declared.SessionData.{SessionData}
@@ -19,7 +19,6 @@ use Rattle.hy_machine.specs.declared.Setting.{Setting}
 use Rattle.hy_machine.specs.declared.State.{State}
 use Rattle.hy_machine.specs.declared.Session.{Session}
 use Rattle.hy_machine.specs.declared.Open.{Open as Current}
-use Rattle.hy_machine.specs.declared.Begun.{Begun}
 use Rattle.hy_machine.specs.declared.Entry.{Entry}
 use Rattle.hy_machine.specs.declared.Phase.{Phase}
 use Rattle.hy_machine.specs.declared.Phase.TheVariants.{Working, Stamping, Undoing}
@@ -27,11 +26,11 @@ use Rattle.hy_machine.specs.Positions.{item_at, last_some}
 use Rattle.hy_machine.specs.Tables.{Cell, chunk_of}
 use Rattle.hy_machine.specs.Writes.{written_chunks, is_among}
 use Rattle.hy_machine.specs.Sessions.{fresh, session_at, label_of, snapshot, view, pair_of}
-use Rattle.hy_machine.specs.Holding.{holds, holder_from, has_pair, changer_at, opponent, undone}
+use Rattle.hy_machine.specs.Holding.{holds, holder_from, has_pair, changer_at, undone}
 use Rattle.hy_shows.specs.Stamped.{HasNotStamped, is_unstamped, entries_counted, is_unstamped_by}
 use Rattle.hy_shows.specs.Transactions.{IsOpen}
-use Rattle.hy_shows.specs.Places.{IsOwnStamp, IsLastWriter, cell_held}
-use Rattle.hy_shows.specs.Kept.{Kept, OwnFits, is_stamping, entered}
+use Rattle.hy_shows.specs.Places.{IsOwnStamp}
+use Rattle.hy_shows.specs.Kept.{Kept, is_stamping, entered}
 use Rattle.hy_shows.specs.Rivals.{ShownAt, RivalsAreOpponents}
 use Rattle.hy_shows.proofs.Written.{own_among}
 use Rattle.hy_shows.proofs.Orders.{IsLastOf, last_or_none, last_some_none, last_some_at, dropped_get, changes_none, changes_some}
@@ -265,7 +264,7 @@ rivals_are setting state core sessions table chunk pos place shown number sessio
           held_by_none setting state core sessions table chunk pos place shown number session now current is
           (λ other held. elim (cases_eq other number) [
             | inl same ↦ absurd (let e : holds setting table pos (session_at state other).now ≡ false =
-            ap (λ (n : ℕ). holds setting table pos (session_at state n).now) same ∙ (ap (holds setting table pos) is.open_there ∙ not_held) in let f = sym held ∙ e in cc)
+                ap (λ (n : ℕ). holds setting table pos (session_at state n).now) same ∙ (ap (holds setting table pos) is.open_there ∙ not_held) in let f = sym held ∙ e in cc)
             | inr apart ↦
                 let there = holder_open setting table pos (session_at state other).now held in
                 absurd (let e = sym held ∙ all other (session_at state other) (is_there state other there.0 there.1) (λ s. apart (omega (arith, s))) in cc)

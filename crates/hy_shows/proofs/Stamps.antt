@@ -1,14 +1,11 @@
 -- The stamps of a position, and whose they are.
-use Rattle.std.proofs.Common.{◌≡◌, ◌⊎◌, ℕ, zero, suc, ◌<◌, ◌≤◌, List, [], ◌∷◌, length, get_or, inl, inr, refl, sym, ap, ◌∙◌, subst, arith, Contains, Some, None, Option, Bool, true, false, cond}
-use Rattle.std.specs.Prelude.{nat_lt, ◌==◌}
+use Rattle.std.proofs.Common.{◌≡◌, ◌⊎◌, ℕ, zero, suc, ◌<◌, ◌≤◌, List, [], ◌∷◌, length, get_or, inl, inr, refl, ap, arith, Contains, Some, None, Bool, cond}
 use Rattle.std.specs.List.{AllByRecursion}
 use Rattle.std.proofs.lemmas.Bool.{lt-ltb, le-ltb}
 use Rattle.hy_stamp.specs.declared.Stamp.{Stamp}
 use Rattle.hy_chain.specs.Chains.{Undo, newest}
 use Rattle.hy_chain.specs.Pruning.{stamps_of}
 use Rattle.hy_undo.specs.Images.{Image}
-use Rattle.hy_undo.specs.Places.{Place, stamps}
-use Rattle.hy_undo.specs.Chunks.{is_own}
 use Rattle.hy_shows.specs.Places.{newest_below}
 
 -- ---- members of a list

@@ -1,13 +1,11 @@
 -- What is taken of the machine alone: it holds of every state that the machine comes to.
-use Rattle.std.specs.Prelude.{◌≡◌, ◌≢◌, ◌⊎◌, ℕ, suc, ◌-◌, ◌<◌, ◌≤◌, List, [], ◌∷◌, ◌++◌, Bool, true, false, not, ◌&&◌, Option, None, Some, is_some, map, slice_get, slice_index_or, length}
+use Rattle.std.specs.Prelude.{◌≡◌, ◌≢◌, ℕ, suc, ◌-◌, ◌<◌, ◌≤◌, Bool, true, false, Option, None, Some, is_some, slice_get, length}
 use Rattle.std.specs.List.{AllByRecursion}
 use Rattle.hy_stamp.specs.declared.Label.{Label}
-use Rattle.hy_bound.specs.declared.Bound.{Bound}
 use Rattle.hy_bound.specs.declared.Txn.{Txn}
 use Rattle.hy_render.specs.declared.Ending.TheVariants.{Committed}
 use Rattle.hy_machine.specs.declared.Setting.{Setting}
 use Rattle.hy_machine.specs.declared.State.{State}
-use Rattle.hy_machine.specs.declared.Session.{Session}
 use Rattle.hy_machine.specs.declared.Open.{Open}
 use Rattle.hy_machine.specs.declared.Begun.{Begun}
 use Rattle.hy_machine.specs.declared.Finished.{Finished}
@@ -16,11 +14,9 @@ use Rattle.hy_machine.specs.declared.Phase.{Phase}
 use Rattle.hy_machine.specs.declared.Phase.TheVariants.{Working, Stamping, Undoing}
 use Rattle.hy_machine.specs.Positions.{item_at}
 use Rattle.hy_machine.specs.Tables.{Own, capacity}
-use Rattle.hy_machine.specs.Writes.{written_chunks, wrote_nothing}
-use Rattle.hy_machine.specs.Sessions.{session_at, program_of, txn_at, label_of, snapshot, pair_of}
+use Rattle.hy_machine.specs.Writes.{written_chunks}
+use Rattle.hy_machine.specs.Sessions.{session_at, txn_at, label_of, snapshot, pair_of}
 use Rattle.hy_machine.specs.Holding.{holds, has_pair}
-use Rattle.hy_machine.specs.Visits.{visits_of}
-use Rattle.hy_shows.specs.Sessions.{statement_at}
 
 -- ---- transactions that have begun
 

@@ -1,5 +1,5 @@
 -- What the core shows: the entries of its journal, its times, its mark.
-use Rattle.std.specs.Prelude.{◌≡◌, ℕ, suc, ◌+◌, ◌-◌, ◌<◌, ◌≤◌, List, Option, None, Some, Contains, slice_get, length}
+use Rattle.std.specs.Prelude.{◌≡◌, ℕ, ◌+◌, ◌-◌, ◌<◌, List, Option, None, Some, Contains, slice_get, length}
 use Rattle.std.specs.Option.{option_map}
 use Rattle.hy_active.specs.OpenStarts.{Rise}
 use Rattle.hy_stamp.specs.declared.Label.{Label}

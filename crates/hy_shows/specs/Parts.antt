@@ -1,5 +1,5 @@
 -- The parts: a chunk for each chunk of each table, and the core behind them.
-use Rattle.std.specs.Prelude.{◌≡◌, ℕ, suc, ◌+◌, ◌*◌, ◌<◌, List, Option, Some, slice_get, length}
+use Rattle.std.specs.Prelude.{◌≡◌, ℕ, suc, ◌+◌, ◌*◌, ◌<◌, List, Some, slice_get, length}
 use Rattle.hy_bound.specs.Records.{shape_of}
 use Rattle.hy_journal.specs.declared.CoreData.{CoreData}
 use Rattle.hy_undo.specs.Places.{Place}

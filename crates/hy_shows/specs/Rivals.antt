@@ -1,17 +1,15 @@
 -- Whom a write is in conflict with.
-use Rattle.std.specs.Prelude.{◌≡◌, ◌≢◌, ℕ, List, Option, Some}
+use Rattle.std.specs.Prelude.{◌≡◌, ◌≢◌, ℕ, List, Some}
 use Rattle.hy_value.specs.declared.Value.{Value}
 use Rattle.hy_chain.specs.Chains.{rival}
 use Rattle.hy_undo.specs.Places.{Place, sees}
 use Rattle.hy_journal.specs.declared.CoreData.{CoreData}
 use Rattle.hy_event.specs.declared.SessionData.{SessionData}
-use Rattle.hy_event.specs.declared.Open.{Open}
 use Rattle.hy_event.specs.Sessions.{viewer_of}
 use Rattle.hy_machine.specs.declared.Setting.{Setting}
 use Rattle.hy_machine.specs.declared.State.{State}
-use Rattle.hy_machine.specs.declared.Open.{Open as Current}
 use Rattle.hy_machine.specs.Holding.{opponent}
-use Rattle.hy_shows.specs.Transactions.{IsOpen, OfOpen}
+use Rattle.hy_shows.specs.Transactions.{OfOpen}
 use Rattle.hy_shows.specs.Numbers.{CoreShows}
 use Rattle.hy_shows.specs.Shows.{SessionsShow}
 use Rattle.hy_shows.specs.Places.{PlaceShows}

@@ -1,7 +1,7 @@
 -- The parts and the sessions of the engine show a state of the machine.
-use Rattle.std.specs.Prelude.{◌≡◌, ℕ, List, [], Option, None, Some, is_some, slice_get, length}
+use Rattle.std.specs.Prelude.{◌≡◌, ℕ, List, [], None, Some, is_some, slice_get, length}
 use Rattle.hy_journal.specs.declared.CoreData.{CoreData}
-use Rattle.hy_undo.specs.Places.{Place, Cell, in_place}
+use Rattle.hy_undo.specs.Places.{Place, in_place}
 use Rattle.hy_event.specs.declared.SessionData.{SessionData}
 use Rattle.hy_event.specs.Events.{Part}
 use Rattle.hy_machine.specs.declared.Setting.{Setting}

@@ -4,11 +4,11 @@
 //! they do is said by sentences on the core, on sessions and on positions, and the laws here are about these.
 #![tactic(auto)]
 
-use hy_undo::Delta;
-
 ghost use Rattle.hy_shows.specs.Laws.{OpeningIsShown};
 ghost use Rattle.hy_shows.specs.Pruned.{PrunedTells, PruningShowsNothing};
 ghost use Rattle.hy_shows.specs.Rivals.{RivalsAreOpponents};
+
+use hy_undo::Delta;
 
 /// Before anything has happened the parts and the sessions show the machine's opening.
 pub fn the_opening_is_shown()

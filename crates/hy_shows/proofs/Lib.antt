@@ -8,3 +8,5 @@ mod Holders
 mod RivalTops
 mod Changers
 mod Rivals
+mod LastCells
+mod Frees

@@ -83,7 +83,7 @@ tables_over f (cells ∷ tables) (items ∷ lists) zero pos e = items_over f cel
 tables_over f (cells ∷ tables) (items ∷ lists) (suc table) pos e = tables_over f tables lists table pos e
 
 -- one more entry
-history_next : (tables : Tables) (order : List Entry) (rank : ℕ) (entry : Entry) → slice_get order rank ≡ Some entry
+pub history_next : (tables : Tables) (order : List Entry) (rank : ℕ) (entry : Entry) → slice_get order rank ≡ Some entry
     → history tables (take (suc rank) order) ≡ after_entry (history tables (take rank order)) entry
 history_next tables [] rank entry e = absurd cc
 history_next tables (first ∷ order) zero entry e = ap (after_entry tables) (same_Some first entry e)

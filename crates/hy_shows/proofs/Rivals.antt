@@ -90,7 +90,7 @@ marked_holds setting state marked current table pos kept is stamping own =
 -- ---- own stamps
 
 -- who has an own stamp on top holds the position
-top_holds : (setting : Setting) (state : State) (core : CoreData) (sessions : List SessionData) (table chunk pos : ℕ) (place : Place)
+pub top_holds : (setting : Setting) (state : State) (core : CoreData) (sessions : List SessionData) (table chunk pos : ℕ) (place : Place)
     → ShownAt setting state core sessions table chunk pos place → (stamp : Stamp) → newest place.chain ≡ Some stamp
     → (own : IsOwnStamp setting state sessions table chunk stamp) → holds setting table pos (session_at state own.number).now ≡ true
 top_holds setting state core sessions table chunk pos place shown stamp e own =
@@ -100,7 +100,7 @@ top_holds setting state core sessions table chunk pos place shown stamp e own =
 
 -- ---- another transaction holds the position
 
-held_by_other : (setting : Setting) (state : State) (core : CoreData) (sessions : List SessionData) (table chunk pos : ℕ) (place : Place)
+pub held_by_other : (setting : Setting) (state : State) (core : CoreData) (sessions : List SessionData) (table chunk pos : ℕ) (place : Place)
     → ShownAt setting state core sessions table chunk pos place
     → (number : ℕ) (session : SessionData) (now : Open) (current : Current) → IsOpen state sessions number session now current → (state.mark ≡ Some number → ⊥)
     → (other : ℕ) (present : Current) → (other ≡ number → ⊥) → (session_at state other).now ≡ Some present → holds setting table pos (Some present) ≡ true
@@ -187,6 +187,29 @@ all_or_marked setting state table chunk = elim (cases_Bool (is_unstamped setting
     by_mark None e un = absurd (let f : is_unstamped setting state table chunk ≡ false = ap (λ (mark : Option ℕ). is_unstamped_by setting state mark table chunk) e in let g = sym un ∙ f in cc)
     by_mark (Some marked) e un = (marked, (e, ap (λ (b : Bool). cond b (length state.order - 1) (length state.order)) un))
 
+-- a writer counts where nobody holds the position: the marked session, which holds what it wrote, didn't write it
+pub writer_counts : (setting : Setting) (state : State) (table chunk pos : ℕ) → Kept setting state
+    → ((other : ℕ) → holds setting table pos (session_at state other).now ≡ true → ⊥)
+    → (rank : ℕ) (entry : Entry) → slice_get state.order rank ≡ Some entry → has_pair table pos entry ≡ true → rank < entries_counted setting state table chunk
+writer_counts setting state table chunk pos kept none rank entry e wrote =
+    let within = slice_get_within state.order rank entry e in
+    elim (all_or_marked setting state table chunk) [
+      | inl all ↦ omega (arith, all, within)
+      | inr one ↦ elim (cases_lt rank (length state.order - 1)) [
+        | inl less ↦ let c = one.1.1 in omega (arith, c, less)
+        | inr more ↦
+            let now_there = kept.ranks.marked one.0 one.1.0 in
+            let last = last_entry setting state one.0 now_there.0 kept one.1.0 now_there.1.0 in
+            let same : entry ≡ last.entry = same_Some entry last.entry
+            (sym e ∙ (ap (slice_get state.order) (let s : rank ≡ length state.order - 1 = omega (arith, more, within) in s) ∙ last.stands)) in
+            let own : is_some (item_at now_there.0.begun.own table pos) ≡ true =
+            own_there (item_at (snapshot setting state (length state.order - 1)) table pos) (item_at now_there.0.begun.own table pos)
+            (sym (ap is_some (last.cells table pos)) ∙ (sym (ap (has_pair table pos) same) ∙ wrote)) in
+            absurd (none one.0 (ap (holds setting table pos) now_there.1.0
+            ∙ marked_holds setting state one.0 now_there.0 table pos kept now_there.1.0 now_there.1.1 own))
+      ]
+    ]
+
 held_by_none : (setting : Setting) (state : State) (core : CoreData) (sessions : List SessionData) (table chunk pos : ℕ) (place : Place)
     → ShownAt setting state core sessions table chunk pos place
     → (number : ℕ) (session : SessionData) (now : Open) (current : Current) → IsOpen state sessions number session now current
@@ -208,27 +231,6 @@ held_by_none setting state core sessions table chunk pos place shown number sess
     none_own : NoneOwn setting state sessions table chunk place
     none_own stamp e own = none own.number (top_holds setting state core sessions table chunk pos place shown stamp e own)
 
-    -- a writer counts: the marked session, which holds what it wrote, didn't write here
-    counts : (rank : ℕ) (entry : Entry) → slice_get state.order rank ≡ Some entry → has_pair table pos entry ≡ true → rank < entries_counted setting state table chunk
-    counts rank entry e wrote =
-        let within = slice_get_within state.order rank entry e in
-        elim (all_or_marked setting state table chunk) [
-          | inl all ↦ omega (arith, all, within)
-          | inr one ↦ elim (cases_lt rank (length state.order - 1)) [
-            | inl less ↦ let c = one.1.1 in omega (arith, c, less)
-            | inr more ↦
-                let now_there = shown.kept.ranks.marked one.0 one.1.0 in
-                let last = last_entry setting state one.0 now_there.0 shown.kept one.1.0 now_there.1.0 in
-                let same : entry ≡ last.entry = same_Some entry last.entry
-                (sym e ∙ (ap (slice_get state.order) (let s : rank ≡ length state.order - 1 = omega (arith, more, within) in s) ∙ last.stands)) in
-                let own : is_some (item_at now_there.0.begun.own table pos) ≡ true =
-                own_there (item_at (snapshot setting state (length state.order - 1)) table pos) (item_at now_there.0.begun.own table pos)
-                (sym (ap is_some (last.cells table pos)) ∙ (sym (ap (has_pair table pos) same) ∙ wrote)) in
-                absurd (none one.0 (ap (holds setting table pos) now_there.1.0
-                ∙ marked_holds setting state one.0 now_there.0 table pos shown.kept now_there.1.0 now_there.1.1 own))
-          ]
-        ]
-
     by_writer : IsLastOf (has_pair table pos) (drop prefix state.order) → rival (viewer_of session now) place.chain ≡ last_some (changer_at table pos) (drop prefix state.order)
     by_writer found =
         let rank : ℕ = prefix + found.rank in
@@ -239,7 +241,7 @@ held_by_none setting state core sessions table chunk pos place shown number sess
         (dropped_get prefix state.order (other - prefix) ∙ (ap (slice_get state.order) (let s : prefix + (other - prefix) ≡ other = omega (arith, less) in s) ∙ e)) in
         let changed = is_changed setting state table pos shown.kept number current is.open_there row sees_row rank found.item stands found.passes (omega arith) within last in
         rival_of_writer setting state core sessions table chunk pos place shown none_own number session now current is rank found.item
-        (record { stands = stands; counts = counts rank found.item stands found.passes; wrote = found.passes; last = λ other later less below e. last other later less e })
+        (record { stands = stands; counts = writer_counts setting state table chunk pos shown.kept none rank found.item stands found.passes; wrote = found.passes; last = λ other later less below e. last other later less e })
         (omega arith)
         ∙ sym (last_some_at (changer_at table pos) (drop prefix state.order) found.rank found.item found.item.label found.stands (changes_some table pos found.item changed)
         (λ other later less e. changes_none table pos later (found.last other later less e)))

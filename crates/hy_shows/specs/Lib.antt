@@ -8,4 +8,5 @@ pub mod Shows
 pub mod Kept
 pub mod Pruned
 pub mod Rivals
+pub mod Free
 pub mod Laws

@@ -7,6 +7,7 @@
 ghost use Rattle.hy_shows.specs.Laws.{OpeningIsShown};
 ghost use Rattle.hy_shows.specs.Pruned.{PrunedTells, PruningShowsNothing};
 ghost use Rattle.hy_shows.specs.Rivals.{RivalsAreOpponents};
+ghost use Rattle.hy_shows.specs.Free.{FreeIsTheMachines};
 
 use hy_undo::Delta;
 
@@ -35,4 +36,10 @@ pub fn pruning_shows_nothing()
 /// changed it since its start.
 pub fn rivals_are_the_machines()
     ensures { RivalsAreOpponents }
+{}
+
+/// A position is free by the watermark of an open transaction that has no entry yet, which the chunk tests, exactly where
+/// the machine says that it is free: nobody holds it, no row was there at its low prefix, and no entry wrote it since.
+pub fn free_positions_are_the_machines()
+    ensures { FreeIsTheMachines }
 {}

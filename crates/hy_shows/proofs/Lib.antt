@@ -10,3 +10,4 @@ mod Changers
 mod Rivals
 mod LastCells
 mod Frees
+mod Blockers

@@ -9,4 +9,5 @@ pub mod Kept
 pub mod Pruned
 pub mod Rivals
 pub mod Free
+pub mod Waiting
 pub mod Laws

@@ -8,6 +8,7 @@ ghost use Rattle.hy_shows.specs.Laws.{OpeningIsShown};
 ghost use Rattle.hy_shows.specs.Pruned.{PrunedTells, PruningShowsNothing};
 ghost use Rattle.hy_shows.specs.Rivals.{RivalsAreOpponents};
 ghost use Rattle.hy_shows.specs.Free.{FreeIsTheMachines};
+ghost use Rattle.hy_shows.specs.Waiting.{BlockersAreTheMachines};
 
 use hy_undo::Delta;
 
@@ -42,4 +43,9 @@ pub fn rivals_are_the_machines()
 /// the machine says that it is free: nobody holds it, no row was there at its low prefix, and no entry wrote it since.
 pub fn free_positions_are_the_machines()
     ensures { FreeIsTheMachines }
+{}
+
+/// A session's step at the core is blocked exactly where the machine's step is, and by the same transaction.
+pub fn blockers_are_the_machines()
+    ensures { BlockersAreTheMachines }
 {}

@@ -1,5 +1,5 @@
 -- Who is blocked at the core is blocked in the machine, by the same transaction.
-use Rattle.std.proofs.Common.{◌≡◌, ℕ, suc, Option, None, Some, Bool, true, false, refl, sym, ap, ◌∙◌, subst, inl, inr, length, cond}
+use Rattle.std.proofs.Common.{◌≡◌, ℕ, suc, Option, None, Some, Bool, refl, sym, ap, ◌∙◌, inl, inr, length, cond}
 use Rattle.std.specs.Prelude.{◌==◌, ◌&&◌}
 use Rattle.std.specs.Option.{option_map}
 use Rattle.std.proofs.lemmas.Bool.{cases_eq, eq-eqb, ne_eqb, and_from}

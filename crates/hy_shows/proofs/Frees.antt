@@ -1,20 +1,19 @@
 -- A position is free by the watermark exactly where it is free in the machine.
-use Rattle.std.proofs.Common.{◌≡◌, ◌⊎◌, ℕ, zero, suc, ◌+◌, ◌-◌, ◌<◌, ◌≤◌, ◌^◌, List, [], ◌∷◌, length, take, drop, get_or, Option, None, Some, Bool, true, false, not, refl, sym, ap, ◌∙◌, subst, arith, inl, inr, cond}
+use Rattle.std.proofs.Common.{◌≡◌, ◌⊎◌, ℕ, ◌+◌, ◌-◌, ◌<◌, ◌≤◌, List, [], ◌∷◌, length, take, drop, get_or, Option, None, Some, Bool, true, false, not, refl, sym, ap, ◌∙◌, arith, inl, inr, cond}
 use Rattle.std.specs.Prelude.{slice_get, is_some, unwrap_or, ◌||◌, ◌&&◌, nat_lt, ◌==◌}
 use Rattle.std.specs.List.{list_any}
-use Rattle.std.proofs.lemmas.Bool.{cases_Bool, cases_lt, cases_eq, eq-eqb, lt-ltb, le-ltb, or_left, or_right}
+use Rattle.std.proofs.lemmas.Bool.{cases_Bool, cases_lt, cases_eq, lt-ltb, le-ltb, or_right}
 use Rattle.std.proofs.lemmas.List.{take_all}
-use Rattle.std.proofs.lemmas.Option.{same_Some, slice_get_within, slice_get-get_or, get_or_from_slice_get}
+use Rattle.std.proofs.lemmas.Option.{slice_get_within, slice_get-get_or, get_or_from_slice_get}
 use Rattle.hy_stamp.specs.declared.Label.{Label}
 use Rattle.hy_stamp.specs.declared.Stamp.{Stamp}
 use Rattle.hy_stamp.specs.declared.Viewer.{Viewer}
 use Rattle.hy_stamp.specs.Times.{id_of}
 use Rattle.hy_prune.specs.Fates.{watermark_of}
-use Rattle.hy_chain.specs.Chains.{Undo, newest, seen, stops, rival}
+use Rattle.hy_chain.specs.Chains.{Undo, newest, seen, rival}
 use Rattle.hy_undo.specs.declared.version.Version.{Version}
 use Rattle.hy_undo.specs.Images.{Image, before}
 use Rattle.hy_undo.specs.Places.{Place, sees, cell_of, is_older, is_free}
-use Rattle.hy_undo.specs.Chunks.{is_own}
 use Rattle.hy_journal.specs.declared.CoreData.{CoreData}
 use Rattle.hy_journal.specs.declared.Entry.{Entry as Noted}
 use Rattle.hy_event.specs.declared.SessionData.{SessionData}
@@ -25,17 +24,16 @@ use Rattle.hy_machine.specs.declared.State.{State}
 use Rattle.hy_machine.specs.declared.Session.{Session}
 use Rattle.hy_machine.specs.declared.Open.{Open as Current}
 use Rattle.hy_machine.specs.declared.Entry.{Entry}
-use Rattle.hy_machine.specs.Positions.{item_at, last_some}
+use Rattle.hy_machine.specs.Positions.{item_at}
 use Rattle.hy_machine.specs.Tables.{Cell, history, opening_tables}
 use Rattle.hy_machine.specs.Sessions.{fresh, session_at, snapshot}
 use Rattle.hy_machine.specs.Holding.{holds, is_held, has_pair, is_free as is_free_there}
 use Rattle.hy_shows.specs.Stamped.{entries_counted}
 use Rattle.hy_shows.specs.Transactions.{IsOpen}
 use Rattle.hy_shows.specs.Sessions.{OpenShows}
-use Rattle.hy_shows.specs.Places.{IsOfWriter, is_used, emptied_at, death_of}
+use Rattle.hy_shows.specs.Places.{emptied_at}
 use Rattle.hy_shows.specs.Rivals.{ShownAt}
 use Rattle.hy_shows.specs.Free.{HasPosition, FreeIsTheMachines}
-use Rattle.hy_shows.proofs.Stamps.{newest_first}
 use Rattle.hy_shows.proofs.Orders.{IsLastOf, last_or_none, last_some_at, dropped_get, cell_stays}
 use Rattle.hy_shows.proofs.LastCells.{any_at, any_true, any_false, taken_get, taken_below, leaves, emptied, not_emptied}
 use Rattle.hy_shows.proofs.Holders.{holder_open, is_there}
@@ -56,13 +54,13 @@ not_free false live older dead u why = absurd cc
 not_free true true older dead u why = refl
 not_free true false false dead u why = refl
 not_free true false true false u why = refl
-not_free true false true true u why = elim why [ | inl e ↦ absurd cc | inr others ↦ elim others [ | inl e ↦ absurd cc | inr e ↦ absurd cc ] ]
+not_free true false true true u why = elim why [ inl e ↦ absurd cc | inr others ↦ elim others [ inl e ↦ absurd cc | inr e ↦ absurd cc ] ]
 
 not_free_there : (held row wrote : Bool) → (held ≡ true) ⊎ ((row ≡ true) ⊎ (wrote ≡ true)) → free_there held row wrote ≡ false
 not_free_there true row wrote why = refl
 not_free_there false true wrote why = refl
 not_free_there false false true why = refl
-not_free_there false false false why = elim why [ | inl e ↦ absurd cc | inr others ↦ elim others [ | inl e ↦ absurd cc | inr e ↦ absurd cc ] ]
+not_free_there false false false why = elim why [ inl e ↦ absurd cc | inr others ↦ elim others [ inl e ↦ absurd cc | inr e ↦ absurd cc ] ]
 
 free_if : (used live older dead : Bool) → (used ≡ true → (live ≡ false) × ((older ≡ true) × (dead ≡ true))) → free_here used live older dead ≡ true
 free_if false live older dead why = refl
@@ -81,7 +79,7 @@ or_three : (a b c : Bool) → (a ≡ true) ⊎ ((b ≡ true) ⊎ (c ≡ true)) �
 or_three true b c why = refl
 or_three false true c why = refl
 or_three false false true why = refl
-or_three false false false why = elim why [ | inl e ↦ absurd cc | inr others ↦ elim others [ | inl e ↦ absurd cc | inr e ↦ absurd cc ] ]
+or_three false false false why = elim why [ inl e ↦ absurd cc | inr others ↦ elim others [ inl e ↦ absurd cc | inr e ↦ absurd cc ] ]
 
 some_or_none : (cell : Cell) → (is_some cell ≡ true) ⊎ (cell ≡ None)
 some_or_none None = inr refl
@@ -116,7 +114,6 @@ module _ (setting : Setting) (state : State) (core : CoreData) (sessions : List 
     (shown : ShownAt setting state core sessions table chunk pos place) (has : HasPosition (opening_tables setting) table pos)
     (number : ℕ) (session : SessionData) (now : Open) (current : Current) (is : IsOpen state sessions number session now current)
     (unmarked : state.mark ≡ Some number → ⊥) where
-
   abbrev watermark : ℕ
   watermark = watermark_of now.cover
 
@@ -250,7 +247,7 @@ module _ (setting : Setting) (state : State) (core : CoreData) (sessions : List 
               let death = death_is last gone entry.0 entry.1 in
               let late : watermark ≤ entry.0.time = shows.low_counts.late (low + found.rank) entry.0 entry.1 (omega arith) in
               le-ltb place.death watermark (omega (arith, death, late))
-          ))
+              ))
         ])
         ∙ sym (not_free_there (is_held setting state table pos) row wrote (inr (inr (any_true (has_pair table pos) (drop low state.order) found.rank found.item found.stands found.passes))))
 

@@ -1,24 +1,22 @@
 -- What the last writer of a position leaves there.
-use Rattle.std.proofs.Common.{◌≡◌, ◌⊎◌, ℕ, zero, suc, ◌+◌, ◌-◌, ◌<◌, ◌≤◌, List, [], ◌∷◌, length, take, get_or, Option, None, Some, Bool, true, false, refl, sym, ap, ◌∙◌, subst, arith, inl, inr, cond}
-use Rattle.std.specs.Prelude.{slice_get, is_some, unwrap_or, ◌||◌}
+use Rattle.std.proofs.Common.{◌≡◌, ℕ, zero, suc, ◌<◌, List, [], ◌∷◌, length, take, get_or, Option, None, Some, Bool, true, false, refl, sym, ap, ◌∙◌, arith, inl, inr, cond}
+use Rattle.std.specs.Prelude.{slice_get, is_some, ◌||◌}
 use Rattle.std.specs.List.{list_any}
-use Rattle.std.proofs.lemmas.Bool.{cases_Bool, cases_lt, or_left, or_right}
+use Rattle.std.proofs.lemmas.Bool.{cases_Bool, or_left, or_right}
 use Rattle.std.proofs.lemmas.Option.{same_Some, slice_get_within}
-use Rattle.hy_journal.specs.declared.CoreData.{CoreData}
 use Rattle.hy_journal.specs.declared.Entry.{Entry as Noted}
-use Rattle.hy_notes.specs.Notes.{Cell as NotedCell, note_at}
 use Rattle.hy_machine.specs.declared.Setting.{Setting}
 use Rattle.hy_machine.specs.declared.State.{State}
 use Rattle.hy_machine.specs.declared.Entry.{Entry}
 use Rattle.hy_machine.specs.declared.Pair.{Pair}
-use Rattle.hy_machine.specs.Positions.{item_at, last_some}
+use Rattle.hy_machine.specs.Positions.{item_at}
 use Rattle.hy_machine.specs.Tables.{Cell, Tables, overlaid, covered, covered_tables, after_entry, history, opening_tables}
 use Rattle.hy_machine.specs.Sessions.{snapshot}
 use Rattle.hy_machine.specs.Holding.{has_pair}
 use Rattle.hy_shows.specs.Numbers.{EntriesShow, noted}
 use Rattle.hy_shows.specs.Places.{time_left, emptied_at}
 use Rattle.hy_shows.specs.Free.{HasPosition}
-use Rattle.hy_shows.proofs.Orders.{IsLastOf, last_some_at, history_next, cell_stays}
+use Rattle.hy_shows.proofs.Orders.{IsLastOf, history_next, cell_stays}
 
 -- ---- tests of a list
 

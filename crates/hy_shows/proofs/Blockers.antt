@@ -24,12 +24,14 @@ other_label state number marked = elim (cases_eq marked number) [
       ∙ sym (ap (λ (b : Bool). cond b None (Some (label_of marked session))) (eq-eqb marked number same))
   | inr apart ↦
       let session : Session = session_at state marked in
-      ap (λ (b : Bool). cond (b && (suc (length session.done) == suc (length (session_at state number).done))) None (Some (label_of marked session))) (ne_eqb marked number apart)
+      ap (λ (b : Bool). cond (b && (suc (length session.done) == suc (length (session_at state number).done))) None (Some (label_of marked session)))
+      (ne_eqb marked number apart)
       ∙ sym (ap (λ (b : Bool). cond b None (Some (label_of marked session))) (ne_eqb marked number apart))
 ]
 
 other_marked : (state : State) (number : ℕ) (mark : Option ℕ)
-    → other_than (label_of number (session_at state number)) (option_map (λ marked. label_of marked (session_at state marked)) mark) ≡ blocker_of state number mark
+    → other_than (label_of number (session_at state number)) (option_map
+    (λ marked. label_of marked (session_at state marked)) mark) ≡ blocker_of state number mark
 other_marked state number None = refl
 other_marked state number (Some marked) = other_label state number marked
 

@@ -21,7 +21,8 @@ record BeganBefore (state : State) (rank : ℕ) (begun : Begun) : Type 0 where
   there : IsAtOrOpen state rank begun
   before : begun.prefix ≤ rank
 
-began : (setting : Setting) (state : State) (rank : ℕ) (label : Label) (begun : Begun) → Kept setting state → IsRanked state rank label begun → BeganBefore state rank begun
+began : (setting : Setting) (state : State) (rank : ℕ) (label : Label) (begun : Begun) → Kept setting state → IsRanked state rank label begun
+    → BeganBefore state rank begun
 began setting state rank label begun kept (committed before finished txn is ends) = record {
   there = ended label.session before finished is ends;
   before = (kept.starts.ended label.session before finished rank is ends).1;
@@ -40,7 +41,8 @@ unchanged (Some row) (Some cell) e f = absurd cc
 
 pub is_changed : (setting : Setting) (state : State) (table pos : ℕ) → Kept setting state → (number : ℕ) (current : Open) → IsNow state number current
     → (row : List Value) → item_at (snapshot setting state current.begun.prefix) table pos ≡ Some row
-    → (rank : ℕ) (entry : Entry) → slice_get state.order rank ≡ Some entry → has_pair table pos entry ≡ true → current.begun.prefix ≤ rank → rank < length state.order
+    → (rank : ℕ) (entry : Entry) → slice_get state.order rank ≡ Some entry → has_pair table pos entry ≡ true → current.begun.prefix ≤ rank
+    → rank < length state.order
     → ((other : ℕ) (later : Entry) → rank < other → slice_get state.order other ≡ Some later → has_pair table pos later ≡ false)
     → changes_row (item_at entry.cells table pos) ≡ true
 is_changed setting state table pos kept number current is row sees rank entry stands wrote since within last =
@@ -57,7 +59,8 @@ is_changed setting state table pos kept number current is row sees rank entry st
         let begun : Begun = found.0 in
         let pair : item_at entry.cells table pos ≡ pair_of (item_at (snapshot setting state rank) table pos) (item_at begun.own table pos) =
         kept.entries_are rank entry begun stands found.1 table pos in
-        let none = unchanged (item_at (snapshot setting state rank) table pos) (item_at begun.own table pos) (sym (ap is_some pair) ∙ wrote) (sym (ap changes_row pair) ∙ isnt) in
+        let none = unchanged (item_at (snapshot setting state rank) table pos) (item_at begun.own table pos) (sym (ap is_some pair) ∙ wrote) (sym
+        (ap changes_row pair) ∙ isnt) in
         let when = began setting state rank entry.label begun kept found.1 in
         let quiet = λ (other : ℕ) (earlier : Entry) (l : begun.prefix ≤ other) (m : other < rank) (e : slice_get state.order other ≡ Some earlier).
         kept.positions_are_own.committed rank other entry earlier begun stands found.1 l m e table pos none.0 in

@@ -1,5 +1,6 @@
 -- A position is free by the watermark exactly where it is free in the machine.
-use Rattle.std.proofs.Common.{◌≡◌, ◌⊎◌, ℕ, ◌+◌, ◌-◌, ◌<◌, ◌≤◌, List, [], ◌∷◌, length, take, drop, get_or, Option, None, Some, Bool, true, false, not, refl, sym, ap, ◌∙◌, arith, inl, inr, cond}
+use Rattle.std.proofs.Common.{◌≡◌, ◌⊎◌, ℕ, ◌+◌, ◌-◌, ◌<◌, ◌≤◌, List, [], ◌∷◌, length, take, drop, get_or, Option, None, Some, Bool, true}
+use Rattle.std.proofs.Common.{false, not, refl, sym, ap, ◌∙◌, arith, inl, inr, cond}
 use Rattle.std.specs.Prelude.{slice_get, is_some, unwrap_or, ◌||◌, ◌&&◌, nat_lt, ◌==◌}
 use Rattle.std.specs.List.{list_any}
 use Rattle.std.proofs.lemmas.Bool.{cases_Bool, cases_lt, cases_eq, lt-ltb, le-ltb, or_right}
@@ -126,7 +127,8 @@ module _ (setting : Setting) (state : State) (core : CoreData) (sessions : List 
   shows : OpenShows setting state core number now current
   shows = open_shown setting state core sessions number session now current shown.sessions_show is
 
-  used_if : ((is_some (item_at (opening_tables setting) table pos) ≡ true) ⊎ ((list_any (has_pair table pos) state.order ≡ true) ⊎ (is_held setting state table pos ≡ true)))
+  used_if : ((is_some (item_at (opening_tables setting) table pos) ≡ true) ⊎
+      ((list_any (has_pair table pos) state.order ≡ true) ⊎ (is_held setting state table pos ≡ true)))
       → place.used ≡ true
   used_if why = shown.place_shows.used_shows
       ∙ or_three (is_some (item_at (opening_tables setting) table pos)) (list_any (has_pair table pos) state.order) (is_held setting state table pos) why
@@ -158,7 +160,8 @@ module _ (setting : Setting) (state : State) (core : CoreData) (sessions : List 
       let one = any_at (λ (each : Session). holds setting table pos each.now) state.sessions held in
       let at : holds setting table pos (session_at state one.0).now ≡ true =
       ap (λ (each : Session). holds setting table pos each.now) (get_or_from_slice_get state.sessions one.0 one.1.0 fresh one.1.1.0) ∙ one.1.1.1 in
-      not_free place.used place.version.live (is_older watermark (newest place.chain)) (nat_lt place.death watermark) (used_if (inr (inr held))) (inr (inl (held_older one.0 at)))
+      not_free place.used place.version.live (is_older watermark (newest place.chain)) (nat_lt place.death watermark) (used_if (inr (inr held))) (inr
+      (inl (held_older one.0 at)))
       ∙ sym (not_free_there (is_held setting state table pos) row wrote (inl held))
 
   -- ---- nobody holds it
@@ -173,7 +176,8 @@ module _ (setting : Setting) (state : State) (core : CoreData) (sessions : List 
     none_own : NoneOwn setting state sessions table chunk place
     none_own stamp e own = nobody_holds own.number (top_holds setting state core sessions table chunk pos place shown stamp e own)
 
-    counts : (rank : ℕ) (entry : Entry) → slice_get state.order rank ≡ Some entry → has_pair table pos entry ≡ true → rank < entries_counted setting state table chunk
+    counts : (rank : ℕ) (entry : Entry) → slice_get state.order rank ≡ Some entry → has_pair table pos entry ≡ true
+        → rank < entries_counted setting state table chunk
     counts = writer_counts setting state table chunk pos shown.kept nobody_holds
 
     abbrev last_cell : Cell
@@ -198,8 +202,10 @@ module _ (setting : Setting) (state : State) (core : CoreData) (sessions : List 
         all_count : last_cell ≡ item_at (snapshot setting state (entries_counted setting state table chunk)) table pos
         all_count = elim (cases_lt (length state.order) (entries_counted setting state table chunk)) [
           | inl more ↦ ap (λ (order : List Entry). item_at (history (opening_tables setting) order) table pos)
-              (take_all (length state.order) state.order (omega arith) ∙ sym (take_all (entries_counted setting state table chunk) state.order (omega (arith, more))))
-          | inr few ↦ cell_stays setting state table pos (entries_counted setting state table chunk) (length state.order) few (omega arith) (λ rank entry l m e.
+              (take_all (length state.order) state.order (omega arith) ∙ sym
+              (take_all (entries_counted setting state table chunk) state.order (omega (arith, more))))
+          | inr few ↦ cell_stays setting state table pos (entries_counted setting state table chunk) (length state.order) few (omega arith)
+              (λ rank entry l m e.
               elim (cases_Bool (has_pair table pos entry)) [
                 | inr no' ↦ no'
                 | inl yes' ↦ let c = counts rank entry e yes' in absurd (omega (arith, l, c))
@@ -207,7 +213,8 @@ module _ (setting : Setting) (state : State) (core : CoreData) (sessions : List 
         ]
 
     -- the last writer, where it left no row, gives the death time
-    death_is : (last : IsLastOf (has_pair table pos) state.order) → last_cell ≡ None → (entry : Noted) → slice_get core.entries last.rank ≡ Some entry → place.death ≡ entry.time
+    death_is : (last : IsLastOf (has_pair table pos) state.order) → last_cell ≡ None → (entry : Noted) → slice_get core.entries last.rank ≡ Some entry
+        → place.death ≡ entry.time
     death_is last gone entry stands =
         let left = leaves setting state table pos has last in
         let n : ℕ = entries_counted setting state table chunk in
@@ -215,7 +222,8 @@ module _ (setting : Setting) (state : State) (core : CoreData) (sessions : List 
         shown.place_shows.death_shows
         ∙ ap (λ (o : Option ℕ). unwrap_or o 0)
         (last_some_at (emptied_at table pos) (take n core.entries) last.rank entry entry.time (taken_get n core.entries last.rank below ∙ stands)
-        (emptied state.order core.entries table pos last.rank last.item entry left.pair shown.core_shows.entries_show last.stands stands left.pair_is (sym left.after ∙ gone))
+        (emptied state.order core.entries table pos last.rank last.item entry left.pair shown.core_shows.entries_show last.stands stands left.pair_is
+        (sym left.after ∙ gone))
         (λ other later less e.
         let there : slice_get core.entries other ≡ Some later = sym (taken_get n core.entries other (taken_below n core.entries other later e)) ∙ e in
         let count = shown.core_shows.entries_show.count in
@@ -226,7 +234,8 @@ module _ (setting : Setting) (state : State) (core : CoreData) (sessions : List 
         not_emptied state.order core.entries table pos other one later shown.core_shows.entries_show one_stands there (last.last other one less one_stands)))
 
     -- an entry from the low prefix on wrote it
-    wrote_case : IsLastOf (has_pair table pos) (drop current.begun.low state.order) → is_free watermark place ≡ is_free_there setting state current.begun table pos
+    wrote_case : IsLastOf (has_pair table pos) (drop current.begun.low state.order)
+        → is_free watermark place ≡ is_free_there setting state current.begun table pos
     wrote_case found =
         let low : ℕ = current.begun.low in
         let stands : slice_get state.order (low + found.rank) ≡ Some found.item = sym (dropped_get low state.order found.rank) ∙ found.stands in
@@ -249,7 +258,8 @@ module _ (setting : Setting) (state : State) (core : CoreData) (sessions : List 
               le-ltb place.death watermark (omega (arith, death, late))
               ))
         ])
-        ∙ sym (not_free_there (is_held setting state table pos) row wrote (inr (inr (any_true (has_pair table pos) (drop low state.order) found.rank found.item found.stands found.passes))))
+        ∙ sym (not_free_there (is_held setting state table pos) row wrote
+        (inr (inr (any_true (has_pair table pos) (drop low state.order) found.rank found.item found.stands found.passes))))
 
     -- no entry from the low prefix on wrote it
     quiet_case : ((k : ℕ) (entry : Entry) → slice_get (drop current.begun.low state.order) k ≡ Some entry → has_pair table pos entry ≡ false)
@@ -263,7 +273,8 @@ module _ (setting : Setting) (state : State) (core : CoreData) (sessions : List 
           | inr gone ↦
               free_if place.used place.version.live (is_older watermark (newest place.chain)) (nat_lt place.death watermark)
               (λ used. (in_place_live ∙ ap is_some (same ∙ gone), (older, dead (same ∙ gone) used)))
-              ∙ sym (free_there_if (is_held setting state table pos) row wrote free (ap is_some gone) (any_false (has_pair table pos) (drop current.begun.low state.order) quiet))
+              ∙ sym (free_there_if (is_held setting state table pos) row wrote free (ap is_some gone)
+              (any_false (has_pair table pos) (drop current.begun.low state.order) quiet))
         ]
       where
         low : ℕ
@@ -310,7 +321,8 @@ module _ (setting : Setting) (state : State) (core : CoreData) (sessions : List 
           | inl none ↦ absurd (
               let quiet_order = any_false (has_pair table pos) state.order none in
               let first : is_some (item_at (opening_tables setting) table pos) ≡ false = ap is_some (sym (first_cell quiet_order) ∙ gone) in
-              let f : place.used ≡ false = shown.place_shows.used_shows ∙ none_of (is_some (item_at (opening_tables setting) table pos)) (list_any (has_pair table pos) state.order) (is_held setting state table pos) first quiet_order free in
+              let f : place.used ≡ false = shown.place_shows.used_shows ∙ none_of (is_some (item_at (opening_tables setting) table pos)) (list_any
+              (has_pair table pos) state.order) (is_held setting state table pos) first quiet_order free in
               let g = sym used ∙ f in cc)
           | inr last ↦
               let entry = has_entry setting state core sessions table chunk pos place shown last.rank last.item last.stands in

@@ -1,5 +1,6 @@
 -- Who holds a position: sessions of the machine, and the same in the engine.
-use Rattle.std.proofs.Common.{◌≡◌, ◌⊎◌, ℕ, zero, suc, ◌+◌, ◌-◌, ◌≤◌, List, [], ◌∷◌, length, get_or, Option, None, Some, Bool, true, false, not, refl, sym, ap, ◌∙◌, subst, arith, inl, inr, cond}
+use Rattle.std.proofs.Common.{◌≡◌, ◌⊎◌, ℕ, zero, suc, ◌+◌, ◌-◌, ◌≤◌, List, [], ◌∷◌, length, get_or, Option, None, Some, Bool, true, false}
+use Rattle.std.proofs.Common.{not, refl, sym, ap, ◌∙◌, subst, arith, inl, inr, cond}
 use Rattle.std.specs.Prelude.{slice_get, ◌&&◌, ◌==◌}
 use Rattle.std.proofs.lemmas.Bool.{cases_Bool, cases_eq, cases_lt, ne_eqb, eq-eqb}
 use Rattle.std.proofs.lemmas.Option.{same_Some, slice_get_within, slice_get-get_or}
@@ -27,7 +28,8 @@ use Rattle.hy_shows.specs.Kept.{Fits}
 
 -- nobody but a session holds a position, or this one does
 pub data Holder (setting : Setting) (number table pos first : ℕ) (sessions : List Session) (found : Option Label) : Type 0 where
-  nobody : found ≡ None → ((k : ℕ) (session : Session) → slice_get sessions k ≡ Some session → (first + k ≡ number → ⊥) → holds setting table pos session.now ≡ false)
+  nobody : found ≡ None
+      → ((k : ℕ) (session : Session) → slice_get sessions k ≡ Some session → (first + k ≡ number → ⊥) → holds setting table pos session.now ≡ false)
       → Holder setting number table pos first sessions found
   somebody : (k : ℕ) (session : Session) → slice_get sessions k ≡ Some session → (first + k ≡ number → ⊥) → holds setting table pos session.now ≡ true
       → found ≡ Some (label_of (first + k) session) → Holder setting number table pos first sessions found
@@ -40,7 +42,8 @@ second_false : (x y : Bool) → (not x && y) ≡ false → x ≡ false → y ≡
 second_false true y e f = absurd cc
 second_false false y e f = e
 
-pub holder_cases : (setting : Setting) (number table pos first : ℕ) (sessions : List Session) → Holder setting number table pos first sessions (holder_from setting number table pos first sessions)
+pub holder_cases : (setting : Setting) (number table pos first : ℕ) (sessions : List Session)
+    → Holder setting number table pos first sessions (holder_from setting number table pos first sessions)
 holder_cases setting number table pos first [] = nobody refl (λ k session e. absurd cc)
 holder_cases setting number table pos first (session ∷ sessions) =
     elim (cases_Bool (not (first == number) && holds setting table pos session.now)) [
@@ -70,7 +73,8 @@ holder_cases setting number table pos first (session ∷ sessions) =
         → Holder setting number table pos first (session ∷ sessions) (holder_from setting number table pos first (session ∷ sessions))
     later e not_here (nobody none all) = nobody (e ∙ none) quiet
       where
-        quiet : (k : ℕ) (other : Session) → slice_get (session ∷ sessions) k ≡ Some other → (first + k ≡ number → ⊥) → holds setting table pos other.now ≡ false
+        quiet : (k : ℕ) (other : Session) → slice_get (session ∷ sessions) k ≡ Some other → (first + k ≡ number → ⊥)
+            → holds setting table pos other.now ≡ false
         quiet zero other g apart =
             subst (λ (one : Session). holds setting table pos one.now ≡ false) (same_Some session other g)
             (second_false (first == number) (holds setting table pos session.now) not_here (ne_eqb first number (λ s. apart (omega (arith, s)))))
@@ -118,7 +122,8 @@ opened setting state core sessions number current fits shows e =
     by_now session found session.now refl
     (subst (λ (there : Option Current). NowShows setting state core number session.now there) e (shows.each number session found).now_shows)
   where
-    by_now : (session : SessionData) → slice_get sessions number ≡ Some session → (now : Option Open) → session.now ≡ now → NowShows setting state core number now (Some current)
+    by_now : (session : SessionData) → slice_get sessions number ≡ Some session → (now : Option Open) → session.now ≡ now
+        → NowShows setting state core number now (Some current)
         → Opened state sessions number current
     by_now session found None is n = absurd n
     by_now session found (Some now) is n = record { session = session; now = now; is_open = record { found = found; open_here = is; open_there = e } }

@@ -1,5 +1,6 @@
 -- What the last writer of a position leaves there.
-use Rattle.std.proofs.Common.{◌≡◌, ℕ, zero, suc, ◌<◌, List, [], ◌∷◌, length, take, get_or, Option, None, Some, Bool, true, false, refl, sym, ap, ◌∙◌, arith, inl, inr, cond}
+use Rattle.std.proofs.Common.{◌≡◌, ℕ, zero, suc, ◌<◌, List, [], ◌∷◌, length, take, get_or, Option, None, Some, Bool, true}
+use Rattle.std.proofs.Common.{false, refl, sym, ap, ◌∙◌, arith, inl, inr, cond}
 use Rattle.std.specs.Prelude.{slice_get, is_some, ◌||◌}
 use Rattle.std.specs.List.{list_any}
 use Rattle.std.proofs.lemmas.Bool.{cases_Bool, or_left, or_right}
@@ -82,7 +83,8 @@ stays_along tables (entry ∷ order) table pos has = stays_along (after_entry ta
 
 -- ---- the cell that a writer leaves
 
-item_over : {B : Type 0} (f : B → Cell) (cells : List Cell) (others : List (Option B)) (pos : ℕ) (item : B) → get_or others pos None ≡ Some item → pos < length cells
+item_over : {B : Type 0} (f : B → Cell) (cells : List Cell) (others : List (Option B)) (pos : ℕ) (item : B) → get_or others pos None ≡ Some item
+    → pos < length cells
     → get_or (overlaid (covered f) cells others) pos None ≡ f item
 item_over f [] others pos item e below = absurd (omega (arith, below))
 item_over f (cell ∷ cells) [] pos item e below = absurd cc

@@ -1,5 +1,6 @@
 -- Before anything has happened the parts and the sessions show the machine's opening.
-use Rattle.std.proofs.Common.{◌≡◌, ℕ, zero, suc, ◌+◌, ◌*◌, List, [], ◌∷◌, length, map, get_or, Option, None, Some, Bool, false, true, refl, sym, ap, ◌∙◌, subst, arith}
+use Rattle.std.proofs.Common.{◌≡◌, ℕ, zero, suc, ◌+◌, ◌*◌, List, [], ◌∷◌, length, map, get_or, Option, None, Some, Bool}
+use Rattle.std.proofs.Common.{false, true, refl, sym, ap, ◌∙◌, subst, arith}
 use Rattle.std.specs.Prelude.{sum_by, ◌||◌, is_some}
 use Rattle.std.specs.List.{list_any}
 use Rattle.std.proofs.lemmas.List.Sums.{sum_by-cons}
@@ -43,7 +44,8 @@ none_begun (txns ∷ programs) =
     let e = sum_by-cons (λ (session : Session). length session.done + count_open session.now) fresh (map (λ txns. fresh) programs) in
     omega (arith, rest, e)
 
-none_held : (setting : Setting) (table pos : ℕ) (programs : List (List Txn)) → list_any (λ (session : Session). holds setting table pos session.now) (map (λ txns. fresh) programs) ≡ false
+none_held : (setting : Setting) (table pos : ℕ) (programs : List (List Txn))
+    → list_any (λ (session : Session). holds setting table pos session.now) (map (λ txns. fresh) programs) ≡ false
 none_held setting table pos [] = refl
 none_held setting table pos (txns ∷ programs) = none_held setting table pos programs
 
@@ -76,11 +78,13 @@ core_shown setting sessions = record {
   mark_shows = record { mark = refl; stamping = λ number session now current is. absurd (none_open setting sessions number session now current is) };
 }
 
-session_shown : (setting : Setting) (number : ℕ) (session : SessionData) → IsFresh setting number session → SessionShows setting (opening_of setting) blank_core number session
+session_shown : (setting : Setting) (number : ℕ) (session : SessionData) → IsFresh setting number session
+    → SessionShows setting (opening_of setting) blank_core number session
 session_shown setting number session is = record {
   session_is = is.session_is;
   done_shows = is.done ∙ ap (λ (one : Session). outcomes_from setting number 0 one.done) (sym (fresh_at setting number));
-  now_shows = subst (λ (now : Option Open). NowShows setting (opening_of setting) blank_core number now (session_at (opening_of setting) number).now) (sym is.now)
+  now_shows = subst (λ (now : Option Open). NowShows setting (opening_of setting) blank_core number now (session_at (opening_of setting) number).now)
+      (sym is.now)
       (subst (λ (one : Session). NowShows setting (opening_of setting) blank_core number None one.now) (sym (fresh_at setting number)) tt);
 }
 
@@ -100,7 +104,8 @@ place_shown setting sessions table chunk pos place is = record {
   last_writer_on_top = λ rank entered entry last e number session now current open'. absurd (none_open setting sessions number session now current open');
   viewer_sees = λ number session now current open'. absurd (none_open setting sessions number session now current open');
   newcomer_sees = λ viewer new. ap (λ (chain : List (Undo Image)). cell_of (seen before viewer place.version chain)) is.chain ∙ is.row;
-  used_shows = is.used ∙ or_nothing (is_some (item_at (opening_tables setting) table pos)) (list_any (λ (session : Session). holds setting table pos session.now) (map (λ txns. fresh) setting.programs)) (none_held setting table pos setting.programs);
+  used_shows = is.used ∙ or_nothing (is_some (item_at (opening_tables setting) table pos)) (list_any
+      (λ (session : Session). holds setting table pos session.now) (map (λ txns. fresh) setting.programs)) (none_held setting table pos setting.programs);
   death_shows = is.death;
 }
 
@@ -113,5 +118,6 @@ opening_shown setting parts sessions is = record {
     count = is.count;
     each = λ number session e. session_shown setting number session (is.each number session e);
   };
-  places_show = λ table chunk index part place of e. place_shown setting sessions table chunk (chunk * setting.rows + index) place (is.places table chunk index part place of e);
+  places_show = λ table chunk index part place of e. place_shown setting sessions table chunk (chunk * setting.rows + index) place
+      (is.places table chunk index part place of e);
 }

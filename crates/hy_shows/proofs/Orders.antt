@@ -1,5 +1,6 @@
 -- The commit order: its last entry that does something, and positions that its entries don't write.
-use Rattle.std.proofs.Common.{◌≡◌, ◌⊎◌, ℕ, zero, suc, ◌+◌, ◌-◌, ◌<◌, ◌≤◌, List, [], ◌∷◌, length, take, drop, get_or, Option, None, Some, Bool, true, false, refl, ap, ◌∙◌, subst, arith, inl, inr, cond}
+use Rattle.std.proofs.Common.{◌≡◌, ◌⊎◌, ℕ, zero, suc, ◌+◌, ◌-◌, ◌<◌, ◌≤◌, List, [], ◌∷◌, length, take, drop, get_or, Option, None, Some, Bool}
+use Rattle.std.proofs.Common.{true, false, refl, ap, ◌∙◌, subst, arith, inl, inr, cond}
 use Rattle.std.specs.Prelude.{slice_get, is_some}
 use Rattle.std.specs.Option.{option_or}
 use Rattle.std.proofs.lemmas.Bool.{cases_Bool}
@@ -44,7 +45,8 @@ last_or_none {A} test (x ∷ xs) = elim (last_or_none test xs) [
     further found zero later less e = absurd (omega (arith, less))
     further found (suc other) later less e = found.last other later (omega (arith, less)) e
 
-    first : ((k : ℕ) (y : A) → slice_get xs k ≡ Some y → test y ≡ false) → (other : ℕ) (later : A) → zero < other → slice_get (x ∷ xs) other ≡ Some later → test later ≡ false
+    first : ((k : ℕ) (y : A) → slice_get xs k ≡ Some y → test y ≡ false) → (other : ℕ) (later : A) → zero < other → slice_get (x ∷ xs) other ≡ Some later
+        → test later ≡ false
     first none zero later less e = absurd (omega (arith, less))
     first none (suc other) later less e = none other later e
 
@@ -102,7 +104,8 @@ still setting state table pos from (suc more) within none =
     let rank : ℕ = from + more in
     let below : rank < length state.order = omega (arith, within) in
     let entry : Entry = get_or state.order rank (record { label = record { session = 0; txn = 0 }; cells = [] }) in
-    let stands : slice_get state.order rank ≡ Some entry = slice_get-get_or state.order rank (record { label = record { session = 0; txn = 0 }; cells = [] }) below in
+    let stands : slice_get state.order rank ≡ Some entry = slice_get-get_or state.order rank
+    (record { label = record { session = 0; txn = 0 }; cells = [] }) below in
     ap (λ (n : ℕ). item_at (snapshot setting state n) table pos) (let e : from + suc more ≡ suc rank = omega arith in e)
     ∙ (ap (λ (tables : Tables). item_at tables table pos) (history_next (opening_tables setting) state.order rank entry stands)
     ∙ (tables_over (λ (pair : Pair). pair.after) (snapshot setting state rank) entry.cells table pos

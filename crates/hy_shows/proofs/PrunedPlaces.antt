@@ -32,7 +32,8 @@ top_of [] stamp e = absurd (cc)
 top_of (undo ∷ chain) stamp e = (stamps_of chain, (let same : undo.stamp ≡ stamp = cc in ap (λ (s : Stamp). s ∷ stamps_of chain) same))
 
 -- what pruning leaves of a chain from this stamp on
-late_of : KeepsStamps both → (cover : Cover) (chain : List (Undo Image)) (stamp : Stamp) (rest : List Stamp) → stamps_of chain ≡ stamp ∷ rest → cover.next ≤ stamp.mark
+late_of : KeepsStamps both → (cover : Cover) (chain : List (Undo Image)) (stamp : Stamp) (rest : List Stamp) → stamps_of chain ≡ stamp ∷ rest
+    → cover.next ≤ stamp.mark
     → (others : List Stamp) × (stamps_of (pruned both cover chain) ≡ stamp ∷ others) × ((other : Stamp) → Contains others other → Contains rest other)
 late_of keeps cover [] stamp rest e late = absurd (cc)
 late_of keeps cover (undo ∷ chain) stamp rest e late =
@@ -44,7 +45,8 @@ late_of keeps cover (undo ∷ chain) stamp rest e late =
       λ other c. subst (λ (xs : List Stamp). Contains xs other) behind (keeps.made_none cover chain other c),
     )
 
-newest_of : KeepsStamps both → (cover : Cover) (chain : List (Undo Image)) (stamp : Stamp) (rest : List Stamp) → stamps_of chain ≡ stamp ∷ rest → 0 < group cover stamp.mark
+newest_of : KeepsStamps both → (cover : Cover) (chain : List (Undo Image)) (stamp : Stamp) (rest : List Stamp) → stamps_of chain ≡ stamp ∷ rest
+    → 0 < group cover stamp.mark
     → (others : List Stamp) × (stamps_of (pruned both cover chain) ≡ stamp ∷ others)
 newest_of keeps cover [] stamp rest e some = absurd (cc)
 newest_of keeps cover (undo ∷ chain) stamp rest e some =
@@ -52,7 +54,8 @@ newest_of keeps cover (undo ∷ chain) stamp rest e some =
     let covered : 0 < group cover undo.stamp.mark = subst (λ (s : Stamp). 0 < group cover s.mark) (sym same) some in
     top_of (pruned both cover (undo ∷ chain)) stamp (keeps.newest_stays cover undo chain covered ∙ ap (λ (s : Stamp). Some s) same)
 
-second_of : KeepsStamps both → (cover : Cover) (chain : List (Undo Image)) (stamp top : Stamp) (rest : List Stamp) → stamps_of chain ≡ stamp ∷ top ∷ rest → cover.next ≤ stamp.mark
+second_of : KeepsStamps both → (cover : Cover) (chain : List (Undo Image)) (stamp top : Stamp) (rest : List Stamp) → stamps_of chain ≡ stamp ∷ top ∷ rest
+    → cover.next ≤ stamp.mark
     → (cover.next ≤ top.mark) ⊎ (0 < group cover top.mark) → (others : List Stamp) × (stamps_of (pruned both cover chain) ≡ stamp ∷ top ∷ others)
 second_of keeps cover [] stamp top rest e late why = absurd (cc)
 second_of keeps cover (undo ∷ chain) stamp top rest e late why =

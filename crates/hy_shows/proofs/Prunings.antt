@@ -66,7 +66,8 @@ module _ (setting : Setting) (state : State) (core : CoreData) (sessions : List 
     (low : IsBelowIds core) (core_shows : CoreShows state core sessions) (held : IsHeld core cover)
     (shows : PlaceShows setting state core sessions table chunk pos old) (p : Pruned cover old new) (t : Tells cover old new) where
   -- each stamp is an open transaction's own or a writer's
-  known : (stamp : Stamp) → Contains (stamps old) stamp → IsOwnStamp setting state sessions table chunk stamp ⊎ IsOfWriter setting state core table chunk pos stamp
+  known : (stamp : Stamp) → Contains (stamps old) stamp
+      → IsOwnStamp setting state sessions table chunk stamp ⊎ IsOfWriter setting state core table chunk pos stamp
   known stamp c = elim (empty_or (stamps old)) [
     | inl none ↦ absurd (nothing stamp (subst (λ (xs : List Stamp). Contains xs stamp) none c))
     | inr some ↦ elim (here_or some.0 stamp some.1.0 (subst (λ (xs : List Stamp). Contains xs stamp) some.1.1 c)) [
@@ -145,14 +146,16 @@ module _ (setting : Setting) (state : State) (core : CoreData) (sessions : List 
       | inr late ↦
           let past = held.past in
           let stays = t.late was.0 was.1.0 was.1.1 (omega (arith, past, late)) in
-          ap (is_own (id_of (label_of session))) (first_newest new.chain was.0 stays.others stays.stamps_are ∙ sym (first_newest old.chain was.0 was.1.0 was.1.1))
+          ap (is_own (id_of (label_of session))) (first_newest new.chain was.0 stays.others stays.stamps_are ∙ sym
+          (first_newest old.chain was.0 was.1.0 was.1.1))
       | inl early ↦
           none_comes_up session was.0 was.1.0 was.1.1 early
           ∙ sym (ap (is_own (id_of (label_of session))) (first_newest old.chain was.0 was.1.0 was.1.1) ∙ not_early session was.0 early)
     ]
   ]
 
-  own_head : (number : ℕ) (session : SessionData) (now : Open) (current : Current) → OwnHead setting table pos old session current → OwnHead setting table pos new session current
+  own_head : (number : ℕ) (session : SessionData) (now : Open) (current : Current) → OwnHead setting table pos old session current
+      → OwnHead setting table pos new session current
   own_head number session now current had = record {
     holds_it = own_stays session ∙ had.holds_it;
     owner = λ stamp e mark.
@@ -207,7 +210,8 @@ module _ (setting : Setting) (state : State) (core : CoreData) (sessions : List 
                     ap (newest_below core.next) stays.1 ∙ below_here core.next top stays.0 few
               ]
           | inr late ↦
-              let rest : newest_below core.next some.1.0 ≡ Some top = sym (ap (newest_below core.next) some.1.1 ∙ below_later core.next some.0 some.1.0 late) ∙ was in
+              let rest : newest_below core.next some.1.0 ≡ Some top = sym (ap (newest_below core.next) some.1.1
+              ∙ below_later core.next some.0 some.1.0 late) ∙ was in
               elim (empty_or some.1.0) [
                 | inl none ↦ absurd (let e : None ≡ Some top = sym (ap (newest_below core.next) none) ∙ rest in cc)
                 | inr second ↦

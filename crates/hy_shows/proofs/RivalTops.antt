@@ -1,5 +1,6 @@
 -- The newest stamp of a position, and the rival that it names.
-use Rattle.std.proofs.Common.{◌≡◌, ◌⊎◌, ℕ, ◌<◌, ◌≤◌, List, [], ◌∷◌, get_or, Option, None, Some, Bool, true, false, refl, sym, ap, ◌∙◌, subst, arith, inl, inr, cond}
+use Rattle.std.proofs.Common.{◌≡◌, ◌⊎◌, ℕ, ◌<◌, ◌≤◌, List, [], ◌∷◌, get_or, Option, None, Some, Bool, true, false, refl}
+use Rattle.std.proofs.Common.{sym, ap, ◌∙◌, subst, arith, inl, inr, cond}
 use Rattle.std.specs.Prelude.{slice_get, nat_lt, ◌||◌, ◌==◌}
 use Rattle.std.proofs.lemmas.Bool.{cases_lt, ne_eqb, eq-eqb, eqb-true, lt-ltb, le-ltb, or_left, or_right}
 use Rattle.std.proofs.lemmas.Option.{same_Some, slice_get_within, slice_get-get_or}
@@ -30,14 +31,16 @@ use Rattle.hy_shows.proofs.Stamps.{newest_first, below_here}
 
 -- ---- the rival that a stamp names
 
-pub rival_late : (viewer : Viewer) (chain : List (Undo Image)) (stamp : Stamp) → newest chain ≡ Some stamp → (stamp.mark ≡ viewer.id → ⊥) → viewer.start ≤ stamp.mark
+pub rival_late : (viewer : Viewer) (chain : List (Undo Image)) (stamp : Stamp) → newest chain ≡ Some stamp → (stamp.mark ≡ viewer.id → ⊥)
+    → viewer.start ≤ stamp.mark
     → rival viewer chain ≡ Some stamp.owner
 rival_late viewer chain stamp e other late =
     ap (rival_by viewer) e
     ∙ (ap (λ (b : Bool). cond (b || nat_lt stamp.mark viewer.start) None (Some stamp.owner)) (ne_eqb stamp.mark viewer.id other)
     ∙ ap (λ (b : Bool). cond b None (Some stamp.owner)) (le-ltb stamp.mark viewer.start late))
 
-pub rival_early : (viewer : Viewer) (chain : List (Undo Image)) (stamp : Stamp) → newest chain ≡ Some stamp → stamp.mark < viewer.start → rival viewer chain ≡ None
+pub rival_early : (viewer : Viewer) (chain : List (Undo Image)) (stamp : Stamp) → newest chain ≡ Some stamp → stamp.mark < viewer.start
+    → rival viewer chain ≡ None
 rival_early viewer chain stamp e early =
     ap (rival_by viewer) e
     ∙ ap (λ (b : Bool). cond b None (Some stamp.owner))
@@ -60,7 +63,8 @@ top_or_none (Some stamp) = inr (stamp, refl)
 
 -- ---- an open transaction that is shown
 
-pub open_shown : (setting : Setting) (state : State) (core : CoreData) (sessions : List SessionData) (number : ℕ) (session : SessionData) (now : Open) (current : Current)
+pub open_shown : (setting : Setting) (state : State) (core : CoreData) (sessions : List SessionData) (number : ℕ) (session : SessionData) (now : Open)
+    (current : Current)
     → SessionsShow setting state core sessions → IsOpen state sessions number session now current → OpenShows setting state core number now current
 open_shown setting state core sessions number session now current shows is =
     subst (λ (there : Option Current). NowShows setting state core number (Some now) there) is.open_there

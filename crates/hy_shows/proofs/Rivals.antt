@@ -1,5 +1,6 @@
 -- The newest record of a position names the machine's opponent.
-use Rattle.std.proofs.Common.{◌≡◌, ◌⊎◌, ℕ, ◌+◌, ◌-◌, ◌<◌, List, length, drop, Option, None, Some, Bool, true, false, refl, sym, ap, ◌∙◌, subst, arith, inl, inr, cond}
+use Rattle.std.proofs.Common.{◌≡◌, ◌⊎◌, ℕ, ◌+◌, ◌-◌, ◌<◌, List, length, drop, Option, None, Some, Bool, true, false, refl}
+use Rattle.std.proofs.Common.{sym, ap, ◌∙◌, subst, arith, inl, inr, cond}
 use Rattle.std.specs.Prelude.{slice_get, is_some}
 use Rattle.std.specs.Option.{option_or}
 use Rattle.std.proofs.lemmas.Bool.{cases_Bool, cases_lt, cases_eq, eq-eqb, and_from, and_parts}
@@ -54,9 +55,11 @@ record LastEntry (setting : Setting) (state : State) (marked : ℕ) (current : C
   stands : slice_get state.order (length state.order - 1) ≡ Some entry
   label : entry.label ≡ label_of marked (session_at state marked)
   some : 0 < length state.order
-  cells : (table pos : ℕ) → item_at entry.cells table pos ≡ pair_of (item_at (snapshot setting state (length state.order - 1)) table pos) (item_at current.begun.own table pos)
+  cells : (table pos : ℕ)
+      → item_at entry.cells table pos ≡ pair_of (item_at (snapshot setting state (length state.order - 1)) table pos) (item_at current.begun.own table pos)
 
-last_entry : (setting : Setting) (state : State) (marked : ℕ) (current : Current) → Kept setting state → state.mark ≡ Some marked → (session_at state marked).now ≡ Some current
+last_entry : (setting : Setting) (state : State) (marked : ℕ) (current : Current) → Kept setting state → state.mark ≡ Some marked
+    → (session_at state marked).now ≡ Some current
     → LastEntry setting state marked current
 last_entry setting state marked current kept mark is =
     let last = kept.ranks.last marked mark in
@@ -75,10 +78,12 @@ last_entry setting state marked current kept mark is =
     }
 
 -- what it wrote it holds
-marked_holds : (setting : Setting) (state : State) (marked : ℕ) (current : Current) (table pos : ℕ) → Kept setting state → (session_at state marked).now ≡ Some current
+marked_holds : (setting : Setting) (state : State) (marked : ℕ) (current : Current) (table pos : ℕ) → Kept setting state
+    → (session_at state marked).now ≡ Some current
     → is_stamping current.phase ≡ true → is_some (item_at current.begun.own table pos) ≡ true → holds setting table pos (Some current) ≡ true
 marked_holds setting state marked current table pos kept is stamping own =
-    and_from (is_some (item_at current.begun.own table pos)) (is_among (drop (undone current.phase) (written_chunks setting current.begun.own)) table (chunk_of setting pos)) own
+    and_from (is_some (item_at current.begun.own table pos)) (is_among (drop (undone current.phase) (written_chunks setting current.begun.own)) table
+    (chunk_of setting pos)) own
     (ap (λ (n : ℕ). is_among (drop n (written_chunks setting current.begun.own)) table (chunk_of setting pos)) (none_undone current.phase stamping)
     ∙ own_among setting current.begun.own table pos (kept.fits.opens marked current is).own own)
   where
@@ -127,7 +132,8 @@ held_by_other setting state core sessions table chunk pos place shown number ses
         (λ same. shown.kept.holders_apart number other (λ e. apart (sym e)) table pos
         (ap (holds setting table pos) is.open_there ∙ (sym mine.holds_it ∙ (ap (is_own (id_of (label_here session))) top.1.0 ∙ eq-eqb top.0.mark (id_of (label_here session)) same))) held_there)
         (omega (arith, low, early, mark))
-        ∙ ap (λ (l : Label). Some l) (head.owner top.0 top.1.0 top.1.1 ∙ same_label setting state core other open'.session (shown.sessions_show.each other open'.session open'.is_open.found))
+        ∙ ap (λ (l : Label). Some l) (head.owner top.0 top.1.0 top.1.1 ∙ same_label setting state core other open'.session
+        (shown.sessions_show.each other open'.session open'.is_open.found))
 
     by_entry : state.mark ≡ Some other → entries_counted setting state table chunk ≡ length state.order → LastEntry setting state other present
         → rival (viewer_of session now) place.chain ≡ Some (label_of other (session_at state other))
@@ -136,12 +142,14 @@ held_by_other setting state core sessions table chunk pos place shown number ses
         let since = shown.kept.none_began_since other mark number current is.open_there in
         let rank : ℕ = length state.order - 1 in
         let own : is_some (item_at present.begun.own table pos) ≡ true =
-        (and_parts (is_some (item_at present.begun.own table pos)) (is_among (drop (undone present.phase) (written_chunks setting present.begun.own)) table (chunk_of setting pos)) held).0 in
+        (and_parts (is_some (item_at present.begun.own table pos))
+        (is_among (drop (undone present.phase) (written_chunks setting present.begun.own)) table (chunk_of setting pos)) held).0 in
         let wrote : has_pair table pos last.entry ≡ true =
         ap is_some (last.cells table pos) ∙ pair_there (item_at (snapshot setting state rank) table pos) (item_at present.begun.own table pos) own in
         let none : NoneOwn setting state sessions table chunk place = λ stamp e one.
         elim (cases_eq one.number other) [
-          | inr away ↦ shown.kept.holders_apart one.number other away table pos (top_holds setting state core sessions table chunk pos place shown stamp e one) held_there
+          | inr away ↦ shown.kept.holders_apart one.number other away table pos
+              (top_holds setting state core sessions table chunk pos place shown stamp e one) held_there
           | inl same ↦ elim one.not_stamped [
             | inl unlike ↦ unlike (mark ∙ ap (λ (n : ℕ). Some n) (sym same))
             | inr un ↦ absurd (let c = ap (λ (b : Bool). cond b (length state.order - 1) (length state.order)) un in omega (arith, c, all, some))
@@ -184,7 +192,8 @@ all_or_marked setting state table chunk = elim (cases_Bool (is_unstamped setting
   where
     by_mark : (mark : Option ℕ) → state.mark ≡ mark → is_unstamped setting state table chunk ≡ true
         → (marked : ℕ) × ((state.mark ≡ Some marked) × (entries_counted setting state table chunk ≡ length state.order - 1))
-    by_mark None e un = absurd (let f : is_unstamped setting state table chunk ≡ false = ap (λ (mark : Option ℕ). is_unstamped_by setting state mark table chunk) e in let g = sym un ∙ f in cc)
+    by_mark None e un = absurd (let f : is_unstamped setting state table chunk ≡ false = ap
+        (λ (mark : Option ℕ). is_unstamped_by setting state mark table chunk) e in let g = sym un ∙ f in cc)
     by_mark (Some marked) e un = (marked, (e, ap (λ (b : Bool). cond b (length state.order - 1) (length state.order)) un))
 
 -- a writer counts where nobody holds the position: the marked session, which holds what it wrote, didn't write it
@@ -220,7 +229,8 @@ held_by_none setting state core sessions table chunk pos place shown number sess
     elim (last_or_none (has_pair table pos) (drop prefix state.order)) [
       | inl quiet ↦
           rival_none setting state core sessions table chunk pos place shown none_own number session now current is (λ rank entry since e.
-          quiet (rank - prefix) entry (dropped_get prefix state.order (rank - prefix) ∙ (ap (slice_get state.order) (let s : prefix + (rank - prefix) ≡ rank = omega (arith, since) in s) ∙ e)))
+          quiet (rank - prefix) entry (dropped_get prefix state.order (rank - prefix) ∙
+          (ap (slice_get state.order) (let s : prefix + (rank - prefix) ≡ rank = omega (arith, since) in s) ∙ e)))
           ∙ sym (last_some_none (changer_at table pos) (drop prefix state.order) (λ k entry e. changes_none table pos entry (quiet k entry e)))
       | inr found ↦ by_writer found
     ]
@@ -231,7 +241,8 @@ held_by_none setting state core sessions table chunk pos place shown number sess
     none_own : NoneOwn setting state sessions table chunk place
     none_own stamp e own = none own.number (top_holds setting state core sessions table chunk pos place shown stamp e own)
 
-    by_writer : IsLastOf (has_pair table pos) (drop prefix state.order) → rival (viewer_of session now) place.chain ≡ last_some (changer_at table pos) (drop prefix state.order)
+    by_writer : IsLastOf (has_pair table pos) (drop prefix state.order)
+        → rival (viewer_of session now) place.chain ≡ last_some (changer_at table pos) (drop prefix state.order)
     by_writer found =
         let rank : ℕ = prefix + found.rank in
         let stands : slice_get state.order rank ≡ Some found.item = sym (dropped_get prefix state.order found.rank) ∙ found.stands in
@@ -239,11 +250,13 @@ held_by_none setting state core sessions table chunk pos place shown number sess
         let last = λ (other : ℕ) (later : Entry) (less : rank < other) (e : slice_get state.order other ≡ Some later).
         found.last (other - prefix) later (omega (arith, less))
         (dropped_get prefix state.order (other - prefix) ∙ (ap (slice_get state.order) (let s : prefix + (other - prefix) ≡ other = omega (arith, less) in s) ∙ e)) in
-        let changed = is_changed setting state table pos shown.kept number current is.open_there row sees_row rank found.item stands found.passes (omega arith) within last in
+        let changed = is_changed setting state table pos shown.kept number current is.open_there row sees_row rank found.item stands found.passes
+        (omega arith) within last in
         rival_of_writer setting state core sessions table chunk pos place shown none_own number session now current is rank found.item
         (record { stands = stands; counts = writer_counts setting state table chunk pos shown.kept none rank found.item stands found.passes; wrote = found.passes; last = λ other later less below e. last other later less e })
         (omega arith)
-        ∙ sym (last_some_at (changer_at table pos) (drop prefix state.order) found.rank found.item found.item.label found.stands (changes_some table pos found.item changed)
+        ∙ sym (last_some_at (changer_at table pos) (drop prefix state.order) found.rank found.item found.item.label found.stands
+        (changes_some table pos found.item changed)
         (λ other later less e. changes_none table pos later (found.last other later less e)))
 
 -- ---- the rival
@@ -266,7 +279,8 @@ rivals_are setting state core sessions table chunk pos place shown number sessio
           held_by_none setting state core sessions table chunk pos place shown number session now current is
           (λ other held. elim (cases_eq other number) [
             | inl same ↦ absurd (let e : holds setting table pos (session_at state other).now ≡ false =
-                ap (λ (n : ℕ). holds setting table pos (session_at state n).now) same ∙ (ap (holds setting table pos) is.open_there ∙ not_held) in let f = sym held ∙ e in cc)
+                ap (λ (n : ℕ). holds setting table pos (session_at state n).now) same ∙ (ap (holds setting table pos) is.open_there
+                ∙ not_held) in let f = sym held ∙ e in cc)
             | inr apart ↦
                 let there = holder_open setting table pos (session_at state other).now held in
                 absurd (let e = sym held ∙ all other (session_at state other) (is_there state other there.0 there.1) (λ s. apart (omega (arith, s))) in cc)
@@ -281,7 +295,8 @@ rivals_are setting state core sessions table chunk pos place shown number sessio
         let there = holder_open setting table pos one.now held in
         let same : session_at state k ≡ one = get_or_from_slice_get state.sessions k one fresh e in
         let is_now : (session_at state k).now ≡ Some there.0 = ap (λ (s : Session). s.now) same ∙ there.1 in
-        held_by_other setting state core sessions table chunk pos place shown number session now current is unmarked k there.0 (λ s. apart (omega (arith, s))) is_now
+        held_by_other setting state core sessions table chunk pos place shown number session now current is unmarked k there.0 (λ s. apart
+        (omega (arith, s))) is_now
         (sym (ap (holds setting table pos) there.1) ∙ held)
         ∙ sym (ap (λ (o : Option Label). option_or o changed) (label
         ∙ (ap (λ (n : ℕ). Some (label_of n one)) (let s : 0 + k ≡ k = omega arith in s) ∙ ap (λ (s : Session). Some (label_of k s)) (sym same))))

@@ -30,7 +30,8 @@ IsEnded state number before finished = slice_get (session_at state number).done 
 
 -- a transaction is open, or is the one of the entry of this rank, which has ended
 pub data IsAtOrOpen (state : State) (rank : ℕ) : Begun → Type 0 where
-  ended : (number before : ℕ) (finished : Finished) → IsEnded state number before finished → finished.ending ≡ Committed rank → IsAtOrOpen state rank finished.begun
+  ended : (number before : ℕ) (finished : Finished) → IsEnded state number before finished → finished.ending ≡ Committed rank
+      → IsAtOrOpen state rank finished.begun
   at_work : (number : ℕ) (current : Open) → IsNow state number current → IsAtOrOpen state rank current.begun
 
 -- ---- the sentences
@@ -61,7 +62,8 @@ pub record Fits (setting : Setting) (state : State) : Type 0 where
 
 -- a watermark is at most its start, a start is at most the commit, and an open one's at most all entries
 pub record Starts (state : State) : Type 0 where
-  pub opens : (number : ℕ) (current : Open) → IsNow state number current → (current.begun.low ≤ current.begun.prefix) × (current.begun.prefix ≤ length state.order)
+  pub opens : (number : ℕ) (current : Open) → IsNow state number current
+      → (current.begun.low ≤ current.begun.prefix) × (current.begun.prefix ≤ length state.order)
   pub ended : (number before : ℕ) (finished : Finished) (rank : ℕ) → IsEnded state number before finished → finished.ending ≡ Committed rank
       → (finished.begun.low ≤ finished.begun.prefix) × (finished.begun.prefix ≤ rank)
 

@@ -34,7 +34,8 @@ pub record EntryShows (entered : Entered) (entry : Entry) : Type 0 where
 -- the journal is the commit order
 pub record EntriesShow (order : List Entered) (entries : List Entry) : Type 0 where
   pub count : length entries ≡ length order
-  pub each : (rank : ℕ) (entered : Entered) (entry : Entry) → slice_get order rank ≡ Some entered → slice_get entries rank ≡ Some entry → EntryShows entered entry
+  pub each : (rank : ℕ) (entered : Entered) (entry : Entry) → slice_get order rank ≡ Some entered → slice_get entries rank ≡ Some entry
+      → EntryShows entered entry
 
 -- ---- times
 

@@ -1,5 +1,6 @@
 -- What a position of a chunk shows: its marks, what viewers see there, whether it is used, when its row went.
-use Rattle.std.specs.Prelude.{◌≡◌, ◌≢◌, ◌⊎◌, ℕ, ◌<◌, ◌≤◌, List, [], ◌∷◌, Bool, true, false, ◌||◌, nat_lt, Option, None, Some, is_some, unwrap_or, Contains, slice_get, take, if◌then◌else◌}
+use Rattle.std.specs.Prelude.{◌≡◌, ◌≢◌, ◌⊎◌, ℕ, ◌<◌, ◌≤◌, List, [], ◌∷◌, Bool, true, false, ◌||◌, nat_lt, Option}
+use Rattle.std.specs.Prelude.{None, Some, is_some, unwrap_or, Contains, slice_get, take, if◌then◌else◌}
 use Rattle.std.specs.List.{list_any}
 use Rattle.hy_stamp.specs.declared.Stamp.{Stamp}
 use Rattle.hy_stamp.specs.declared.Viewer.{Viewer}
@@ -58,7 +59,8 @@ OwnHeads setting state sessions table chunk pos place = OfOpen state sessions (�
     HasNotStamped setting state number table chunk → OwnHead setting table pos place session current)
 
 -- the newest mark is an own one or the time of a writer, and all behind it are times of writers
-pub record TimesAreWriters (setting : Setting) (state : State) (core : CoreData) (sessions : List SessionData) (table chunk pos : ℕ) (place : Place) : Type 0 where
+pub record TimesAreWriters (setting : Setting) (state : State) (core : CoreData) (sessions : List SessionData) (table chunk pos : ℕ)
+    (place : Place) : Type 0 where
   pub top : (stamp : Stamp) (rest : List Stamp) → stamps place ≡ stamp ∷ rest
       → IsOwnStamp setting state sessions table chunk stamp ⊎ IsOfWriter setting state core table chunk pos stamp
   pub behind : (stamp : Stamp) (rest : List Stamp) → stamps place ≡ stamp ∷ rest → (other : Stamp) → Contains rest other

@@ -130,7 +130,8 @@ held_by_other setting state core sessions table chunk pos place shown number ses
         let mark = top.1.1 in
         rival_late (viewer_of session now) place.chain top.0 top.1.0
         (λ same. shown.kept.holders_apart number other (λ e. apart (sym e)) table pos
-        (ap (holds setting table pos) is.open_there ∙ (sym mine.holds_it ∙ (ap (is_own (id_of (label_here session))) top.1.0 ∙ eq-eqb top.0.mark (id_of (label_here session)) same))) held_there)
+        (ap (holds setting table pos) is.open_there ∙ (sym mine.holds_it ∙ (ap (is_own (id_of (label_here session))) top.1.0 ∙ eq-eqb top.0.mark (id_of
+        (label_here session)) same))) held_there)
         (omega (arith, low, early, mark))
         ∙ ap (λ (l : Label). Some l) (head.owner top.0 top.1.0 top.1.1 ∙ same_label setting state core other open'.session
         (shown.sessions_show.each other open'.session open'.is_open.found))
@@ -249,7 +250,8 @@ held_by_none setting state core sessions table chunk pos place shown number sess
         let within = slice_get_within state.order rank found.item stands in
         let last = λ (other : ℕ) (later : Entry) (less : rank < other) (e : slice_get state.order other ≡ Some later).
         found.last (other - prefix) later (omega (arith, less))
-        (dropped_get prefix state.order (other - prefix) ∙ (ap (slice_get state.order) (let s : prefix + (other - prefix) ≡ other = omega (arith, less) in s) ∙ e)) in
+        (dropped_get prefix state.order (other - prefix) ∙ (ap (slice_get state.order) (let s : prefix + (other - prefix) ≡ other = omega
+        (arith, less) in s) ∙ e)) in
         let changed = is_changed setting state table pos shown.kept number current is.open_there row sees_row rank found.item stands found.passes
         (omega arith) within last in
         rival_of_writer setting state core sessions table chunk pos place shown none_own number session now current is rank found.item
@@ -285,7 +287,8 @@ rivals_are setting state core sessions table chunk pos place shown number sessio
                 let there = holder_open setting table pos (session_at state other).now held in
                 absurd (let e = sym held ∙ all other (session_at state other) (is_there state other there.0 there.1) (λ s. apart (omega (arith, s))) in cc)
           ])
-          row (sym (ap (λ (b : Bool). cond b (item_at (view setting state current.begun) table pos) (item_at (snapshot setting state current.begun.prefix) table pos)) not_held)
+          row (sym (ap (λ (b : Bool). cond b (item_at (view setting state current.begun) table pos) (item_at
+          (snapshot setting state current.begun.prefix) table pos)) not_held)
           ∙ (sym (shown.place_shows.viewer_sees number session now current is (inl unmarked)) ∙ sees_row))
     ]
 

@@ -1,0 +1,13 @@
+mod Openings
+mod Stamps
+mod PrunedPlaces
+mod Prunings
+mod Written
+mod Orders
+mod Holders
+mod RivalTops
+mod Changers
+mod Rivals
+mod LastCells
+mod Frees
+mod Blockers

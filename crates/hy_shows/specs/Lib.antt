@@ -1,0 +1,13 @@
+pub mod Stamped
+pub mod Transactions
+pub mod Numbers
+pub mod Sessions
+pub mod Places
+pub mod Parts
+pub mod Shows
+pub mod Kept
+pub mod Pruned
+pub mod Rivals
+pub mod Free
+pub mod Waiting
+pub mod Laws

@@ -11,6 +11,7 @@ use std::test::Fail;
 
 /// A writer, and another transaction.
 const WRITER: Label = Label { session: 0, txn: 1 };
+
 const OTHER: Label = Label { session: 1, txn: 1 };
 
 /// A row of two numbers.
@@ -45,7 +46,10 @@ fn a_commit_is_marked_until_its_end(rt: HostRuntime) -> Result<(), Fail> {
     assert_eq!(rt; begun.cover.starts.as_slice(), [1].as_slice());
     let time = core.enter(WRITER, begun.start, Changes::new(rt.alloc()));
     assert_eq!(rt; time.ok(), Some(2));
-    assert_eq!(rt; (core.blocked(OTHER), core.blocked(WRITER)), (Some(WRITER), None));
+    assert_eq!(rt;
+        (core.blocked(OTHER), core.blocked(WRITER)),
+        (Some(WRITER), None)
+    );
     core.leave(begun.start);
     assert_eq!(rt; core.blocked(OTHER), None);
     assert_eq!(rt; core.since(0).len(), 1);

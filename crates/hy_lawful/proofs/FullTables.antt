@@ -73,7 +73,7 @@ any_many test (x ∷ xs) n = omega (
       (λ pos below h. or_either (test x pos) (list_any (λ x. test x pos) xs) h),
 )
 
-sum_less : {X : Type 0} (f g : X → ℕ) (xs : List X) → AllByRecursion (λ x. f x ≤ g x) xs → sum_by f xs ≤ sum_by g xs
+pub sum_less : {X : Type 0} (f g : X → ℕ) (xs : List X) → AllByRecursion (λ x. f x ≤ g x) xs → sum_by f xs ≤ sum_by g xs
 sum_less f g [] h = omega arith
 sum_less f g (x ∷ xs) h = omega (arith, h.0, sum_less f g xs h.1, sum_by-cons f x xs, sum_by-cons g x xs)
 

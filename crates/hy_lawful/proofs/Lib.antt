@@ -67,3 +67,14 @@ pub mod FullSteps
 pub mod FullTables
 pub mod EffectRows
 pub mod EffectCounts
+pub mod KeptStands
+pub mod KeptSteps
+pub mod KeptFits
+pub mod KeptStarts
+pub mod KeptRanks
+pub mod KeptEntries
+pub mod KeptCounts
+pub mod KeptStates
+pub mod ViewWidths
+pub mod ViewTurns
+pub mod ViewSteps

@@ -22,12 +22,12 @@ use Rattle.hy_lawful.proofs.Booleans.{or_left, or_right, not_false, not_true}
 
 -- ---- what a transaction writes fits the tables
 
-set_all : {X : Type 0} (P : X → Type 0) (xs : List X) (i : ℕ) (x : X) → AllByRecursion P xs → P x → AllByRecursion P (set xs i x)
+pub set_all : {X : Type 0} (P : X → Type 0) (xs : List X) (i : ℕ) (x : X) → AllByRecursion P xs → P x → AllByRecursion P (set xs i x)
 set_all P [] i x h p = tt
 set_all P (y ∷ xs) zero x h p = (p, h.1)
 set_all P (y ∷ xs) (suc i) x h p = (h.0, set_all P xs i x h.1 p)
 
-got_of : {X : Type 0} (P : X → Type 0) (xs : List X) (i : ℕ) (x : X) → AllByRecursion P xs → P x → P (get_or xs i x)
+pub got_of : {X : Type 0} (P : X → Type 0) (xs : List X) (i : ℕ) (x : X) → AllByRecursion P xs → P x → P (get_or xs i x)
 got_of P [] i x h p = p
 got_of P (y ∷ xs) zero x h p = h.0
 got_of P (y ∷ xs) (suc i) x h p = got_of P xs i x h.1 p

@@ -12,5 +12,7 @@ pub mod Overlaps
 pub mod Rooms
 pub mod Serial
 pub mod Reached
+pub mod Kept
 pub mod Laws
 pub mod EffectRows
+pub mod Views

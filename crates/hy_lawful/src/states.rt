@@ -4,6 +4,8 @@ ghost use Rattle.hy_lawful.specs.Reached.{ReachedHaveRun, ReachedPassUnseen};
 ghost use Rattle.hy_lawful.specs.Overlaps.{OpenOnesOverlap};
 ghost use Rattle.hy_lawful.specs.Rooms.{ReachedPlaced};
 ghost use Rattle.hy_lawful.specs.EffectRows.{InsertsCountPositions, RowsAreFollowed};
+ghost use Rattle.hy_lawful.specs.Kept.{ReachedAreKept};
+ghost use Rattle.hy_lawful.specs.Views.{ReachedViewsFit};
 
 /// What a transaction did until it ended is what its answered statements come to over the tables of its start, each
 /// INSERT at the position that it took: its replies, its records, and where it committed its writes.
@@ -38,4 +40,17 @@ pub fn inserts_count_positions()
 /// the statements before left it, and then what it wrote is the row followed through all of them.
 pub fn rows_are_followed()
     ensures { RowsAreFollowed }
+{}
+
+/// Each state that the machine comes to is kept: transactions stand where their scripts let them, each entry is of one that
+/// committed at its rank or of the marked one, over the cells of its rank, and what a transaction holds no other one holds,
+/// and no entry has written since its start.
+pub fn reached_states_are_kept()
+    ensures { ReachedAreKept }
+{}
+
+/// Where the first rows and the statements of what is run fit its tables, so does what every open transaction sees, also in
+/// the middle of a statement: the rows that it sees in a table have the table's columns.
+pub fn reached_views_fit()
+    ensures { ReachedViewsFit }
 {}

@@ -2,3 +2,4 @@ pub mod Joining
 pub mod Packs
 pub mod Counts
 pub mod Listed
+mod Lanes

@@ -1,14 +1,15 @@
 -- What a comparison says of numbers, packed in words.
-use Rattle.std.proofs.Common.{◌≡◌, ℕ, zero, suc, ◌+◌, ◌-◌, ◌*◌, ◌/◌, ◌%◌, ◌^◌, ◌<◌, ◌≤◌, Bool, true, false, List, [], ◌∷◌, length, map, get_or, take, drop, refl, sym, ap, ◌∙◌, cond, arith, inl, inr}
+use Rattle.std.proofs.Common.{◌≡◌, ℕ, zero, suc, ◌+◌, ◌-◌, ◌*◌, ◌/◌, ◌%◌, ◌^◌, ◌<◌, ◌≤◌, Bool, true, false, List, [], ◌∷◌, ◌++◌, length, map, get_or, take, drop, refl, sym, ap, ◌∙◌, cond, arith, inl, inr}
 use Rattle.std.specs.Prelude.{◌==◌, min}
 use Rattle.std.specs.Int.{bit_at}
 use lib.Lanes.{mask_l}
 use mir.Val.{bool_byte}
 use Rattle.std.proofs.Math.ListN.{set}
 use Rattle.std.proofs.Math.Pow.{pow_mono}
+use Rattle.std.proofs.Math.Nat.{pow-succ', mul_assoc}
 use Rattle.std.proofs.lemmas.Bool.{cases_lt, cases_eq}
-use Rattle.std.proofs.lemmas.List.{get_or_past, length-map, length-take, length-drop, get_or-set_same, get_or-set_other}
-use Rattle.std.proofs.lemmas.Simd.{bit_mask_l, mask_l-lt}
+use Rattle.std.proofs.lemmas.List.{get_or_past, map-append, length-map, length-take, length-drop, get_or-set_same, get_or-set_other}
+use Rattle.std.proofs.lemmas.Simd.{bit_mask_l, mask_l-lt, chunk-drop, length-chunk}
 use Rattle.hy_kernel.specs.Bits.{is_bit}
 
 one : (b : Bool) → (cond b 1 0 == 1) ≡ b
@@ -53,9 +54,9 @@ of_word {X} p xs rest words k i is at word =
     ∙ (ap (λ (ys : List X). get_or (map p ys) (i % 64) false) is
     ∙ (behind p xs (64 * k) (i % 64) ∙ ap (λ (j : ℕ). get_or (map p xs) j false) place))))
 
--- a word of fewer than 64 tests has room for one more
-pub small : (word : ℕ) (tests : List Bool) → word ≡ mask_l tests → length tests ≤ 63 → word < 2 ^ 63
-small word tests e le = omega (arith, e, mask_l-lt tests, pow_mono le)
+-- a word of so many tests has so many bits
+pub small : (most word : ℕ) (tests : List Bool) → word ≡ mask_l tests → length tests ≤ most → word < 2 ^ most
+small most word tests e le = omega (arith, e, mask_l-lt tests, pow_mono le)
 
 pub byte_small : (b : Bool) → bool_byte b ≤ 1
 byte_small true = omega arith
@@ -101,3 +102,32 @@ one_more p xs rest words k word within e packs before i less =
       | inr other ↦
           ap (λ (w : ℕ). bit_at w (i % 64) == 1) (get_or-set_other words k (i / 64) word 0 other) ∙ before i (omega (arith, less, other))
     ]
+
+-- tests that are packed in front of others
+joined : (first later : List Bool) → mask_l (first ++ later) ≡ mask_l first + 2 ^ length first * mask_l later
+joined [] later = omega arith
+joined (test ∷ first) later =
+    let more : 2 ^ suc (length first) * mask_l later ≡ 2 * (2 ^ length first * mask_l later) =
+    ap (λ (n : ℕ). n * mask_l later) (pow-succ' 2 (length first)) ∙ mul_assoc 2 (2 ^ length first) (mask_l later) in
+    let rest = joined first later in
+    omega (arith, more, rest)
+
+parts : {X : Type 0} (p : X → Bool) (xs : List X) (k : ℕ) → k + 16 ≤ length xs
+    → mask_l (map p (drop k xs)) ≡ mask_l (map p (drop (k + 16) xs)) * 65536 + mask_l (map p (take 16 (drop k xs)))
+parts p xs k within =
+    let part = take 16 (drop k xs) in
+    let long : 2 ^ length (map p part) ≡ 65536 = ap (λ (n : ℕ). 2 ^ n) (length-map part p ∙ length-chunk k 16 xs within) in
+    let scaled = ap (λ (n : ℕ). n * mask_l (map p (drop (k + 16) xs))) long in
+    let split = ap (λ ys. mask_l (map p ys)) (chunk-drop k 16 xs)
+    ∙ (ap mask_l (map-append p part (drop (k + 16) xs)) ∙ joined (map p part) (map p (drop (k + 16) xs))) in
+    omega (arith, split, scaled)
+
+-- a part of 16 is packed in front of those behind it
+pub part_more : {X : Type 0} (p : X → Bool) (xs : List X) (i word part : ℕ) → 0 < i → 16 * i ≤ length xs → word ≡ mask_l (map p (drop (16 * i) xs))
+    → part ≡ mask_l (map p (take (16 * (i - 1) + 16 - 16 * (i - 1)) (drop (16 * (i - 1)) xs))) → word * 65536 + part ≡ mask_l (map p (drop (16 * (i - 1)) xs))
+part_more p xs i word part some within e packs =
+    let size : 16 * (i - 1) + 16 - 16 * (i - 1) ≡ 16 = omega arith in
+    let place : 16 * i ≡ 16 * (i - 1) + 16 = omega (arith, some) in
+    let first = packs ∙ ap (λ (n : ℕ). mask_l (map p (take n (drop (16 * (i - 1)) xs)))) size in
+    let later = e ∙ ap (λ (n : ℕ). mask_l (map p (drop n xs))) place in
+    omega (arith, parts p xs (16 * (i - 1)) (omega (arith, place, within)), first, later)

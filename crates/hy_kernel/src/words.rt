@@ -2,14 +2,59 @@
 
 ghost use Rattle.std.specs.Prelude.{◌≡◌, ◌+◌, ◌-◌, ◌*◌, ◌^◌, ◌≤◌, ◌<◌, ◌&&◌, ◌||◌};
 ghost use Rattle.std.specs.Prelude.{ℕ, length, map, not as negated, nat_lt, slice_index_or};
-ghost use Rattle.std.specs.Prelude.{false};
+ghost use Rattle.std.specs.Prelude.{false, FitsSigned};
+ghost use Rattle.std.specs.Int.{w64};
+ghost use Rattle.std.specs.List.{All};
 ghost use lib.Lanes.{mask_l};
 ghost use Rattle.hy_kernel.specs.Bits.{is_bit, compares, count_set};
 
 use hy_value::Cmp;
+use std::simd::prelude::*;
 
-/// One bit for each of at most 64 numbers: whether the comparison holds.
-fn pack(values: &[i64], op: Cmp, right: i64) -> u64
+/// 16 numbers as the lanes of a vector. Each is read by itself, which shows that it lies in its type's range.
+fn lanes_of(values: &[i64]) -> [i64; 16]
+    requires { length values.now ≡ 16 }
+    ensures same { result ≡ values.now }
+    ensures fit { All (FitsSigned w64) result }
+{
+    let mut lanes = [0; 16];
+    for i in 0..16 {
+        lanes[i] = values[i];
+    }
+    lanes
+}
+
+/// One bit for each of 16 numbers, which are compared at once: whether the comparison holds.
+fn pack_16(values: &[i64], op: Cmp, right: i64) -> u64
+    requires { length values.now ≡ 16 }
+    ensures { result ≡ mask_l (map (compares op right) values.now) }
+{
+    let left = i64x16::from_array(lanes_of(values));
+    let right = i64x16::splat(right);
+    match op {
+        Cmp::Eq => left.simd_eq(right).to_bitmask(),
+        Cmp::Ne => left.simd_ne(right).to_bitmask(),
+        Cmp::Lt => left.simd_lt(right).to_bitmask(),
+        Cmp::Le => left.simd_le(right).to_bitmask(),
+        Cmp::Gt => left.simd_gt(right).to_bitmask(),
+        Cmp::Ge => left.simd_ge(right).to_bitmask(),
+    }
+}
+
+/// One bit for each of the 64 numbers of a whole word, 16 at a time: whether the comparison holds.
+fn pack_64(values: &[i64], op: Cmp, right: i64) -> u64
+    requires { length values.now ≡ 64 }
+    ensures { result ≡ mask_l (map (compares op right) values.now) }
+{
+    let mut word = 0u64;
+    for i in (0..4).rev() {
+        word = word * 65536 + pack_16(&values[16 * i..16 * i + 16], op, right);
+    }
+    word
+}
+
+/// One bit for each of at most 64 numbers, one after the other: whether the comparison holds.
+fn pack_few(values: &[i64], op: Cmp, right: i64) -> u64
     requires { length values.now ≤ 64 }
     ensures { result ≡ mask_l (map (compares op right) values.now) }
 {
@@ -18,6 +63,18 @@ fn pack(values: &[i64], op: Cmp, right: i64) -> u64
         word = word * 2 + u64::from(op.holds(values[i].cmp(&right)));
     }
     word
+}
+
+/// One bit for each of at most 64 numbers: whether the comparison holds.
+fn pack(values: &[i64], op: Cmp, right: i64) -> u64
+    requires { length values.now ≤ 64 }
+    ensures { result ≡ mask_l (map (compares op right) values.now) }
+{
+    if values.len() == 64 {
+        pack_64(values, op, right)
+    } else {
+        pack_few(values, op, right)
+    }
 }
 
 /// Compares each number of a column with another: bit i says whether the comparison holds of number i. No bit

@@ -4,6 +4,8 @@
 ghost use Rattle.std.specs.Prelude.{◌≡◌, ◌*◌, ◌<◌, ◌≤◌, length};
 
 mod hits;
+mod ready;
+mod table;
 
 use hits::{missed_by_list, missed_by_tree};
 use hy_chain::Chains;
@@ -103,4 +105,26 @@ pub extern "C" fn hy_first_hits(alloc: Global, rounds: u32) -> i64 {
 #[unsafe(no_mangle)]
 pub extern "C" fn hy_plain_hits(alloc: Global, rounds: u32) -> i64 {
     missed_by_list(alloc, rounds).map_or(-1, i64::from)
+}
+
+/// So many times: of a table of 64 chunks of 1,024 rows the balances above 504, about half of them, are gathered and
+/// summed. The answer is the sum of these sums, and -1 where memory ran out.
+#[unsafe(no_mangle)]
+pub extern "C" fn hy_chunk_scans(alloc: Global, rounds: u32) -> i64 {
+    table::scans(alloc, rounds).unwrap_or(-1)
+}
+
+/// So many times: a row of the same table is looked up by its key. The answer is the sum of the balances, and -1 where
+/// memory ran out.
+#[unsafe(no_mangle)]
+pub extern "C" fn hy_chunk_finds(alloc: Global, rounds: u32) -> i64 {
+    table::finds(alloc, rounds).unwrap_or(-1)
+}
+
+/// So many transactions, one after another, update a row beside a reader that stays open; each prunes the chunk before
+/// and after. The answer is the balance that the old reader sees, times 2^32, and the newest balance, and -1 where
+/// memory ran out.
+#[unsafe(no_mangle)]
+pub extern "C" fn hy_chunk_updates(alloc: Global, rounds: u32) -> i64 {
+    table::updates(alloc, rounds).unwrap_or(-1)
 }

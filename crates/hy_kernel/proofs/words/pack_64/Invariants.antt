@@ -1,0 +1,8 @@
+use Rattle.std.proofs.Common.{◌≡◌, ◌*◌, map, drop}
+use lib.Lanes.{mask_l}
+use Rattle.hy_kernel.specs.Bits.{compares}
+use Rattle.hy_kernel.proofs.words.pack_64.Given as goal
+
+-- the word has the bits of the parts from here on
+abbrev pub invariant-loop-i : goal.invariant-loop-i
+invariant-loop-i l = l.word ≡ mask_l (map (compares l.op l.right) (drop (16 * l.i) l.values))

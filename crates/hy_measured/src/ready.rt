@@ -1,0 +1,241 @@
+//! A chunk of two numbers a row, called as an engine calls it.
+
+ghost use Rattle.std.specs.Prelude.{◌≡◌, ◌<◌, ◌≤◌, ◌+◌, ◌^◌, [], ◌∷◌, Some, IfOk, OnOk};
+ghost use Rattle.hy_chunk.specs.Writes.{FitsWrite};
+ghost use Rattle.hy_measured.specs.Ready.{two_numbers};
+ghost use Rattle.hy_stamp.specs.Times.{IsLabel};
+ghost use Rattle.hy_value.specs.declared.Value.{Value};
+
+use hy_bound::{Assign, Pred, SetExpr, Side, WriteKind};
+use hy_chunk::Chunk;
+use hy_notes::Changes;
+use hy_plan::Gathered;
+use hy_prune::{Cover, Starts};
+use hy_stamp::{Label, Viewer};
+use hy_undo::Delta;
+use hy_value::{Cmp, ColMask, Kind, Row, Seq, Value};
+use std::alloc::{AllocError, Global};
+use std::marker::Model;
+
+/// The start of the reader that stays open.
+pub const OLD_START: u64 = 1;
+
+/// A chunk of (id INT PRIMARY KEY, bal INT), with how many positions it has and the next time.
+#[derive(Drop)]
+pub struct Ready {
+    chunk: Chunk,
+    positions: usize,
+    next: u64,
+}
+
+impl Model for Ready {
+    ghost use Rattle.std.specs.Prelude.{ℕ};
+    ghost use Rattle.hy_measured.specs.Ready.{IsReady};
+
+    ghost Value = { ℕ };
+
+    ghost view = { λ a. a.next };
+
+    ghost invariant = { λ a. IsReady a.positions a.next a.chunk };
+}
+
+/// A transaction that writes.
+#[derive(Drop)]
+struct Writer {
+    label: Label,
+    viewer: Viewer,
+    cover: Cover,
+}
+
+/// A row of two numbers.
+fn pair(alloc: Global, first: i64, second: i64) -> Result<Row, AllocError>
+    ensures { IfOk result (λ row. row ≡ Value.Int first ∷ Value.Int second ∷ []) }
+{
+    let mut values = Seq::new(alloc);
+    values.push(Value::Int(first))?;
+    values.push(Value::Int(second))?;
+    Ok(values)
+}
+
+/// A column compared with a number.
+pub fn compared(alloc: Global, column: u32, op: Cmp, number: i64) -> Result<Pred, AllocError> {
+    Pred::compare(alloc, column, op, Side::Literal(Value::Int(number)))
+}
+
+/// The label of the transaction of this number.
+fn label_of(number: u32) -> Label
+    ensures { IsLabel result }
+{
+    Label {
+        session: number,
+        txn: 1,
+    }
+}
+
+/// UPDATE of bal to a number.
+fn write_of(alloc: Global, bal: i64) -> Result<WriteKind, AllocError>
+    ensures { IfOk result (λ kind. FitsWrite two_numbers (Some 0) kind) }
+{
+    let mut sets = Seq::new(alloc);
+    sets.push(Assign {
+        column: 1,
+        value: SetExpr::literal(alloc, Value::Int(bal))?,
+    })?;
+    Ok(WriteKind::Set(sets))
+}
+
+/// Room to note so many writes.
+fn notes(alloc: Global, many: usize) -> Result<Changes, AllocError>
+    ensures room { IfOk result (λ changes. many ≤ changes.room) }
+    ensures width { IfOk result (λ changes. 2 ≤ changes.width) }
+{
+    let mut changes = Changes::new(alloc);
+    changes.reserve(many, 2)?;
+    Ok(changes)
+}
+
+/// A start was drawn before the next time, and identifiers are above times.
+fn check_times(next: u64, viewer: &Viewer) -> Result<(), AllocError>
+    ensures start { OnOk result (viewer.now.start ≤ next) }
+    ensures id { OnOk result (next ≤ viewer.now.id) }
+{
+    if viewer.start <= next && next <= viewer.id {
+        Ok(())
+    } else {
+        Err(AllocError)
+    }
+}
+
+/// The sum of what was gathered.
+pub fn sum(gathered: &Gathered) -> i64
+    requires { gathered.now.width ≡ 1 }
+{
+    let mut sum = 0i64;
+    for index in 0..gathered.len() {
+        if let Value::Int(balance) = gathered.value(index, 0) {
+            sum = sum.wrapping_add(balance);
+        }
+    }
+    sum
+}
+
+impl Ready {
+    /// A chunk of so many unused positions, from `first` on.
+    pub fn new(alloc: Global, first: u32, positions: usize) -> Result<Ready, AllocError>
+        requires { first + positions < 2 ^ 32 }
+    {
+        Ok(Ready {
+            chunk: Chunk::new(alloc, 0, first, &[Kind::Int, Kind::Int], positions, Some(0))?,
+            positions,
+            next: OLD_START + 1,
+        })
+    }
+
+    /// Puts a first row there, where there is a position for it.
+    pub fn load(&mut self, alloc: Global, id: i64, bal: i64) -> Result<(), AllocError> {
+        let row = pair(alloc, id, bal)?;
+        let _pos = self.chunk.load(&row);
+        Ok(())
+    }
+
+    /// Appends the bal of each row that a viewer sees and a condition selects.
+    pub fn balances(
+        &mut self,
+        alloc: Global,
+        viewer: &Viewer,
+        pred: &Pred,
+        gathered: &mut Gathered,
+    ) -> Result<(), AllocError>
+        requires { gathered.old.width ≡ 1 }
+        ensures { gathered.new.width ≡ 1 }
+    {
+        self.chunk.gather(alloc, viewer, pred, ColMask(2), gathered)
+    }
+
+    /// The sum of bal of the rows that a viewer sees and a condition selects.
+    pub fn balance(&mut self, alloc: Global, start: u64, pred: &Pred) -> Result<i64, AllocError> {
+        let mut gathered = Gathered::new(alloc, 1)?;
+        let viewer = Viewer {
+            id: u64::MAX,
+            start,
+        };
+        self.balances(alloc, &viewer, pred, &mut gathered)?;
+        Ok(sum(&gathered))
+    }
+
+    /// The time that the next draw gives.
+    fn time(&self) -> Result<u64, AllocError>
+        ensures time { IfOk result (λ time. time ≡ self.now) }
+        ensures below { IfOk result (λ time. time < 2 ^ 63) }
+    {
+        if self.next >= 1 << 63 {
+            return Err(AllocError);
+        }
+        Ok(self.next)
+    }
+
+    /// Begins the transaction of this number, beside the old reader.
+    fn begin(&mut self, alloc: Global, number: u32) -> Result<Writer, AllocError> {
+        let label = label_of(number);
+        let start = self.time()?;
+        let mut starts = Vec::with_capacity(alloc, 2)?;
+        starts.push(OLD_START)?;
+        starts.push(start)?;
+        self.next = start + 1;
+        Ok(Writer {
+            label,
+            viewer: Viewer {
+                id: label.id(),
+                start,
+            },
+            cover: Cover {
+                starts: Starts::from_vec(starts),
+                next: start + 1,
+            },
+        })
+    }
+
+    /// UPDATE of bal to a number where a condition holds.
+    fn write(
+        &mut self,
+        alloc: Global,
+        writer: &Writer,
+        pred: &Pred,
+        bal: i64,
+    ) -> Result<(), AllocError> {
+        let viewer = &writer.viewer;
+        check_times(self.next, viewer)?;
+        let kind = write_of(alloc, bal)?;
+        let mut changes = notes(alloc, self.positions)?;
+        self.chunk.reserve(self.positions)?;
+        let _count = self
+            .chunk
+            .write(viewer, writer.label, pred, &kind, &mut changes);
+        Ok(())
+    }
+
+    /// Commits a transaction.
+    fn commit(&mut self, writer: &Writer) -> Result<(), AllocError> {
+        let time = self.time()?;
+        self.chunk.stamp(writer.viewer.id, time);
+        self.next = time + 1;
+        Ok(())
+    }
+
+    /// Prunes by the cover of a transaction.
+    fn prune(&mut self, writer: &Writer) {
+        hy_chain::pruning_shrinks::<Delta>();
+        hy_chain::pruning_keeps_stamps::<Delta>();
+        self.chunk.prune(&writer.cover);
+    }
+
+    /// A transaction of this number writes its number where a condition holds, and commits: pruned before and after.
+    pub fn update(&mut self, alloc: Global, number: u32, pred: &Pred) -> Result<(), AllocError> {
+        let writer = self.begin(alloc, number)?;
+        self.prune(&writer);
+        self.write(alloc, &writer, pred, i64::from(number))?;
+        self.commit(&writer)?;
+        self.prune(&writer);
+        Ok(())
+    }
+}

@@ -20,7 +20,8 @@ fits_older : (kind : Kind) (newer older : Option Value) → FitsNoted kind newer
 fits_older kind newer None n o = n
 fits_older kind newer (Some old) n o = o
 
-pub fits_merged : (kinds : List Kind) (newer older : List (Option Value)) → FitsImage kinds newer → FitsImage kinds older → FitsImage kinds (with_older newer older)
+pub fits_merged : (kinds : List Kind) (newer older : List (Option Value)) → FitsImage kinds newer → FitsImage kinds older
+    → FitsImage kinds (with_older newer older)
 fits_merged [] [] [] n o = tt
 fits_merged [] [] (y ∷ older) n o = o
 fits_merged [] (x ∷ newer) older n o = absurd n
@@ -32,7 +33,8 @@ fits_old : (kind : Kind) (value : Value) (noted : Option Value) → FitsKind kin
 fits_old kind value None v n = v
 fits_old kind value (Some old) v n = n
 
-pub fits_put_back : (kinds : List Kind) (row : List Value) (image : List (Option Value)) → FitsRow kinds row → FitsImage kinds image → FitsRow kinds (put_back row image)
+pub fits_put_back : (kinds : List Kind) (row : List Value) (image : List (Option Value)) → FitsRow kinds row → FitsImage kinds image
+    → FitsRow kinds (put_back row image)
 fits_put_back [] [] image r i = tt
 fits_put_back [] (value ∷ row) image r i = absurd r
 fits_put_back (kind ∷ kinds) [] image r i = absurd r
@@ -43,7 +45,8 @@ pub fits_blank : (kinds : List Kind) → FitsImage kinds (replicate (length kind
 fits_blank [] = tt
 fits_blank (kind ∷ kinds) = (tt, fits_blank kinds)
 
-fate_keeps : (kinds : List Kind) (fate : Fate) (kept merged dropped : List (Undo Image)) → FitsChain kinds kept → FitsChain kinds merged → FitsChain kinds dropped
+fate_keeps : (kinds : List Kind) (fate : Fate) (kept merged dropped : List (Undo Image)) → FitsChain kinds kept → FitsChain kinds merged
+    → FitsChain kinds dropped
     → FitsChain kinds (by_fate fate kept merged dropped)
 fate_keeps kinds Keep kept merged dropped k m d = k
 fate_keeps kinds Merge kept merged dropped k m d = m
@@ -57,11 +60,13 @@ pub pruned_fits : (kinds : List Kind) (cover : Cover) (kept : Option (Undo Image
 pruned_fits kinds cover None [] f = f
 pruned_fits kinds cover (Some top) [] f = f
 pruned_fits kinds cover None (undo ∷ chain) f =
-    fate_keeps kinds (fate_of cover None undo.stamp.mark) (pruned_behind both cover (Some undo) chain) (pruned_behind both cover (Some undo) chain) (pruned_behind both cover None chain)
+    fate_keeps kinds (fate_of cover None undo.stamp.mark) (pruned_behind both cover (Some undo) chain) (pruned_behind both cover (Some undo) chain)
+    (pruned_behind both cover None chain)
     (pruned_fits kinds cover (Some undo) chain f) (pruned_fits kinds cover (Some undo) chain f) (pruned_fits kinds cover None chain f.2)
 pruned_fits kinds cover (Some top) (undo ∷ chain) f =
     let merged : Undo Image = joined both top undo in
-    fate_keeps kinds (fate_of cover (Some top.stamp.mark) undo.stamp.mark) (top ∷ pruned_behind both cover (Some undo) chain) (pruned_behind both cover (Some merged) chain) (pruned_behind both cover (Some top) chain)
+    fate_keeps kinds (fate_of cover (Some top.stamp.mark) undo.stamp.mark) (top ∷ pruned_behind both cover (Some undo) chain)
+    (pruned_behind both cover (Some merged) chain) (pruned_behind both cover (Some top) chain)
     (f.0, λ dead. absurd (not_empty undo chain (f.1 dead)), pruned_fits kinds cover (Some undo) chain f.2)
     (pruned_fits kinds cover (Some merged) chain (fits_merged kinds top.image.values undo.image.values f.0 f.2.0, f.2.1, f.2.2))
     (pruned_fits kinds cover (Some top) chain (f.0, λ dead. absurd (not_empty undo chain (f.1 dead)), f.2.2))
@@ -81,14 +86,16 @@ pruned_none : (cover : Cover) (chain : List (Undo Image)) → chain ≡ [] → p
 pruned_none cover chain e = ap (pruned both cover) e
 
 -- another chain
-pub fits_pruned : (kinds : List Kind) (cover : Cover) (place : Place) → FitsPlace kinds place → FitsPlace kinds (record place { chain = pruned both cover place.chain })
+pub fits_pruned : (kinds : List Kind) (cover : Cover) (place : Place) → FitsPlace kinds place
+    → FitsPlace kinds (record place { chain = pruned both cover place.chain })
 fits_pruned kinds cover place f = record {
   row = f.row;
   images = pruned_fits kinds cover None place.chain f.images;
   unused = record { row = f.unused.row; chain = λ free. pruned_none cover place.chain (f.unused.chain free) };
 }
 
-pub fits_stamped : (kinds : List Kind) (id time death : ℕ) (place : Place) → FitsPlace kinds place → FitsPlace kinds (record place { death = death; chain = stamped id time place.chain })
+pub fits_stamped : (kinds : List Kind) (id time death : ℕ) (place : Place) → FitsPlace kinds place
+    → FitsPlace kinds (record place { death = death; chain = stamped id time place.chain })
 fits_stamped kinds id time death place f = record {
   row = f.row;
   images = stamped_fits kinds id time place.chain f.images;

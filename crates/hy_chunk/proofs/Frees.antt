@@ -11,11 +11,14 @@ not_not : (b : Bool) → not b ≡ false → b ≡ true
 not_not true e = λ i. true
 not_not false e = absurd (cc)
 
-least_is_free : (watermark : ℕ) (places : List Place) → least_free watermark places < length places → is_free watermark (nth places (least_free watermark places)) ≡ true
+least_is_free : (watermark : ℕ) (places : List Place) → least_free watermark places < length places
+    → is_free watermark (nth places (least_free watermark places)) ≡ true
 least_is_free watermark places l =
-    not_not (is_free watermark (nth places (least_free watermark places))) (prefix_len_stops (λ (p : Place). not (is_free watermark p)) places (blank_with []) l)
+    not_not (is_free watermark (nth places (least_free watermark places)))
+    (prefix_len_stops (λ (p : Place). not (is_free watermark p)) places (blank_with []) l)
 
-pub put_there : (does : Place → Place → Type 0) (watermark : ℕ) (olds news : List Place) (k : ℕ) → k ≡ least_free watermark olds → k < length olds → news ≡ set olds k (nth news k)
+pub put_there : (does : Place → Place → Type 0) (watermark : ℕ) (olds news : List Place) (k : ℕ) → k ≡ least_free watermark olds → k < length olds
+    → news ≡ set olds k (nth news k)
     → (is_free watermark (nth olds k) ≡ true → does (nth olds k) (nth news k)) → IsPut (least_free watermark olds) does olds news
 put_there does watermark olds news k is l others here =
     let free : is_free watermark (nth olds k) ≡ true =

@@ -15,3 +15,12 @@ pub mod PlaceAt
 pub mod Setting
 pub mod Frees
 pub mod Sweeping
+pub mod Gathers
+pub mod Ranges
+pub mod Indexing
+pub mod Spared
+pub mod Found
+pub mod Lookups
+pub mod Chosen
+pub mod Asking
+pub mod FoundEach

@@ -32,7 +32,8 @@ pub found_nowhere : (test : Cell → Bool) (viewer : Viewer) (places : List Plac
     → list_any test (rows_seen viewer places) ≡ false
 found_nowhere test viewer [] none = refl
 found_nowhere test viewer (p ∷ ps) none =
-    or_neither (test (sees viewer p)) (list_any test (rows_seen viewer ps)) (none zero (omega arith)) (found_nowhere test viewer ps (λ k l. none (suc k) (omega arith)))
+    or_neither (test (sees viewer p)) (list_any test (rows_seen viewer ps)) (none zero (omega arith))
+    (found_nowhere test viewer ps (λ k l. none (suc k) (omega arith)))
 
 pub none_more : (test : Cell → Bool) (viewer : Viewer) (places : List Place) (count : ℕ) → ((k : ℕ) → k < count → test (sees viewer (nth places k)) ≡ false)
     → test (sees viewer (nth places count)) ≡ false → (k : ℕ) → k < count + 1 → test (sees viewer (nth places k)) ≡ false
@@ -44,7 +45,8 @@ none_more test viewer places count none here k l =
 
 -- what is gathered of one position more
 pub gathered_more : (keeps : Cell → List (List Value)) (viewer : Viewer) (places : List Place) (count : ℕ) (before : List (List Value)) → count < length places
-    → (before ++ flat_map keeps (rows_seen viewer (take count places))) ++ keeps (sees viewer (nth places count)) ≡ before ++ flat_map keeps (rows_seen viewer (take (count + 1) places))
+    → (before ++ flat_map keeps (rows_seen viewer (take count places))) ++ keeps (sees viewer (nth places count)) ≡ before ++ flat_map keeps
+    (rows_seen viewer (take (count + 1) places))
 gathered_more keeps viewer places count before l =
     flat_map_more keeps before (rows_seen viewer (take count places)) (sees viewer (nth places count))
     ∙ ap (λ (cells : List Cell). before ++ flat_map keeps cells)

@@ -17,7 +17,8 @@ pub record DoneUpTo (does : Place → Place) (old new : List Place) (count : ℕ
 pub none_done : (does : Place → Place) (old : List Place) → DoneUpTo does old old 0
 none_done does old = record { size = refl; done = λ k l m. absurd (omega arith); rest = λ k l. refl }
 
-pub one_more : (does : Place → Place) (old now new : List Place) (count : ℕ) → count < length now → DoneUpTo does old now count → new ≡ set now count (does (nth now count))
+pub one_more : (does : Place → Place) (old now new : List Place) (count : ℕ) → count < length now → DoneUpTo does old now count
+    → new ≡ set now count (does (nth now count))
     → DoneUpTo does old new (count + 1)
 one_more does old now new count within v put =
     let d : Place = blank_with [] in
@@ -32,7 +33,8 @@ one_more does old now new count within v put =
             ∙ (ap does (v.rest count (omega arith)) ∙ ap (λ (j : ℕ). does (nth old j)) (sym same))))
         | inr other ↦ ap (λ (ps : List Place). nth ps k) put ∙ (get_or-set_other now count k made d other ∙ v.done k (omega (arith, l, other)) m)
       ];
-      rest = λ k l. ap (λ (ps : List Place). nth ps k) put ∙ (get_or-set_other now count k made d (λ e. absurd (omega (arith, e, l))) ∙ v.rest k (omega (arith, l)));
+      rest = λ k l. ap (λ (ps : List Place). nth ps k) put
+          ∙ (get_or-set_other now count k made d (λ e. absurd (omega (arith, e, l))) ∙ v.rest k (omega (arith, l)));
     }
 
 -- a relation between the positions in turn

@@ -62,7 +62,8 @@ row_more {A} rows made now place column news x within is put less size at =
     let first = over column news (get_or rows place []) in
     put ∙ (ap (λ (all : List (List A)). set all place (set (get_or all place []) column x)) is
     ∙ (set-set rows place first (set (get_or (set rows place first) place []) column x)
-    ∙ ap (set rows place) (ap (λ (row : List A). set row column x) (get_or-set_same rows place first [] within) ∙ over_more column news (get_or rows place []) x less size at)))
+    ∙ ap (set rows place) (ap (λ (row : List A). set row column x) (get_or-set_same rows place first [] within)
+    ∙ over_more column news (get_or rows place []) x less size at)))
 
 -- the row that is covered
 pub row_now : {A : Type 0} (rows now : List (List A)) (place : ℕ) (row : List A) → place < length rows → now ≡ set rows place row → get_or now place [] ≡ row
@@ -101,21 +102,25 @@ changes_length (old ∷ olds) [] image e f = absurd (omega arith)
 changes_length (old ∷ olds) (new ∷ news) [] e f = absurd (omega arith)
 changes_length (old ∷ olds) (new ∷ news) (noted ∷ image) e f = let r = changes_length olds news image (omega arith) (omega arith) in omega (arith, r)
 
-pub changes_at : (olds news : List Value) (image : List (Option Value)) (column : ℕ) (c d : Value) (n : Option Value) → length news ≡ length olds → length image ≡ length olds → column < length olds
+pub changes_at : (olds news : List Value) (image : List (Option Value)) (column : ℕ) (c d : Value) (n : Option Value) → length news ≡ length olds
+    → length image ≡ length olds → column < length olds
     → get_or (changes_noted olds news image) column n ≡ change_noted (get_or olds column c) (get_or news column d) (get_or image column None)
 changes_at [] news image column c d n e f l = absurd (omega arith)
 changes_at (old ∷ olds) [] image column c d n e f l = absurd (omega arith)
 changes_at (old ∷ olds) (new ∷ news) [] column c d n e f l = absurd (omega arith)
 changes_at (old ∷ olds) (new ∷ news) (noted ∷ image) zero c d n e f l = refl
-changes_at (old ∷ olds) (new ∷ news) (noted ∷ image) (suc column) c d n e f l = changes_at olds news image column c d n (omega arith) (omega arith) (omega arith)
+changes_at (old ∷ olds) (new ∷ news) (noted ∷ image) (suc column) c d n e f l = changes_at olds news image column c d n (omega arith) (omega arith)
+    (omega arith)
 
 -- a copy of a value read from a list
-pub copied_at : {A : Type 0} (xs row : List A) (column : ℕ) (v w : A) → w ≡ v → v ≡ get_or xs column v → xs ≡ row → column < length row → w ≡ get_or row column w
+pub copied_at : {A : Type 0} (xs row : List A) (column : ℕ) (v w : A) → w ≡ v → v ≡ get_or xs column v → xs ≡ row → column < length row
+    → w ≡ get_or row column w
 copied_at {A} xs row column v w same is e l =
     same ∙ (is ∙ (ap (λ (ys : List A). get_or ys column v) e ∙ get_or_default row column v w l))
 
 -- an image notes one change more
-pub values_more : (olds news now : List Value) (image old made : List (Option Value)) (column : ℕ) (v d : Value) → length news ≡ length olds → length image ≡ length olds
+pub values_more : (olds news now : List Value) (image old made : List (Option Value)) (column : ℕ) (v d : Value) → length news ≡ length olds
+    → length image ≡ length olds
     → column < length olds → v ≡ get_or news column v → now ≡ over column news olds → old ≡ over column (changes_noted olds news image) image
     → made ≡ set old column (change_noted (get_or now column d) v (get_or old column None)) → made ≡ over (column + 1) (changes_noted olds news image) image
 values_more olds news now image old made column v d e f l at rows values put =

@@ -37,7 +37,8 @@ noted_old : (old new : Value) (noted : Option Value) → old_or new (older_or (S
 noted_old old new None = refl
 noted_old old new (Some older) = refl
 
-change_by : (old new : Value) (noted : Option Value) (b : Bool) → is_eq (value_cmp old new) ≡ b → old_or new (cond b noted (older_or (Some old) noted)) ≡ old_or old noted
+change_by : (old new : Value) (noted : Option Value) (b : Bool) → is_eq (value_cmp old new) ≡ b
+    → old_or new (cond b noted (older_or (Some old) noted)) ≡ old_or old noted
 change_by old new noted true e = ap (λ (v : Value). old_or v noted) (sym (values_tie old new (equal_from (value_cmp old new) e)))
 change_by old new noted false e = noted_old old new noted
 
@@ -66,7 +67,8 @@ fits_change kind old new noted o n =
     either None m = o
     either (Some older) m = m
 
-pub fits_changes : (kinds : List Kind) (olds news : List Value) (noted : List (Option Value)) → FitsRow kinds olds → FitsImage kinds noted → FitsImage kinds (changes_noted olds news noted)
+pub fits_changes : (kinds : List Kind) (olds news : List Value) (noted : List (Option Value)) → FitsRow kinds olds → FitsImage kinds noted
+    → FitsImage kinds (changes_noted olds news noted)
 fits_changes kinds [] news noted o n = n
 fits_changes kinds (old ∷ olds) [] noted o n = n
 fits_changes [] (old ∷ olds) (new ∷ news) noted o n = absurd o
@@ -108,7 +110,9 @@ module _ (laws : PlacesStep) (viewer : Viewer) (label : Label) (version old : Ve
 
   restores : before (image_over old version blank) version ≡ old
   restores = λ i. record {
-    row = (put_back_changes old.row version.row (replicate width None) size (let e : length (replicate width None) ≡ width = Rattle.std.proofs.lemmas.List.length-replicate width None in e ∙ sym wide) ∙ put_back_none old.row width) i;
+    row = (put_back_changes old.row version.row (replicate width None) size
+        (let e : length (replicate width None) ≡ width = Rattle.std.proofs.lemmas.List.length-replicate width None in e ∙ sym wide)
+        ∙ put_back_none old.row width) i;
     live = sym live i;
   }
 
@@ -132,7 +136,8 @@ not_true false t f = cc
 pub own_fits : (kinds : List Kind) (id : ℕ) (chain : List (Undo Image)) → FitsChain kinds chain → FitsImage kinds (own_or_blank (length kinds) id chain).values
 own_fits kinds id [] f = fits_blank kinds
 own_fits kinds id (undo ∷ rest) f =
-    elim (undo.stamp.mark == id) as (λ (b : Bool). FitsImage kinds (cond b undo.image (record { values = replicate (length kinds) None; live = true })).values) [
+    elim (undo.stamp.mark == id) as (λ (b : Bool). FitsImage kinds
+    (cond b undo.image (record { values = replicate (length kinds) None; live = true })).values) [
       | true ↦ f.0
       | false ↦ fits_blank kinds
     ]
@@ -142,12 +147,15 @@ pub chain_fits : (kinds : List Kind) (id : ℕ) (stamp : Stamp) (old new : Versi
     → FitsChain kinds (record { stamp = stamp; image = image_over old new (own_or_blank (length kinds) id chain) } ∷ without_own id chain)
 chain_fits kinds id stamp old new [] r f = (fits_changes kinds old.row new.row (replicate (length kinds) None) r (fits_blank kinds), (λ dead. refl), tt)
 chain_fits kinds id stamp old new (undo ∷ rest) r f =
-    elim (undo.stamp.mark == id) as (λ (b : Bool). FitsChain kinds (record { stamp = stamp; image = image_over old new (cond b undo.image (record { values = replicate (length kinds) None; live = true })) } ∷ cond b rest (undo ∷ rest))) [
+    elim (undo.stamp.mark == id) as (λ (b : Bool). FitsChain kinds
+    (record { stamp = stamp; image = image_over old new (cond b undo.image (record { values = replicate (length kinds) None; live = true })) }
+    ∷ cond b rest (undo ∷ rest))) [
       | true ↦ (fits_changes kinds old.row new.row undo.image.values r f.0, f.1, f.2)
       | false ↦ (fits_changes kinds old.row new.row (replicate (length kinds) None) r (fits_blank kinds), (λ dead. absurd (not_true true refl dead)), f)
     ]
 
-pub over_fits : (kinds : List Kind) (viewer : Viewer) (label : Label) (version : Version) (place : Place) → FitsRow kinds version.row → place.version.live ≡ true → FitsPlace kinds place
+pub over_fits : (kinds : List Kind) (viewer : Viewer) (label : Label) (version : Version) (place : Place) → FitsRow kinds version.row
+    → place.version.live ≡ true → FitsPlace kinds place
     → FitsPlace kinds (over_place (length kinds) viewer label version place)
 over_fits kinds viewer label version place r live f = record {
   row = r;

@@ -40,7 +40,8 @@ module _ (f : Fields) (kinds : List Kind) (spare : List Image) (seen_places : Li
   cleared_there = put_there [] place f.chains cleared [] (in_chains f kinds spare seen_places view s place l) cleared_are
 
   twice : chains ≡ set f.chains place (top image ∷ [])
-  twice = chains_are ∙ ((λ i. set (cleared_are i) place (top image ∷ cleared_there i)) ∙ Rattle.std.proofs.lemmas.List.set-set f.chains place [] (top image ∷ []))
+  twice = chains_are ∙ ((λ i. set (cleared_are i) place (top image ∷ cleared_there i))
+      ∙ Rattle.std.proofs.lemmas.List.set-set f.chains place [] (top image ∷ []))
 
   changed : Changed place f new
   changed = record {
@@ -61,7 +62,8 @@ module _ (f : Fields) (kinds : List Kind) (spare : List Image) (seen_places : Li
   used_now = put_there false place f.used used true (in_used f kinds spare seen_places view s place l) used_is
 
   chain_now : get_or chains place [] ≡ top (blank_image (length kinds)) ∷ []
-  chain_now = put_there [] place f.chains chains (top image ∷ []) (in_chains f kinds spare seen_places view s place l) twice ∙ ap (λ (x : Image). top x ∷ []) image_is
+  chain_now = put_there [] place f.chains chains (top image ∷ []) (in_chains f kinds spare seen_places view s place l) twice
+      ∙ ap (λ (x : Image). top x ∷ []) image_is
 
   here : at new place ≡ placed_place label viewer.id (blank_image (length kinds)) version (at f place)
   here = λ i. record { version = record { row = row_now i; live = live_now i }; used = used_now i; death = (at f place).death; chain = chain_now i }

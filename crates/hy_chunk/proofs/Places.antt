@@ -11,6 +11,7 @@ use Rattle.hy_undo.specs.Images.{Image}
 use Rattle.hy_undo.specs.Places.{Place}
 use Rattle.hy_value.specs.declared.Kind.TheVariants.{Int, Str}
 use Rattle.hy_column.specs.Cells.{first_value}
+use Rattle.hy_chunk.specs.declared.positions.Positions.TheInside.{Inside}
 use Rattle.hy_chunk.specs.Fields.{place_at, places_of, blank_with, blank_place, nth}
 use Rattle.hy_chunk.specs.Sound.{FitsRow, FitsPlace, AreBlank, Sound}
 
@@ -20,6 +21,16 @@ pub record Fields : Type 0 where
   pub used : List Bool
   pub deaths : List ℕ
   pub chains : List (List (Undo Image))
+
+-- those of the positions of a chunk
+abbrev pub fields : Inside → Fields
+fields positions = record {
+  rows = positions.columns.rows;
+  live = positions.live.items;
+  used = positions.used.items;
+  deaths = positions.deaths.items;
+  chains = positions.chains.chains;
+}
 
 abbrev pub at : Fields → ℕ → Place
 at f place = place_at f.rows f.live f.used f.deaths f.chains place
@@ -76,7 +87,8 @@ set_all place old new c l =
     let inside : k < length old.rows = omega (arith, m, length_all new, size) in
     let within : place < length (all old) = omega (arith, l, length_all old) in
     at_all new k d (omega (arith, inside, size)) ∙ elim (cases_eq k place) [
-      | inl same ↦ ap (at new) same ∙ (sym (get_or-set_same (all old) place (at new place) d within) ∙ ap (λ (j : ℕ). get_or (set (all old) place (at new place)) j d) (sym same))
+      | inl same ↦ ap (at new) same ∙ (sym (get_or-set_same (all old) place (at new place) d within)
+          ∙ ap (λ (j : ℕ). get_or (set (all old) place (at new place)) j d) (sym same))
       | inr other ↦ others_same place old new c k other ∙ (sym (at_all old k d inside) ∙ sym (get_or-set_other (all old) place k (at new place) d other))
     ])
 
@@ -158,7 +170,8 @@ fits_first [] = tt
 fits_first (Int ∷ kinds) = (tt, fits_first kinds)
 fits_first (Str ∷ kinds) = (tt, fits_first kinds)
 
-module _ (f : Fields) (n : ℕ) (kinds : List Kind) (rows : f.rows ≡ replicate n (map first_value kinds)) (live : f.live ≡ replicate n false) (used : f.used ≡ replicate n false)
+module _ (f : Fields) (n : ℕ) (kinds : List Kind) (rows : f.rows ≡ replicate n (map first_value kinds)) (live : f.live ≡ replicate n false)
+    (used : f.used ≡ replicate n false)
     (deaths : ◌≡◌ {A = List ℕ} f.deaths (replicate n 0)) (chains : f.chains ≡ replicate n []) where
   many : length f.rows ≡ n
   many = ap length rows ∙ length-replicate n (map first_value kinds)
@@ -169,7 +182,8 @@ module _ (f : Fields) (n : ℕ) (kinds : List Kind) (rows : f.rows ≡ replicate
       (λ k l.
       let e = many in
       let inside : k < n = omega (arith, l, length_all f, e) in
-      at_all f k (blank_with []) (omega (arith, inside, e)) ∙ (blank_at f n kinds rows live used deaths chains k inside ∙ sym (get_or-replicate n k (blank_place kinds) (blank_with []) inside)))
+      at_all f k (blank_with []) (omega (arith, inside, e))
+      ∙ (blank_at f n kinds rows live used deaths chains k inside ∙ sym (get_or-replicate n k (blank_place kinds) (blank_with []) inside)))
 
   pub sound_blank : (now : List Kind) (spare : List Image) → now ≡ kinds → spare ≡ [] → Sound now f.rows f.live f.used f.deaths f.chains spare
   sound_blank now spare e none =

@@ -13,7 +13,8 @@ pub seen_fits : (kinds : List Kind) (viewer : Viewer) (version : Version) (chain
     → FitsRow kinds (seen before viewer version chain).row
 seen_fits kinds viewer version [] r f = r
 seen_fits kinds viewer version (undo ∷ older) r f =
-    elim (Rattle.hy_chain.specs.Chains.stops viewer undo.stamp.mark) as (λ (b : Bool). FitsRow kinds (cond b version (seen before viewer (before undo.image version) older)).row) [
+    elim (Rattle.hy_chain.specs.Chains.stops viewer undo.stamp.mark) as (λ (b : Bool). FitsRow kinds
+    (cond b version (seen before viewer (before undo.image version) older)).row) [
       | true ↦ r
       | false ↦ seen_fits kinds viewer (before undo.image version) older (fits_put_back kinds version.row undo.image.values r f.0) f.2
     ]

@@ -45,7 +45,8 @@ module _ (f : Fields) (kinds : List Kind) (spare : List Image) (seen_places : Li
 
   pub stamped_sound : Sound kinds f.rows f.live f.used deaths chains spare
   stamped_sound = sound_changed place f new kinds kinds spare spare refl s changed
-      (subst (FitsPlace kinds) (sym here) (fits_stamped kinds id time (stamped_place id time (at f place)).death (at f place) (fits_there f kinds spare seen_places view s place l))) s.blank
+      (subst (FitsPlace kinds) (sym here)
+      (fits_stamped kinds id time (stamped_place id time (at f place)).death (at f place) (fits_there f kinds spare seen_places view s place l))) s.blank
 
   pub stamped_places : places_of f.rows f.live f.used deaths chains ≡ set seen_places place (stamped_place id time (nth seen_places place))
   stamped_places = changed_to place f new seen_places (stamped_place id time) view changed l here

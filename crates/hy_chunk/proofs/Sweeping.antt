@@ -1,5 +1,6 @@
 -- A sweep over the positions, one after the other.
-use Rattle.std.proofs.Common.{◌≡◌, ℕ, zero, suc, ◌+◌, ◌<◌, ◌≤◌, Bool, true, false, List, [], ◌∷◌, length, drop, Option, None, Some, Result, Ok, Err, refl, sym, ap, ◌∙◌, cond, subst, arith}
+use Rattle.std.proofs.Common.{◌≡◌, ℕ, zero, suc, ◌+◌, ◌<◌, ◌≤◌, Bool, true, false, List, [], ◌∷◌, length}
+use Rattle.std.proofs.Common.{drop, Option, None, Some, Result, Ok, Err, refl, sym, ap, ◌∙◌, cond, subst, arith}
 use Rattle.std.specs.Prelude.{is_some, count_by}
 use Rattle.std.proofs.lemmas.List.{at_drop_more, at_drop_all}
 use Rattle.std.proofs.lemmas.List.Sums.{sum_by-cons}
@@ -28,7 +29,8 @@ use Rattle.hy_bound.specs.declared.WriteKind.TheVariants.{Set, Delete}
 use Rattle.hy_chunk.specs.Writes.{FitsSets, FitsWrite, SetColumns, judged_at, refusal_in, WrittenAs, all_noted, IsDone}
 
 -- a refusal here is the first one
-refused_here : (v : Result (Option Cell) Refusal) (rest : Result (List (Option Cell)) Refusal) (refusal : Refusal) → Some refusal ≡ refusal_in v → Some refusal ≡ refusal_in (and_new v rest)
+refused_here : (v : Result (Option Cell) Refusal) (rest : Result (List (Option Cell)) Refusal) (refusal : Refusal) → Some refusal ≡ refusal_in v
+    → Some refusal ≡ refusal_in (and_new v rest)
 refused_here (Ok cell) rest refusal e = absurd (cc)
 refused_here (Err other) rest refusal e = e
 
@@ -42,33 +44,40 @@ module _ (sets : Option (List Assign)) (pred : Condition) (viewer : Viewer) (fir
   from count = refusal_in (swept sets pred viewer (first + count) (drop count places))
 
   step : (count : ℕ) → count < length places
-      → from count ≡ refusal_in (and_new (judged_at sets pred viewer (first + count) (nth places count)) (swept sets pred viewer (suc (first + count)) (drop (count + 1) places)))
+      → from count ≡ refusal_in (and_new (judged_at sets pred viewer (first + count) (nth places count))
+      (swept sets pred viewer (suc (first + count)) (drop (count + 1) places)))
   step count l = at_drop_more (λ (rest : List Place). refusal_in (swept sets pred viewer (first + count) rest)) places count (blank_with []) l
 
   next_number : (count : ℕ) → suc (first + count) ≡ first + (count + 1)
   next_number count = let e : ◌≡◌ {A = ℕ} (suc (first + count)) (first + (count + 1)) = omega arith in e
 
-  pub refused_at : (count : ℕ) (refusal : Refusal) → count < length places → Some refusal ≡ refusal_in (judged_at sets pred viewer (first + count) (nth places count))
+  pub refused_at : (count : ℕ) (refusal : Refusal) → count < length places
+      → Some refusal ≡ refusal_in (judged_at sets pred viewer (first + count) (nth places count))
       → Some refusal ≡ from count
   refused_at count refusal l e =
-      refused_here (judged_at sets pred viewer (first + count) (nth places count)) (swept sets pred viewer (suc (first + count)) (drop (count + 1) places)) refusal e ∙ sym (step count l)
+      refused_here (judged_at sets pred viewer (first + count) (nth places count))
+      (swept sets pred viewer (suc (first + count)) (drop (count + 1) places)) refusal e ∙ sym (step count l)
 
-  pub goes_on : (count : ℕ) → count < length places → None ≡ refusal_in (judged_at sets pred viewer (first + count) (nth places count)) → from (count + 1) ≡ from count
+  pub goes_on : (count : ℕ) → count < length places → None ≡ refusal_in (judged_at sets pred viewer (first + count) (nth places count))
+      → from (count + 1) ≡ from count
   goes_on count l e =
       ap (λ (n : ℕ). refusal_in (swept sets pred viewer n (drop (count + 1) places))) (sym (next_number count))
-      ∙ sym (step count l ∙ not_here (judged_at sets pred viewer (first + count) (nth places count)) (swept sets pred viewer (suc (first + count)) (drop (count + 1) places)) e)
+      ∙ sym (step count l ∙ not_here (judged_at sets pred viewer (first + count) (nth places count))
+      (swept sets pred viewer (suc (first + count)) (drop (count + 1) places)) e)
 
 -- a viewer whose write is in conflict with nobody sees what is in place
 pub sees_in_place : (viewer : Viewer) (version : Version) (chain : List (Undo Image)) → rival viewer chain ≡ None → seen before viewer version chain ≡ version
 sees_in_place viewer version [] e = refl
 sees_in_place viewer version (undo ∷ rest) e =
-    elim (stops viewer undo.stamp.mark) as (λ (b : Bool). cond b None (Some undo.stamp.owner) ≡ None → cond b version (seen before viewer (before undo.image version) rest) ≡ version) [
+    elim (stops viewer undo.stamp.mark) as (λ (b : Bool). cond b None (Some undo.stamp.owner) ≡ None
+    → cond b version (seen before viewer (before undo.image version) rest) ≡ version) [
       | true ↦ λ f. refl
       | false ↦ λ f. absurd (cc)
     ] e
 
 -- what is judged of a version
-no_row : (sets : Option (List Assign)) (pred : Condition) (pos : ℕ) (other : Option Label) (cell : Cell) → truth_at pred cell ≡ false → verdict sets pred pos other cell ≡ Ok None
+no_row : (sets : Option (List Assign)) (pred : Condition) (pos : ℕ) (other : Option Label) (cell : Cell) → truth_at pred cell ≡ false
+    → verdict sets pred pos other cell ≡ Ok None
 no_row sets pred pos other None e = refl
 no_row sets pred pos other (Some row) e = ap (λ (b : Bool). cond b (judged pos other (new_cell sets row)) (Ok None)) e
 
@@ -76,7 +85,8 @@ live_by : (pred : Condition) (row : List Value) (live : Bool) → truth_at pred 
 live_by pred row true e = refl
 live_by pred row false e = absurd (cc)
 
-a_row : (sets : Option (List Assign)) (pred : Condition) (pos : ℕ) (other : Option Label) (row : List Value) (live : Bool) → truth_at pred (cond live (Some row) None) ≡ true
+a_row : (sets : Option (List Assign)) (pred : Condition) (pos : ℕ) (other : Option Label) (row : List Value) (live : Bool)
+    → truth_at pred (cond live (Some row) None) ≡ true
     → verdict sets pred pos other (cond live (Some row) None) ≡ judged pos other (new_cell sets row)
 a_row sets pred pos other row true e = ap (λ (b : Bool). cond b (judged pos other (new_cell sets row)) (Ok None)) e
 a_row sets pred pos other row false e = absurd (cc)
@@ -90,7 +100,8 @@ in_range_by pos None (Some cell) e = refl
 in_range_by pos None None e = absurd (cc)
 in_range_by pos (Some label) cell e = absurd (cc)
 
-module _ (sets : Option (List Assign)) (pred : Condition) (viewer : Viewer) (pos : ℕ) (p : Place) (version : Version) (is : version ≡ seen before viewer p.version p.chain) where
+module _ (sets : Option (List Assign)) (pred : Condition) (viewer : Viewer) (pos : ℕ) (p : Place) (version : Version)
+    (is : version ≡ seen before viewer p.version p.chain) where
   told : judged_at sets pred viewer pos p ≡ verdict sets pred pos (rival viewer p.chain) (cell_of version)
   told = ap (λ (v : Version). verdict sets pred pos (rival viewer p.chain) (cell_of v)) (sym is)
 
@@ -109,10 +120,12 @@ module _ (sets : Option (List Assign)) (pred : Condition) (viewer : Viewer) (pos
 
     module _ (ok : refusal_in (judged_at sets pred viewer pos p) ≡ None) where
       pub without_rival : rival viewer p.chain ≡ None
-      without_rival = no_rival pos (rival viewer p.chain) (new_cell sets version.row) (sym (ap (λ (v : Result (Option Cell) Refusal). refusal_in v) judges) ∙ ok)
+      without_rival = no_rival pos (rival viewer p.chain) (new_cell sets version.row)
+          (sym (ap (λ (v : Result (Option Cell) Refusal). refusal_in v) judges) ∙ ok)
 
       pub is_in_range : is_some (new_cell sets version.row) ≡ true
-      is_in_range = in_range_by pos (rival viewer p.chain) (new_cell sets version.row) (sym (ap (λ (v : Result (Option Cell) Refusal). refusal_in v) judges) ∙ ok)
+      is_in_range = in_range_by pos (rival viewer p.chain) (new_cell sets version.row)
+          (sym (ap (λ (v : Result (Option Cell) Refusal). refusal_in v) judges) ∙ ok)
 
       pub is_in_place : version ≡ p.version
       is_in_place = is ∙ sees_in_place viewer p.version p.chain without_rival
@@ -130,7 +143,8 @@ abbrev pub AllWrittenAs : Viewer → Label → Result (List (Option Cell)) Refus
 AllWrittenAs viewer label (Err refusal) olds news = ⊥
 AllWrittenAs viewer label (Ok cells) olds news = AllWritten viewer label cells olds news
 
-both_ok : (v : Result (Option Cell) Refusal) (rest : Result (List (Option Cell)) Refusal) → refusal_in (and_new v rest) ≡ None → (refusal_in v ≡ None) × (refusal_in rest ≡ None)
+both_ok : (v : Result (Option Cell) Refusal) (rest : Result (List (Option Cell)) Refusal) → refusal_in (and_new v rest) ≡ None
+    → (refusal_in v ≡ None) × (refusal_in rest ≡ None)
 both_ok (Ok cell) (Ok cells) e = (refl, refl)
 both_ok (Ok cell) (Err refusal) e = absurd (cc)
 both_ok (Err refusal) rest e = absurd (cc)
@@ -140,7 +154,8 @@ noted_none : (table pos : ℕ) (viewer : Viewer) (rest : Result (List (Option Ce
 noted_none table pos viewer (Ok cells) p ps notes = refl
 noted_none table pos viewer (Err refusal) p ps notes = refl
 
-noted_some : (table pos : ℕ) (viewer : Viewer) (cell : Cell) (rest : Result (List (Option Cell)) Refusal) (p : Place) (ps : List Place) (notes : List Change) → refusal_in rest ≡ None
+noted_some : (table pos : ℕ) (viewer : Viewer) (cell : Cell) (rest : Result (List (Option Cell)) Refusal) (p : Place) (ps : List Place)
+    (notes : List Change) → refusal_in rest ≡ None
     → noted_of table pos viewer (and_new (Ok (Some cell)) rest) (p ∷ ps) notes
     ≡ noted_of table (suc pos) viewer rest ps (with_note (record { table = table; pos = pos; before = sees viewer p; after = cell }) notes)
 noted_some table pos viewer cell (Ok cells) p ps notes e = refl
@@ -150,7 +165,8 @@ counted_none : (rest : Result (List (Option Cell)) Refusal) → counted_of (and_
 counted_none (Ok cells) = let e = sum_by-cons (λ (c : Option Cell). cond (is_some c) 1 0) None cells in omega (arith, e)
 counted_none (Err refusal) = refl
 
-counted_some : (cell : Cell) (rest : Result (List (Option Cell)) Refusal) → refusal_in rest ≡ None → counted_of (and_new (Ok (Some cell)) rest) ≡ 1 + counted_of rest
+counted_some : (cell : Cell) (rest : Result (List (Option Cell)) Refusal) → refusal_in rest ≡ None
+    → counted_of (and_new (Ok (Some cell)) rest) ≡ 1 + counted_of rest
 counted_some cell (Ok cells) e = let s = sum_by-cons (λ (c : Option Cell). cond (is_some c) 1 0) (Some cell) cells in omega (arith, s)
 counted_some cell (Err refusal) e = absurd (cc)
 
@@ -183,7 +199,8 @@ module _ (sets : Option (List Assign)) (pred : Condition) (viewer : Viewer) (tab
     pub unnoted : noted_of table (first + count) viewer (swept sets pred viewer (first + count) (drop count places)) (drop count places) notes
         ≡ noted_of table (first + (count + 1)) viewer (left (first + (count + 1))) (drop (count + 1) places) notes
     unnoted = unfolds (λ r ps. noted_of table (first + count) viewer r ps notes)
-        ∙ (ap (λ (v : Result (Option Cell) Refusal). noted_of table (first + count) viewer (and_new v (left (suc (first + count)))) (nth places count ∷ drop (count + 1) places) notes) none
+        ∙ (ap (λ (v : Result (Option Cell) Refusal). noted_of table (first + count) viewer (and_new v (left (suc (first + count))))
+        (nth places count ∷ drop (count + 1) places) notes) none
         ∙ (noted_none table (first + count) viewer (left (suc (first + count))) (nth places count) (drop (count + 1) places) notes
         ∙ ap (λ (n : ℕ). noted_of table n viewer (left n) (drop (count + 1) places) notes) after))
 
@@ -197,25 +214,31 @@ module _ (sets : Option (List Assign)) (pred : Condition) (viewer : Viewer) (tab
         ≡ noted_of table (first + (count + 1)) viewer (left (first + (count + 1))) (drop (count + 1) places)
         (with_note (record { table = table; pos = first + count; before = sees viewer (nth places count); after = cell }) notes)
     noted = unfolds (λ r ps. noted_of table (first + count) viewer r ps notes)
-        ∙ (ap (λ (v : Result (Option Cell) Refusal). noted_of table (first + count) viewer (and_new v (left (suc (first + count)))) (nth places count ∷ drop (count + 1) places) notes) some
+        ∙ (ap (λ (v : Result (Option Cell) Refusal). noted_of table (first + count) viewer (and_new v (left (suc (first + count))))
+        (nth places count ∷ drop (count + 1) places) notes) some
         ∙ (noted_some table (first + count) viewer cell (left (suc (first + count))) (nth places count) (drop (count + 1) places) notes both.1
-        ∙ ap (λ (n : ℕ). noted_of table n viewer (left n) (drop (count + 1) places) (with_note (record { table = table; pos = first + count; before = sees viewer (nth places count); after = cell }) notes)) after))
+        ∙ ap (λ (n : ℕ). noted_of table n viewer (left n) (drop (count + 1) places)
+        (with_note (record { table = table; pos = first + count; before = sees viewer (nth places count); after = cell }) notes)) after))
 
     pub counted : counted_of (swept sets pred viewer (first + count) (drop count places)) ≡ 1 + counted_of (left (first + (count + 1)))
     counted = unfolds (λ r ps. counted_of r)
         ∙ (ap (λ (v : Result (Option Cell) Refusal). counted_of (and_new v (left (suc (first + count))))) some
         ∙ (counted_some cell (left (suc (first + count))) both.1 ∙ ap (λ (n : ℕ). 1 + counted_of (left n)) after))
 
-written_by : (viewer : Viewer) (label : Label) (v : Result (Option Cell) Refusal) (rest : Result (List (Option Cell)) Refusal) (old new : Place) (olds news : List Place)
-    → refusal_in (and_new v rest) ≡ None → WrittenAs viewer label v old new → (refusal_in rest ≡ None → AllWrittenAs viewer label rest olds news) → AllWrittenAs viewer label (and_new v rest) (old ∷ olds) (new ∷ news)
+written_by : (viewer : Viewer) (label : Label) (v : Result (Option Cell) Refusal) (rest : Result (List (Option Cell)) Refusal) (old new : Place)
+    (olds news : List Place)
+    → refusal_in (and_new v rest) ≡ None → WrittenAs viewer label v old new → (refusal_in rest ≡ None → AllWrittenAs viewer label rest olds news)
+    → AllWrittenAs viewer label (and_new v rest) (old ∷ olds) (new ∷ news)
 written_by viewer label (Ok None) (Ok cells) old new olds news e w r = (w, r refl)
 written_by viewer label (Ok (Some cell)) (Ok cells) old new olds news e w r = (w, r refl)
 written_by viewer label (Ok None) (Err refusal) old new olds news e w r = absurd (cc)
 written_by viewer label (Ok (Some cell)) (Err refusal) old new olds news e w r = absurd (cc)
 written_by viewer label (Err refusal) rest old new olds news e w r = absurd w
 
-pub all_written : (sets : Option (List Assign)) (pred : Condition) (viewer : Viewer) (label : Label) (pos : ℕ) (olds news : List Place) → refusal_in (swept sets pred viewer pos olds) ≡ None
-    → length news ≡ length olds → ((i : ℕ) → i < length olds → WrittenAs viewer label (judged_at sets pred viewer (pos + i) (nth olds i)) (nth olds i) (nth news i))
+pub all_written : (sets : Option (List Assign)) (pred : Condition) (viewer : Viewer) (label : Label) (pos : ℕ) (olds news : List Place)
+    → refusal_in (swept sets pred viewer pos olds) ≡ None
+    → length news ≡ length olds → ((i : ℕ) → i < length olds
+    → WrittenAs viewer label (judged_at sets pred viewer (pos + i) (nth olds i)) (nth olds i) (nth news i))
     → AllWrittenAs viewer label (swept sets pred viewer pos olds) olds news
 all_written sets pred viewer label pos [] [] ok size each = tt
 all_written sets pred viewer label pos [] (new ∷ news) ok size each = absurd (omega arith)
@@ -228,21 +251,27 @@ all_written sets pred viewer label pos (old ∷ olds) (new ∷ news) ok size eac
     (λ i l. let number : ◌≡◌ {A = ℕ} (pos + suc i) (suc pos + i) = omega arith in
     subst (λ (n : ℕ). WrittenAs viewer label (judged_at sets pred viewer n (nth olds i)) (nth olds i) (nth news i)) number (each (suc i) (omega arith))))
 
-done_by : (viewer : Viewer) (label : Label) (table first : ℕ) (r : Result (List (Option Cell)) Refusal) (olds news : List Place) (notes now : List Change) (count : ℕ)
-    → AllWrittenAs viewer label r olds news → now ≡ noted_of table first viewer r olds notes → count ≡ counted_of r → IsDone viewer label table first r olds news notes now count
+done_by : (viewer : Viewer) (label : Label) (table first : ℕ) (r : Result (List (Option Cell)) Refusal) (olds news : List Place)
+    (notes now : List Change) (count : ℕ)
+    → AllWrittenAs viewer label r olds news → now ≡ noted_of table first viewer r olds notes → count ≡ counted_of r
+    → IsDone viewer label table first r olds news notes now count
 done_by viewer label table first (Err refusal) olds news notes now count w n c = absurd w
 done_by viewer label table first (Ok cells) olds news notes now count w n c = record { written = w; noted = n; counted = c }
 
 -- after the last position
-pub all_done : (sets : Option (List Assign)) (pred : Condition) (viewer : Viewer) (label : Label) (table first : ℕ) (olds news : List Place) (notes now : List Change) (written place : ℕ)
+pub all_done : (sets : Option (List Assign)) (pred : Condition) (viewer : Viewer) (label : Label) (table first : ℕ) (olds news : List Place)
+    (notes now : List Change) (written place : ℕ)
     → length olds ≤ place → AllWrittenAs viewer label (swept sets pred viewer first olds) olds news
-    → noted_of table (first + place) viewer (swept sets pred viewer (first + place) (drop place olds)) (drop place olds) now ≡ noted_of table first viewer (swept sets pred viewer first olds) olds notes
+    → noted_of table (first + place) viewer (swept sets pred viewer (first + place) (drop place olds)) (drop place olds) now ≡ noted_of table first
+    viewer (swept sets pred viewer first olds) olds notes
     → written + counted_of (swept sets pred viewer (first + place) (drop place olds)) ≡ counted_of (swept sets pred viewer first olds)
     → IsDone viewer label table first (swept sets pred viewer first olds) olds news notes now written
 all_done sets pred viewer label table first olds news notes now written place end w n c =
-    let last : counted_of (swept sets pred viewer (first + place) (drop place olds)) ≡ 0 = at_drop_all (λ (rest : List Place). counted_of (swept sets pred viewer (first + place) rest)) olds place end in
+    let last : counted_of (swept sets pred viewer (first + place) (drop place olds)) ≡ 0 = at_drop_all
+    (λ (rest : List Place). counted_of (swept sets pred viewer (first + place) rest)) olds place end in
     done_by viewer label table first (swept sets pred viewer first olds) olds news notes now written w
-    (sym (at_drop_all (λ (rest : List Place). noted_of table (first + place) viewer (swept sets pred viewer (first + place) rest) rest now) olds place end) ∙ n) (omega (arith, c, last))
+    (sym (at_drop_all (λ (rest : List Place). noted_of table (first + place) viewer (swept sets pred viewer (first + place) rest) rest now) olds
+    place end) ∙ n) (omega (arith, c, last))
 
 -- one position more is as it was judged
 pub done_more : (has : ℕ → Type 0) (count : ℕ) → ((k : ℕ) → k < count → has k) → has count → (k : ℕ) → k < count + 1 → has k
@@ -252,14 +281,17 @@ done_more has count before here k l =
       | inr other ↦ before k (omega (arith, l, other))
     ]
 
-pub as_none : (viewer : Viewer) (label : Label) (v : Result (Option Cell) Refusal) (old new : Place) → v ≡ Ok None → new ≡ old → WrittenAs viewer label v old new
+pub as_none : (viewer : Viewer) (label : Label) (v : Result (Option Cell) Refusal) (old new : Place) → v ≡ Ok None → new ≡ old
+    → WrittenAs viewer label v old new
 as_none viewer label v old new is same = subst (λ (x : Result (Option Cell) Refusal). WrittenAs viewer label x old new) (sym is) same
 
-pub as_some : (viewer : Viewer) (label : Label) (v : Result (Option Cell) Refusal) (cell : Cell) (old now new : Place) → v ≡ Ok (Some cell) → now ≡ old → Written viewer label cell now new → WrittenAs viewer label v old new
+pub as_some : (viewer : Viewer) (label : Label) (v : Result (Option Cell) Refusal) (cell : Cell) (old now new : Place) → v ≡ Ok (Some cell)
+    → now ≡ old → Written viewer label cell now new → WrittenAs viewer label v old new
 as_some viewer label v cell old now new is same w =
     subst (λ (x : Result (Option Cell) Refusal). WrittenAs viewer label x old new) (sym is) (subst (λ (p : Place). Written viewer label cell p new) same w)
 
-columns_of_sets : (kinds : List Kind) (key : Option ℕ) (sets : List Assign) (width : ℕ) → width ≡ length kinds → FitsSets kinds key sets → AllByRecursion (λ (assign : Assign). assign.column < width) sets
+columns_of_sets : (kinds : List Kind) (key : Option ℕ) (sets : List Assign) (width : ℕ) → width ≡ length kinds → FitsSets kinds key sets
+    → AllByRecursion (λ (assign : Assign). assign.column < width) sets
 columns_of_sets kinds key [] width e f = tt
 columns_of_sets kinds key (assign ∷ sets) width e f = (subst (λ (n : ℕ). assign.column < n) (sym e) f.0.column, columns_of_sets kinds key sets width e f.1)
 

@@ -16,7 +16,8 @@ use Rattle.hy_chunk.proofs.Fitting.{fits_undone, fits_put_back}
 
 -- the newest record is not of this identifier
 not_own : (id : ℕ) (version : Version) (used : Bool) (death : ℕ) (chain : List (Undo Image)) → own_image id chain ≡ None
-    → record { version = version; used = used; death = death; chain = without_own id chain } ≡ undone_by id (record { version = version; used = used; death = death; chain = chain }) chain
+    → record { version = version; used = used; death = death; chain = without_own id chain } ≡ undone_by id
+    (record { version = version; used = used; death = death; chain = chain }) chain
 not_own id version used death [] none = refl
 not_own id version used death (undo ∷ older) none =
     elim (undo.stamp.mark == id) as (λ (b : Bool). cond b (Some undo.image) None ≡ None
@@ -34,15 +35,23 @@ own_undone : (id : ℕ) (version : Version) (used : Bool) (death : ℕ) (chain :
 own_undone id version used death [] image some = absurd (cc)
 own_undone id version used death (undo ∷ older) image some =
     elim (undo.stamp.mark == id) as (λ (b : Bool). Some image ≡ cond b (Some undo.image) None
-    → ◌≡◌ {A = Place} (record { version = before image version; used = used && (image.live || not (death == 0)); death = death; chain = cond b older (undo ∷ older) })
+    → ◌≡◌ {A = Place} (record {
+      version = before image version;
+      used = used && (image.live || not (death == 0));
+      death = death;
+      chain = cond b older
+          (undo ∷ older);
+    })
     (cond b (record { version = before undo.image version; used = used && (undo.image.live || not (death == 0)); death = death; chain = older })
     (record { version = version; used = used; death = death; chain = undo ∷ older }))) [
       | true ↦ λ e. let same : image ≡ undo.image = cc in
-          let place : Image → Place = λ x. record { version = before x version; used = used && (x.live || not (death == 0)); death = death; chain = older } in ap place same
+          let place : Image → Place = λ x. record
+          { version = before x version; used = used && (x.live || not (death == 0)); death = death; chain = older } in ap place same
       | false ↦ λ e. absurd (cc)
     ] some
 
-own_fits : (kinds : List Kind) (id : ℕ) (chain : List (Undo Image)) (image : Image) → FitsChain kinds chain → Some image ≡ own_image id chain → FitsImage kinds image.values
+own_fits : (kinds : List Kind) (id : ℕ) (chain : List (Undo Image)) (image : Image) → FitsChain kinds chain → Some image ≡ own_image id chain
+    → FitsImage kinds image.values
 own_fits kinds id [] image f some = absurd (cc)
 own_fits kinds id (undo ∷ older) image f some =
     elim (undo.stamp.mark == id) as (λ (b : Bool). Some image ≡ cond b (Some undo.image) None → FitsImage kinds image.values) [
@@ -57,7 +66,8 @@ module _ (f : Fields) (kinds : List Kind) (spare : List Image) (seen_places : Li
   chain_there = put_there [] place f.chains chains (without_own id (get_or f.chains place [])) (in_chains f kinds spare seen_places view s place l) is
 
   fits_now : FitsPlace kinds (undone_place id (at f place))
-  fits_now = fits_undone kinds id (at f place).version (at f place).used (at f place).death (at f place).chain (fits_there f kinds spare seen_places view s place l)
+  fits_now = fits_undone kinds id (at f place).version (at f place).used (at f place).death (at f place).chain
+      (fits_there f kinds spare seen_places view s place l)
 
   -- nothing to undo
   module _ (none : own_image id (get_or f.chains place []) ≡ None) where
@@ -111,10 +121,12 @@ module _ (f : Fields) (kinds : List Kind) (spare : List Image) (seen_places : Li
       }
 
       row_there : get_or rows place [] ≡ (before image (at f place).version).row
-      row_there = put_there [] place f.rows rows version.row (in_rows f kinds spare seen_places view s place l) rows_are ∙ ap (λ (v : Version). v.row) version_there
+      row_there = put_there [] place f.rows rows version.row (in_rows f kinds spare seen_places view s place l) rows_are
+          ∙ ap (λ (v : Version). v.row) version_there
 
       live_there : get_or live place false ≡ image.live
-      live_there = put_there false place f.live live version.live (in_live f kinds spare seen_places view s place l) live_is ∙ ap (λ (v : Version). v.live) version_there
+      live_there = put_there false place f.live live version.live (in_live f kinds spare seen_places view s place l) live_is
+          ∙ ap (λ (v : Version). v.live) version_there
 
       used_there : get_or used place false ≡ ((at f place).used && (image.live || not ((at f place).death == 0)))
       used_there = put_there false place f.used used is_used (in_used f kinds spare seen_places view s place l) used_is

@@ -13,7 +13,8 @@ whole_of table first key kinds places room = record {
   room = room;
 }
 
-pub still_whole : (first many width seen next now_first now_many now_width now_seen now_next : ℕ) → IsWhole first many width seen next → now_first ≡ first → now_many ≡ many → now_width ≡ width
+pub still_whole : (first many width seen next now_first now_many now_width now_seen now_next : ℕ) → IsWhole first many width seen next
+    → now_first ≡ first → now_many ≡ many → now_width ≡ width
     → now_seen ≡ width → now_next ≡ width → IsWhole now_first now_many now_width now_seen now_next
 still_whole first many width seen next now_first now_many now_width now_seen now_next was f m w s n = record {
   numbered = omega (arith, was.numbered, f, m);

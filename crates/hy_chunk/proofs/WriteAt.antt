@@ -34,9 +34,11 @@ module _ (f : Fields) (kinds : List Kind) (spare : List Image) (seen_places : Li
   -- the image that is taken
   module _ (taken : Image) (taken_is : taken ≡ own_or_blank (length kinds) viewer.id (get_or f.chains place [])) where
     pub taken_fits : FitsImage kinds taken.values
-    taken_fits = subst (λ (x : Image). FitsImage kinds x.values) (sym taken_is) (own_fits kinds viewer.id (get_or f.chains place []) (fits_there f kinds spare seen_places view s place l).images)
+    taken_fits = subst (λ (x : Image). FitsImage kinds x.values) (sym taken_is)
+        (own_fits kinds viewer.id (get_or f.chains place []) (fits_there f kinds spare seen_places view s place l).images)
 
-    module _ (laws : PlacesStep) (now : List Kind) (same : now ≡ kinds) (rows : List (List Value)) (live : List Bool) (image : Image) (stamp : Stamp) (popped chains : List (List (Undo Image)))
+    module _ (laws : PlacesStep) (now : List Kind) (same : now ≡ kinds) (rows : List (List Value)) (live : List Bool) (image : Image) (stamp : Stamp)
+        (popped chains : List (List (Undo Image)))
         (left : List Image) (blank : Rattle.hy_chunk.specs.Sound.AreBlank (length kinds) left)
         (rows_are : rows ≡ set f.rows place version.row) (live_is : live ≡ set f.live place version.live)
         (values_are : image.values ≡ changes_noted (get_or f.rows place []) version.row taken.values) (alive_is : image.live ≡ taken.live)
@@ -78,14 +80,16 @@ module _ (f : Fields) (kinds : List Kind) (spare : List Image) (seen_places : Li
       live_now = put_there false place f.live live version.live (in_live f kinds spare seen_places view s place l) live_is
 
       chain_now : get_or chains place [] ≡ record { stamp = stamp; image = image } ∷ behind
-      chain_now = put_there [] place f.chains chains (record { stamp = stamp; image = image } ∷ behind) (in_chains f kinds spare seen_places view s place l) twice
+      chain_now = put_there [] place f.chains chains (record { stamp = stamp; image = image } ∷ behind)
+          (in_chains f kinds spare seen_places view s place l) twice
 
       here : at new place ≡ over_place (length kinds) viewer label version (at f place)
       here = (λ i. record (at f place) { version = record { row = row_now i; live = live_now i }; chain = chain_now i })
           ∙ (λ i. record (at f place) { version = version; chain = record { stamp = stamp_is i; image = image_is i } ∷ behind })
 
       fits_now : FitsPlace kinds (at new place)
-      fits_now = subst (FitsPlace kinds) (sym here) (over_fits kinds viewer label version (at f place) fits live_there (fits_there f kinds spare seen_places view s place l))
+      fits_now = subst (FitsPlace kinds) (sym here)
+          (over_fits kinds viewer label version (at f place) fits live_there (fits_there f kinds spare seen_places view s place l))
 
       pub written_sound : Sound now rows live f.used f.deaths chains left
       written_sound = sound_changed place f new kinds now spare left same s changed fits_now blank
@@ -97,7 +101,9 @@ module _ (f : Fields) (kinds : List Kind) (spare : List Image) (seen_places : Li
       written =
           let old_size = fits_length kinds (at f place).version.row (fits_there f kinds spare seen_places view s place l).row in
           let new_size = fits_length kinds version.row fits in
-          let does = overwritten laws viewer label version (at f place).version (at f place).used (at f place).death (length kinds) (new_size ∙ sym old_size) old_size live_there
+          let does = overwritten laws viewer label version (at f place).version (at f place).used (at f place).death (length kinds)
+          (new_size ∙ sym old_size) old_size live_there
           kinds (at f place).chain refl (fits_there f kinds spare seen_places view s place l).images in
           subst (λ (p : Place). Written viewer label (cell_of version) p (nth (all new) place)) (sym there)
-          (subst (λ (p : Place). Written viewer label (cell_of version) (at f place) p) (sym ((changed_there place f new seen_places view changed l).1 ∙ here)) does)
+          (subst (λ (p : Place). Written viewer label (cell_of version) (at f place) p)
+          (sym ((changed_there place f new seen_places view changed l).1 ∙ here)) does)

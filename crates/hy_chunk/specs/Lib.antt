@@ -1,6 +1,9 @@
 pub mod Fields
 pub mod Views
 pub mod Sound
+pub mod Ranged
+pub mod Keyed
+pub mod Held
 pub mod Noting
 pub mod Steps
 pub mod Whole

@@ -47,7 +47,8 @@ abbrev pub AreBlank : ℕ → List Image → Type 0
 AreBlank width images = AllByRecursion (λ image. image ≡ blank_image width) images
 
 -- the fields have as many positions, each of which fits, and the spare before-images are blank
-pub record Sound (kinds : List Kind) (rows : List (List Value)) (live used : List Bool) (deaths : List ℕ) (chains : List (List (Undo Image))) (spare : List Image) : Type 0 where
+pub record Sound (kinds : List Kind) (rows : List (List Value)) (live used : List Bool) (deaths : List ℕ) (chains : List (List (Undo Image)))
+    (spare : List Image) : Type 0 where
   pub lives : length live ≡ length rows
   pub uses : length used ≡ length rows
   pub dead : length deaths ≡ length rows

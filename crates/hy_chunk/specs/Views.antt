@@ -11,9 +11,10 @@ use Rattle.hy_undo.specs.Images.{Image, image_code}
 use Rattle.hy_undo.specs.Places.{Place}
 use Rattle.hy_undo.specs.Chunks.{ChunkData}
 
--- the types of the columns, the positions, and for how many more records there is room
+-- the types of the columns, the key, the positions, and for how many more records there is room
 pub record Held : Type 0 where
   pub kinds : List Kind
+  pub key : Option ℕ
   pub places : List Place
   pub room : ℕ
 
@@ -24,8 +25,9 @@ place_code =
 
 abbrev pub held_code : Coded Held
 held_code =
-    code_by (List Kind × (List Place × ℕ)) (coded× (coded_list kind.the_row.coded) (coded× (coded_list place_code) coded_ℕ))
-    (λ h. (h.kinds, (h.places, h.room))) (λ p. record { kinds = p.0; places = p.1.0; room = p.1.1 }) (λ _. refl)
+    code_by (List Kind × (Option ℕ × (List Place × ℕ)))
+    (coded× (coded_list kind.the_row.coded) (coded× (coded_option coded_ℕ) (coded× (coded_list place_code) coded_ℕ)))
+    (λ h. (h.kinds, (h.key, (h.places, h.room)))) (λ p. record { kinds = p.0; key = p.1.0; places = p.1.1.0; room = p.1.1.1 }) (λ _. refl)
 
 -- the plain data of a chunk, the types of its columns, and for how many more records there is room
 pub record Whole : Type 0 where

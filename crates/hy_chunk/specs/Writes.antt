@@ -30,7 +30,8 @@ sets_of Delete = None
 -- an assignment sets a column other than the key, to a value of the column's type, or NULL, for each row that fits
 pub record FitsSet (kinds : List Kind) (key : Option ℕ) (assign : Assign) : Type 0 where
   pub column : assign.column < length kinds
-  pub typed : (row : List Value) (value : Value) → FitsRow kinds row → value_of assign.value row ≡ Ok value → FitsKind (slice_index_or kinds assign.column Int) value
+  pub typed : (row : List Value) (value : Value) → FitsRow kinds row → value_of assign.value row ≡ Ok value
+      → FitsKind (slice_index_or kinds assign.column Int) value
   pub spares_key : key ≢ Some assign.column
 
 abbrev pub FitsSets : List Kind → Option ℕ → List Assign → Type 0
@@ -74,7 +75,8 @@ WrittenAs viewer label (Ok None) old new = new ≡ old
 WrittenAs viewer label (Ok (Some cell)) old new = Written viewer label cell old new
 
 -- an UPDATE or a DELETE is done: each position with a new cell is written and noted, and so many are
-pub record AreDone (viewer : Viewer) (label : Label) (table first : ℕ) (cells : List (Option Cell)) (olds news : List Place) (notes now : List Change) (count : ℕ) : Type 0 where
+pub record AreDone (viewer : Viewer) (label : Label) (table first : ℕ) (cells : List (Option Cell)) (olds news : List Place)
+    (notes now : List Change) (count : ℕ) : Type 0 where
   pub written : AllWritten viewer label cells olds news
   pub noted : now ≡ all_noted table first viewer cells olds notes
   pub counted : count ≡ count_by is_some cells

@@ -1,17 +1,21 @@
 //! A chunk of a table.
 
-ghost use Rattle.std.specs.Prelude.{◌≡◌, ◌++◌, take, None, Some, IfErr, ◌+◌, ◌<◌, ◌≤◌, ◌^◌, ℕ, List, IfOk, OnOk, OnErr, length, replicate, slice_set};
-ghost use Rattle.std.specs.List.{AllByRecursion, list_any};
+ghost use Rattle.std.specs.Prelude.{◌≡◌, ◌++◌, take, None, Some, IfErr, ◌+◌, ◌<◌, ◌≤◌, ◌^◌};
+ghost use Rattle.std.specs.Prelude.{ℕ, List, IfOk, true, OnOk, OnErr, length, replicate, slice_index_or, slice_set};
+ghost use Rattle.std.specs.List.{AllByRecursion, flat_map, list_any};
+ghost use Rattle.std.specs.Prelude.{Contains, IfSome};
 ghost use Rattle.hy_bound.specs.Condition.{Compare};
 ghost use Rattle.hy_bound.specs.Predicate.{truth_at};
 ghost use Rattle.hy_bound.specs.Projection.{projected};
 ghost use Rattle.hy_chain.specs.Chains.{Falls};
 ghost use Rattle.hy_notes.specs.Notes.{with_note};
 ghost use Rattle.hy_prune.specs.Fates.{watermark_of};
-ghost use Rattle.hy_undo.specs.Places.{cell_of};
+ghost use Rattle.hy_undo.specs.Places.{cell_of, sees};
 ghost use Rattle.hy_undo.specs.Chunks.{rows_seen, Placed, Everywhere, AtOwn, StampedPlace, Undone, Pruned};
 ghost use Rattle.hy_chunk.specs.Fields.{blank_place, nth};
-ghost use Rattle.hy_chunk.specs.Gathering.{kept_of, gathered_of};
+ghost use Rattle.hy_plan.specs.Reads.{by_key_of};
+ghost use Rattle.hy_chunk.specs.Gathering.{AreEnough, conditions_of, gathered_by, gathered_of, kept_by};
+ghost use Rattle.hy_chunk.specs.Keyed.{is_key_of};
 ghost use Rattle.hy_chunk.specs.Sound.{FitsRow};
 ghost use Rattle.hy_chunk.specs.Steps.{loaded_place, least_unused, least_free, IsPut};
 ghost use Rattle.hy_chunk.specs.Views.{with_places};
@@ -21,15 +25,16 @@ ghost use Rattle.hy_value.specs.declared.Value.{Value};
 ghost use Rattle.hy_value.specs.declared.Cmp.{Cmp};
 ghost use Rattle.hy_bound.specs.declared.predicate.Side.{Side};
 
+use crate::gathering::{Keys, Wanted, conditions_gather_rows, has_in, keep, keys_of, value_asked};
 use crate::positions::Positions;
 use crate::writes::{is_selected, make_next, note, refusal_at};
-use hy_bound::{Pred, WriteKind, column_value, compare, project_row, truth};
+use hy_bound::{Pred, WriteKind};
 use hy_notes::Changes;
 use hy_plan::Gathered;
 use hy_prune::{Cover, watermark};
 use hy_stamp::{Label, Viewer};
 use hy_undo::{Refusal, Version};
-use hy_value::{Cmp, ColMask, Kind, Row, Seq, Value};
+use hy_value::{ColMask, Kind, Row, Seq, Value};
 use std::alloc::{AllocError, Global};
 use std::marker::Model;
 
@@ -42,7 +47,6 @@ pub struct NoRoom;
 pub struct Chunk {
     table: u32,
     first: u32,
-    key: Option<u32>,
     positions: Positions,
     /// Versions to work on, so that neither looking nor writing needs memory.
     seen: Version,
@@ -59,7 +63,7 @@ impl Model for Chunk {
     ghost coded = { whole_code };
 
     ghost view = { λ a. record {
-      shown = record { table = a.table; first = a.first; width = length a.positions.kinds; key = a.key; places = a.positions.places };
+      shown = record { table = a.table; first = a.first; width = length a.positions.kinds; key = a.positions.key; places = a.positions.places };
       kinds = a.positions.kinds;
       room = a.positions.room;
     } };
@@ -85,33 +89,39 @@ fn blank_version(alloc: Global, width: usize) -> Result<Version, AllocError>
 fn has_value(version: &Version, column: u32, value: &Value) -> bool
     ensures { result ≡ truth_at (Compare column Cmp.Eq (Side.Literal value.now)) (cell_of version.now) }
 {
-    if version.live {
-        let held = column_value(&version.row, column);
-        matches!(compare(Cmp::Eq, &held, value), Some(true))
-    } else {
-        false
-    }
+    version.live && has_in(&version.row, column, value)
 }
 
-/// Adds the values in a set of columns, where a version is a row that a condition selects. Without memory nothing
-/// changes.
-fn keep(
-    alloc: Global,
-    version: &Version,
-    pred: &Pred,
-    columns: ColMask,
-    gathered: &mut Gathered,
-) -> Result<(), AllocError>
-    requires { length (projected columns version.now.row) ≡ gathered.old.width }
-    ensures rows { OnOk result (gathered.new.rows ≡ gathered.old.rows ++ kept_of columns pred.now (cell_of version.now)) }
-    ensures err { OnErr result (gathered.new.rows ≡ gathered.old.rows) }
-    ensures width { gathered.new.width ≡ gathered.old.width }
+/// The number at an index.
+fn number_at(numbers: &[u32], index: usize) -> u32
+    requires { index < length numbers.now }
+    ensures { result ≡ slice_index_or numbers.now index 0 }
 {
-    if version.live && truth(pred, &version.row) {
-        let row = project_row(alloc, columns, &version.row)?;
-        gathered.push(row.as_slice())?;
+    numbers[index]
+}
+
+/// Whether a viewer sees a row that has this key, tried at the positions that have it in place. `seen` is a scratch
+/// version of as many columns.
+fn find_in(
+    positions: &Positions,
+    viewer: &Viewer,
+    column: u32,
+    value: &Value,
+    seen: &mut Version,
+) -> bool
+    requires key { is_key_of positions.now.key column ≡ true }
+    requires width { length seen.old.row ≡ length positions.now.kinds }
+    ensures found { result ≡ list_any (truth_at (Compare column Cmp.Eq (Side.Literal value.now))) (rows_seen viewer.now positions.now.places) }
+    ensures width { length seen.new.row ≡ length positions.now.kinds }
+{
+    let entries = positions.find(column, value);
+    for entry in entries {
+        positions.see(entry.pos as usize, viewer, seen);
+        if has_value(seen, column, value) {
+            return true;
+        }
     }
-    Ok(())
+    false
 }
 
 impl Chunk {
@@ -130,13 +140,12 @@ impl Chunk {
             ≡ record { table = table; first = first; width = length kinds.now; key = key; places = replicate rows (blank_place kinds.now) }) }
         ensures kinds { IfOk result (λ chunk. chunk.kinds ≡ kinds.now) }
     {
-        let positions = Positions::new(alloc, kinds, rows)?;
+        let positions = Positions::new(alloc, kinds, rows, key)?;
         let seen = blank_version(alloc, kinds.len())?;
         let next = blank_version(alloc, kinds.len())?;
         Ok(Chunk {
             table,
             first,
-            key,
             positions,
             seen,
             next,
@@ -188,6 +197,7 @@ impl Chunk {
         for place in 0..self.positions.len() {
             self.positions.prune_at(place, cover);
         }
+        self.positions.narrow();
     }
 
     /// How many positions from the front on are used.
@@ -224,8 +234,8 @@ impl Chunk {
         Ok(self.first + place as u32)
     }
 
-    /// Whether a viewer sees a row that has this value in a column.
-    pub fn find_key(&mut self, viewer: &Viewer, column: u32, value: &Value) -> bool
+    /// Whether a viewer sees a row that has this value in a column, tried at each position.
+    fn find_among_all(&mut self, viewer: &Viewer, column: u32, value: &Value) -> bool
         ensures found { result ≡ list_any (truth_at (Compare column Cmp.Eq (Side.Literal value.now))) (rows_seen viewer.now self.old.shown.places) }
         ensures all { self.new ≡ self.old }
     {
@@ -236,6 +246,108 @@ impl Chunk {
             }
         }
         false
+    }
+
+    /// Whether a viewer sees a row that has this value in a column.
+    pub fn find_key(&mut self, viewer: &Viewer, column: u32, value: &Value) -> bool
+        ensures found { result ≡ list_any (truth_at (Compare column Cmp.Eq (Side.Literal value.now))) (rows_seen viewer.now self.old.shown.places) }
+        ensures all { self.new ≡ self.old }
+    {
+        if self.positions.is_key(column) {
+            find_in(&self.positions, viewer, column, value, &mut self.seen)
+        } else {
+            self.find_among_all(viewer, column, value)
+        }
+    }
+
+    /// Appends, position by position, what is wanted of the rows that a viewer sees, tried at each. Err is for want of memory: then
+    /// only the rows that were there before are there for certain.
+    fn gather_of_all(
+        &mut self,
+        alloc: Global,
+        viewer: &Viewer,
+        wanted: &Wanted,
+        gathered: &mut Gathered,
+    ) -> Result<(), AllocError>
+        requires { (row : List Value) → FitsRow self.old.kinds row → length (projected wanted.now.columns row) ≡ gathered.old.width }
+        ensures rows { OnOk result (gathered.new.rows ≡ gathered.old.rows
+            ++ gathered_by wanted.now.columns (conditions_of wanted.now.pred.now wanted.now.keys) (rows_seen viewer.now self.old.shown.places)) }
+        ensures err { OnErr result (take (length gathered.old.rows) gathered.new.rows ≡ gathered.old.rows) }
+        ensures width { gathered.new.width ≡ gathered.old.width }
+        ensures all { self.new ≡ self.old }
+    {
+        for place in 0..self.positions.len() {
+            self.positions.see(place, viewer, &mut self.seen);
+            keep(alloc, &self.seen, wanted, gathered)?;
+        }
+        Ok(())
+    }
+
+    /// Appends, at these positions in turn, what is wanted of the rows that a viewer sees. Err is for want of memory:
+    /// then only the rows that were there before are there for certain.
+    fn gather_at(
+        &mut self,
+        alloc: Global,
+        viewer: &Viewer,
+        wanted: &Wanted,
+        places: &[u32],
+        gathered: &mut Gathered,
+    ) -> Result<(), AllocError>
+        requires fits { (row : List Value) → FitsRow self.old.kinds row → length (projected wanted.now.columns row) ≡ gathered.old.width }
+        requires within { (place : ℕ) → Contains places.now place → place < length self.old.shown.places }
+        ensures rows { OnOk result (gathered.new.rows ≡ gathered.old.rows ++ flat_map
+            (λ place. kept_by wanted.now.columns (conditions_of wanted.now.pred.now wanted.now.keys)
+            (sees viewer.now (nth self.old.shown.places place))) places.now) }
+        ensures err { OnErr result (take (length gathered.old.rows) gathered.new.rows ≡ gathered.old.rows) }
+        ensures width { gathered.new.width ≡ gathered.old.width }
+        ensures all { self.new ≡ self.old }
+    {
+        for i in 0..places.len() {
+            self.positions
+                .see(number_at(places, i) as usize, viewer, &mut self.seen);
+            keep(alloc, &self.seen, wanted, gathered)?;
+        }
+        Ok(())
+    }
+
+    /// The positions at which something may be wanted, ascending, where the index tells them. Err is for want of
+    /// memory.
+    fn places_wanted(&self, alloc: Global, wanted: &Wanted) -> Result<Option<Vec<u32>>, AllocError>
+        ensures { IfOk result (λ found. IfSome found (λ places. AreEnough wanted.now.columns (conditions_of wanted.now.pred.now wanted.now.keys)
+            self.now.shown.places places.items)) }
+    {
+        let Some(key) = self.positions.key() else {
+            return Ok(None);
+        };
+        if let Some(values) = keys_of(wanted, key) {
+            return Ok(Some(self.positions.find_each(alloc, key, values)?));
+        }
+        match value_asked(alloc, wanted.pred, key)? {
+            Some(value) => Ok(Some(self.positions.find_each(alloc, key, &[value])?)),
+            None => Ok(None),
+        }
+    }
+
+    /// Appends, position by position, what is wanted of the rows that a viewer sees. Err is for want of memory: then
+    /// only the rows that were there before are there for certain.
+    fn gather_wanted(
+        &mut self,
+        alloc: Global,
+        viewer: &Viewer,
+        wanted: &Wanted,
+        gathered: &mut Gathered,
+    ) -> Result<(), AllocError>
+        requires { (row : List Value) → FitsRow self.old.kinds row → length (projected wanted.now.columns row) ≡ gathered.old.width }
+        ensures rows { OnOk result (gathered.new.rows ≡ gathered.old.rows
+            ++ gathered_by wanted.now.columns (conditions_of wanted.now.pred.now wanted.now.keys) (rows_seen viewer.now self.old.shown.places)) }
+        ensures err { OnErr result (take (length gathered.old.rows) gathered.new.rows ≡ gathered.old.rows) }
+        ensures width { gathered.new.width ≡ gathered.old.width }
+        ensures all { self.new ≡ self.old }
+    {
+        match self.places_wanted(alloc, wanted)? {
+            Some(places) => self.gather_at(alloc, viewer, wanted, places.as_slice(), gathered),
+            None => self.gather_of_all(alloc, viewer, wanted, gathered),
+        }
     }
 
     /// Appends, position by position, of the rows that a viewer sees and a condition selects the values in a set of
@@ -254,11 +366,40 @@ impl Chunk {
         ensures width { gathered.new.width ≡ gathered.old.width }
         ensures all { self.new ≡ self.old }
     {
-        for place in 0..self.positions.len() {
-            self.positions.see(place, viewer, &mut self.seen);
-            keep(alloc, &self.seen, pred, columns, gathered)?;
-        }
-        Ok(())
+        conditions_gather_rows();
+        let wanted = Wanted {
+            pred,
+            keys: None,
+            columns,
+        };
+        self.gather_wanted(alloc, viewer, &wanted, gathered)
+    }
+
+    /// Appends, position by position, of the rows that a viewer sees, a condition selects and one of the keys finds
+    /// the values in a set of columns; more than 1,024 keys find every row. Err is for want of memory: then only the
+    /// rows that were there before are there for certain.
+    pub fn gather_keys(
+        &mut self,
+        alloc: Global,
+        viewer: &Viewer,
+        pred: &Pred,
+        keys: Keys,
+        columns: ColMask,
+        gathered: &mut Gathered,
+    ) -> Result<(), AllocError>
+        requires { (row : List Value) → FitsRow self.old.kinds row → length (projected columns row) ≡ gathered.old.width }
+        ensures rows { OnOk result (gathered.new.rows ≡ gathered.old.rows
+            ++ gathered_by columns (by_key_of pred.now keys.entry.column keys.entry.values.now) (rows_seen viewer.now self.old.shown.places)) }
+        ensures err { OnErr result (take (length gathered.old.rows) gathered.new.rows ≡ gathered.old.rows) }
+        ensures width { gathered.new.width ≡ gathered.old.width }
+        ensures all { self.new ≡ self.old }
+    {
+        let wanted = Wanted {
+            pred,
+            keys: Some(keys),
+            columns,
+        };
+        self.gather_wanted(alloc, viewer, &wanted, gathered)
     }
 
     /// The least position that may take a new row from a watermark on, or how many there are.

@@ -4,8 +4,11 @@
 #![tactic(auto)]
 
 mod chunk;
+mod gathering;
+mod lookup;
 mod positions;
 mod rows;
 mod writes;
 
 pub use chunk::{Chunk, NoRoom};
+pub use gathering::{Keys, conditions_gather_rows};

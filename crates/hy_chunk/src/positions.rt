@@ -1,24 +1,34 @@
 //! The positions of a chunk.
 
-ghost use Rattle.std.specs.Prelude.{◌≡◌, ◌+◌, ◌<◌, ◌≤◌, ◌&&◌, ◌||◌, ◌==◌, not as negated, IfOk, OnOk, OnErr, length, replicate, slice_set, vec_len, true, ℕ, slice_index_or, []};
+ghost use Rattle.std.specs.Prelude.{◌≡◌, ◌+◌, ◌<◌, ◌≤◌, ◌&&◌, ◌||◌, ◌==◌, ◌^◌, nat_le, nat_lt, not as negated, IfOk};
+ghost use Rattle.std.specs.Prelude.{OnOk, OnErr, length, replicate, slice_set, vec_len, map, true, ℕ, slice_index_or, [], ◌∷◌};
 ghost use Rattle.std.specs.Prelude.{if◌then◌else◌};
+ghost use Rattle.std.specs.Prelude.{◌++◌, Contains};
+ghost use Rattle.std.specs.List.{AllByRecursion};
+ghost use Rattle.std.specs.List.Sorted.{IsStrictlyIncreasing};
+ghost use Rattle.hy_value.specs.declared.Value.{Value};
 ghost use Rattle.hy_chain.specs.Chains.{rival, seen as seen_through, without_own};
 ghost use Rattle.hy_undo.specs.Images.{before};
 ghost use Rattle.hy_undo.specs.Places.{cell_of, is_free, is_older};
 ghost use Rattle.hy_undo.specs.Chunks.{is_own, Placed, Written};
 ghost use Rattle.hy_undo.specs.Steps.{pruned_place, stamped_place, undone_place};
 ghost use Rattle.hy_chunk.specs.Fields.{blank_place, nth};
+ghost use Rattle.hy_chunk.specs.Ranged.{Covers};
+ghost use Rattle.hy_chunk.specs.Keyed.{AreFound, SameKey, is_key_of};
 ghost use Rattle.hy_chunk.specs.Sound.{AreBlank, FitsRow, blank_image};
 ghost use Rattle.hy_chunk.specs.Noting.{own_stamp, own_or_blank};
 ghost use Rattle.hy_chunk.specs.Steps.{loaded_place};
 
+use crate::lookup::{keep_key, new_index, put_key};
 use crate::rows::{exchange_row, put_row};
 use hy_chain::{Chains, Image};
 use hy_column::Columns;
+use hy_index::{IndexEntry, KeyIndex};
 use hy_prune::Cover;
+use hy_range::Versioned;
 use hy_stamp::{Label, Stamp, Viewer};
 use hy_undo::{Delta, Version};
-use hy_value::{Kind, Row};
+use hy_value::{Kind, Row, Value};
 use std::alloc::{AllocError, Global};
 use std::marker::Model;
 
@@ -34,13 +44,18 @@ pub struct Positions {
     chains: Chains<Delta>,
     /// Blank before-images, so that a write needs no memory.
     spare: Vec<Delta>,
+    /// Where there may be records: elsewhere only the columns are looked at.
+    versioned: Versioned,
+    /// The column that is the key, if there is one, and the keys in place of the used positions.
+    key: Option<u32>,
+    index: KeyIndex,
 }
 
 impl Model for Positions {
     ghost use Rattle.std.specs.Prelude.{min, vec_len};
     ghost use Rattle.hy_chunk.specs.Views.{Held, held_code};
     ghost use Rattle.hy_chunk.specs.Fields.{places_of};
-    ghost use Rattle.hy_chunk.specs.Sound.{Sound};
+    ghost use Rattle.hy_chunk.specs.Held.{IsHeld};
 
     ghost Value = { Held };
 
@@ -48,11 +63,13 @@ impl Model for Positions {
 
     ghost view = { λ a. record {
       kinds = a.columns.kinds;
+      key = a.key;
       places = places_of a.columns.rows a.live.items a.used.items a.deaths.items a.chains.chains;
       room = min a.chains.room (vec_len a.spare);
     } };
 
-    ghost invariant = { λ a. Sound a.columns.kinds a.columns.rows a.live.items a.used.items a.deaths.items a.chains.chains a.spare.items };
+    ghost invariant = { λ a. IsHeld a.columns.kinds a.columns.rows a.live.items a.used.items a.deaths.items
+        a.chains.chains a.spare.items a.versioned a.key a.index };
 }
 
 /// Puts a flag at a place.
@@ -93,6 +110,13 @@ fn free_by(used: bool, live: bool, is_older: bool, is_dead: bool) -> bool
     ensures { result ≡ (negated used || (negated live && (is_older && is_dead))) }
 {
     !used || (!live && is_older && is_dead)
+}
+
+/// Whether a place is of a range.
+fn is_in(range: Versioned, place: usize) -> bool
+    ensures { result ≡ (nat_le range.first place && nat_lt place range.end) }
+{
+    range.first as usize <= place && place < range.end as usize
 }
 
 /// Adds blank before-images of so many columns until there are so many. Err is for want of memory.
@@ -149,7 +173,7 @@ fn take_image(chains: &mut Chains<Delta>, spare: &mut Vec<Delta>, place: usize, 
     ensures left { vec_len spare.old ≤ vec_len spare.new + 1 }
 {
     match chains.pop_own(place, id) {
-        Some(image) => image,
+        Some(own) => own,
         None => {
             let mut image = take_spare(spare);
             image.set_live(true);
@@ -158,10 +182,58 @@ fn take_image(chains: &mut Chains<Delta>, spare: &mut Vec<Delta>, place: usize, 
     }
 }
 
+/// Puts a record in front of a chain, and its position into the range, which has all that have a record then.
+fn push_covered(
+    chains: &mut Chains<Delta>,
+    versioned: &mut Versioned,
+    place: usize,
+    stamp: Stamp,
+    image: Delta,
+)
+    requires within { place < length chains.old.chains }
+    requires numbered { place + 1 < 2 ^ 32 }
+    requires room { 0 < chains.old.room }
+    ensures chains { chains.new.chains ≡ slice_set chains.old.chains place
+        (record { stamp = stamp; image = image } ∷ slice_index_or chains.old.chains place []) }
+    ensures room { chains.old.room ≤ chains.new.room + 1 }
+    ensures covered { Covers versioned.old chains.old.chains → Covers versioned.new chains.new.chains }
+{
+    hy_range::ranges_widen();
+    chains.push_reserved(place, stamp, image);
+    versioned.cover(place as u32);
+}
+
+/// Adds the positions of entries.
+fn add_places(entries: &[IndexEntry], found: &mut Vec<u32>) -> Result<(), AllocError>
+    ensures { OnOk result (found.new.items ≡ found.old.items ++ map (λ entry. entry.pos) entries.now) }
+{
+    for entry in entries {
+        found.push(entry.pos)?;
+    }
+    Ok(())
+}
+
+/// Puts numbers in order, each of them once.
+fn sort_once(numbers: &mut Vec<u32>)
+    ensures ascends { IsStrictlyIncreasing numbers.new.items }
+    ensures keeps { (number : ℕ) → Contains numbers.old.items number → Contains numbers.new.items number }
+    ensures adds_none { (number : ℕ) → Contains numbers.new.items number → Contains numbers.old.items number }
+{
+    numbers.sort_unstable();
+    numbers.dedup();
+}
+
 impl Positions {
     /// So many unused positions, with columns of these types. Err is for want of memory.
-    pub fn new(alloc: Global, kinds: &[Kind], rows: usize) -> Result<Positions, AllocError>
+    pub fn new(
+        alloc: Global,
+        kinds: &[Kind],
+        rows: usize,
+        key: Option<u32>,
+    ) -> Result<Positions, AllocError>
+        requires { rows < 2 ^ 32 }
         ensures kinds { IfOk result (λ made. made.kinds ≡ kinds.now) }
+        ensures key { IfOk result (λ made. made.key ≡ key) }
         ensures places { IfOk result (λ made. made.places ≡ replicate rows (blank_place kinds.now)) }
     {
         let columns = Columns::new(alloc, kinds, rows)?;
@@ -169,6 +241,7 @@ impl Positions {
         let used = vec![in alloc; false; rows]?;
         let deaths = vec![in alloc; 0u64; rows]?;
         let chains = Chains::new(alloc, rows)?;
+        let index = new_index(alloc, key, rows)?;
         Ok(Positions {
             columns,
             live,
@@ -176,6 +249,9 @@ impl Positions {
             deaths,
             chains,
             spare: Vec::new(alloc),
+            versioned: Versioned::none(),
+            key,
+            index,
         })
     }
 
@@ -184,6 +260,13 @@ impl Positions {
         ensures { result ≡ length self.now.places }
     {
         self.live.len()
+    }
+
+    /// The column that is the key, if there is one.
+    pub fn key(&self) -> Option<u32>
+        ensures { result ≡ self.now.key }
+    {
+        self.key
     }
 
     /// How many columns there are.
@@ -196,6 +279,7 @@ impl Positions {
     /// Makes room for so many more records. There is never less room, and the positions stay, without memory too.
     pub fn reserve(&mut self, additional: usize) -> Result<(), AllocError>
         ensures kinds { self.new.kinds ≡ self.old.kinds }
+        ensures key { self.new.key ≡ self.old.key }
         ensures places { self.new.places ≡ self.old.places }
         ensures ok { OnOk result (additional ≤ self.new.room) }
         ensures kept { self.old.room ≤ self.new.room }
@@ -209,10 +293,25 @@ impl Positions {
     pub fn prune_at(&mut self, place: usize, cover: &Cover)
         requires { place < length self.old.places }
         ensures kinds { self.new.kinds ≡ self.old.kinds }
+        ensures key { self.new.key ≡ self.old.key }
         ensures places { self.new.places ≡ slice_set self.old.places place (pruned_place cover.now (nth self.old.places place)) }
         ensures room { self.old.room ≤ self.new.room }
     {
         self.chains.prune(place, cover);
+    }
+
+    /// Makes the range of the positions that may have records as small as the records allow.
+    pub fn narrow(&mut self)
+        ensures { self.new ≡ self.old }
+    {
+        hy_range::ranges_widen();
+        let mut left = Versioned::none();
+        for place in 0..self.live.len() {
+            if self.chains.head(place).is_some() {
+                left.cover(place as u32);
+            }
+        }
+        self.versioned = left;
     }
 
     /// Gives the newest record of a position its commit time, where it is of this identifier, and a row that is
@@ -220,6 +319,7 @@ impl Positions {
     pub fn stamp_at(&mut self, place: usize, id: u64, time: u64)
         requires { place < length self.old.places }
         ensures kinds { self.new.kinds ≡ self.old.kinds }
+        ensures key { self.new.key ≡ self.old.key }
         ensures places { self.new.places ≡ slice_set self.old.places place (stamped_place id time (nth self.old.places place)) }
         ensures room { self.old.room ≤ self.new.room }
     {
@@ -235,6 +335,7 @@ impl Positions {
         requires within { place < length self.old.places }
         requires width { length version.old.row ≡ length self.old.kinds }
         ensures kinds { self.new.kinds ≡ self.old.kinds }
+        ensures key { self.new.key ≡ self.old.key }
         ensures places { self.new.places ≡ slice_set self.old.places place (undone_place id (nth self.old.places place)) }
         ensures room { self.old.room ≤ self.new.room }
         ensures width { length version.new.row ≡ length self.old.kinds }
@@ -244,9 +345,17 @@ impl Positions {
         };
         self.columns.read(place, &mut version.row);
         image.apply(version);
+        let used = used_after(self.used[place], version.live, self.deaths[place]);
+        keep_key(
+            &mut self.index,
+            self.key,
+            &self.columns,
+            self.used.as_slice(),
+            place,
+            used,
+        );
         put_row(&mut self.columns, place, &version.row);
         put_flag(&mut self.live, place, version.live);
-        let used = used_after(self.used[place], version.live, self.deaths[place]);
         put_flag(&mut self.used, place, used);
     }
 
@@ -255,9 +364,18 @@ impl Positions {
         requires within { place < length self.old.places }
         requires fits { FitsRow self.old.kinds row.now }
         ensures kinds { self.new.kinds ≡ self.old.kinds }
+        ensures key { self.new.key ≡ self.old.key }
         ensures places { self.new.places ≡ slice_set self.old.places place (loaded_place row.now (nth self.old.places place)) }
         ensures room { self.old.room ≤ self.new.room }
     {
+        put_key(
+            &mut self.index,
+            self.key,
+            &self.columns,
+            self.used.as_slice(),
+            place,
+            row,
+        );
         put_row(&mut self.columns, place, row);
         put_flag(&mut self.live, place, true);
         put_flag(&mut self.used, place, true);
@@ -269,8 +387,10 @@ impl Positions {
         requires within { place < length self.old.places }
         requires room { 0 < self.old.room }
         requires live { (nth self.old.places place).version.live ≡ true }
+        requires same_key { SameKey self.old.key version.now.row (nth self.old.places place).version.row }
         requires fits { FitsRow self.old.kinds version.now.row }
         ensures kinds { self.new.kinds ≡ self.old.kinds }
+        ensures key { self.new.key ≡ self.old.key }
         ensures places { self.new.places ≡ slice_set self.old.places place (nth self.new.places place) }
         ensures written { Written viewer.now label (cell_of version.now) (nth self.old.places place) (nth self.new.places place) }
         ensures room { self.old.room ≤ self.new.room + 1 }
@@ -281,7 +401,7 @@ impl Positions {
         exchange_row(&mut self.columns, place, &version.row, &mut image);
         put_flag(&mut self.live, place, version.live);
         let stamp = stamp_over(newest, label, viewer.id);
-        self.chains.push_reserved(place, stamp, image);
+        push_covered(&mut self.chains, &mut self.versioned, place, stamp, image);
     }
 
     /// Puts a new row at a position, over the writer's record alone, for which there is room. What the chain told
@@ -291,6 +411,7 @@ impl Positions {
         requires room { 0 < self.old.room }
         requires fits { FitsRow self.old.kinds row.now }
         ensures kinds { self.new.kinds ≡ self.old.kinds }
+        ensures key { self.new.key ≡ self.old.key }
         ensures places { self.new.places ≡ slice_set self.old.places place (nth self.new.places place) }
         ensures placed { (watermark : ℕ) → is_free watermark (nth self.old.places place) ≡ true
             → Placed viewer.now label watermark row.now (nth self.old.places place) (nth self.new.places place) }
@@ -299,6 +420,14 @@ impl Positions {
         hy_undo::places_step();
         let image = take_spare(&mut self.spare);
         self.chains.clear(place);
+        put_key(
+            &mut self.index,
+            self.key,
+            &self.columns,
+            self.used.as_slice(),
+            place,
+            row,
+        );
         put_row(&mut self.columns, place, row);
         put_flag(&mut self.live, place, true);
         put_flag(&mut self.used, place, true);
@@ -306,7 +435,7 @@ impl Positions {
             owner: label,
             mark: viewer.id,
         };
-        self.chains.push_reserved(place, stamp, image);
+        push_covered(&mut self.chains, &mut self.versioned, place, stamp, image);
     }
 
     /// Makes a version of as many columns the one in place at a position.
@@ -328,7 +457,50 @@ impl Positions {
         ensures fits { FitsRow self.now.kinds version.new.row }
     {
         self.read(place, version);
-        self.chains.see(place, viewer, version);
+        if is_in(self.versioned, place) {
+            self.chains.see(place, viewer, version);
+        }
+    }
+
+    /// Whether a column is the key.
+    pub fn is_key(&self, column: u32) -> bool
+        ensures { result ≡ is_key_of self.now.key column }
+    {
+        match self.key {
+            None => false,
+            Some(key) => key == column,
+        }
+    }
+
+    /// The used positions whose row in place has this key. No other has a row with it that is seen.
+    pub fn find(&self, column: u32, value: &Value) -> &[IndexEntry]
+        requires { is_key_of self.now.key column ≡ true }
+        ensures within { AllByRecursion (λ entry. entry.pos < length self.now.places) result.now }
+        ensures all { AreFound column value.now self.now.places (map (λ entry. entry.pos) result.now) }
+    {
+        hy_index::entries_are_a_set();
+        self.index.find(value)
+    }
+
+    /// The used positions, ascending, whose row in place has one of these keys. No other has a row with one of them
+    /// that is seen. Err is for want of memory.
+    pub fn find_each(
+        &self,
+        alloc: Global,
+        column: u32,
+        values: &[Value],
+    ) -> Result<Vec<u32>, AllocError>
+        requires { is_key_of self.now.key column ≡ true }
+        ensures ascends { IfOk result (λ found. IsStrictlyIncreasing found.items) }
+        ensures within { IfOk result (λ found. (place : ℕ) → Contains found.items place → place < length self.now.places) }
+        ensures all { IfOk result (λ found. (value : Value) → Contains values.now value → AreFound column value self.now.places found.items) }
+    {
+        let mut found = Vec::new(alloc);
+        for value in values {
+            add_places(self.find(column, value), &mut found)?;
+        }
+        sort_once(&mut found);
+        Ok(found)
     }
 
     /// Whom a write by a viewer at a position would be in conflict with.

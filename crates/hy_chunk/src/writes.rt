@@ -8,6 +8,7 @@ ghost use Rattle.hy_notes.specs.Notes.{with_note};
 ghost use Rattle.hy_undo.specs.Places.{cell_of};
 ghost use Rattle.hy_undo.specs.Sweeps.{judged, new_cell, verdict};
 ghost use Rattle.hy_chunk.specs.Writes.{FitsWrite, SetColumns, refusal_in, sets_of, with_value};
+ghost use Rattle.hy_chunk.specs.Keyed.{SameKey};
 ghost use Rattle.hy_chunk.specs.Sound.{FitsRow};
 ghost use Rattle.hy_value.specs.declared.Kind.{Kind};
 
@@ -117,6 +118,7 @@ pub fn make_next(kind: &WriteKind, row: &Row, next: &mut Version)
     requires in_range { is_some (new_cell (sets_of kind.now) row.now) ≡ true }
     ensures cell { new_cell (sets_of kind.now) row.now ≡ Some (cell_of next.new) }
     ensures fits { (kinds : List Kind) (key : Option ℕ) → FitsRow kinds row.now → FitsWrite kinds key kind.now → FitsRow kinds next.new.row }
+    ensures same_key { (kinds : List Kind) (key : Option ℕ) → FitsWrite kinds key kind.now → SameKey key next.new.row row.now }
     ensures size { length next.new.row ≡ length row.now }
 {
     copy_over(row, &mut next.row);

@@ -22,7 +22,8 @@ exchange_value-requires-clause-there c =
     let old = get_or c.args.columns.now.rows c.args.place [] in
     let k = c.loop-column.column in
     let was = fits_length kinds old c.requires.old in
-    let now = ap length (row_now c.args.columns.now.rows c.loop-column.columns.rows c.args.place (over k c.args.row.now old) c.requires.within c.loop-column.invariant.rows) in
+    let now = ap length (row_now c.args.columns.now.rows c.loop-column.columns.rows c.args.place (over k c.args.row.now old) c.requires.within
+    c.loop-column.invariant.rows) in
     omega (arith, c.loop-column-test.true, c.width-column-end.ensures, was, now, length_over k c.args.row.now old)
 
 pub exchange_value-requires-clause-slot : goal.exchange_value-requires-clause-slot
@@ -69,7 +70,8 @@ loop-column-preserved c =
       kinds = c.exchange_value.ensures.kinds ∙ c.loop-column.invariant.kinds;
       rows = row_more rows c.exchange_value.new.columns.rows c.loop-column.columns.rows c.args.place k row v c.requires.within
           c.loop-column.invariant.rows c.exchange_value.ensures.rows less (size ∙ sym was) at;
-      values = values_more old row now image c.loop-column.image.values c.exchange_value.new.image.values k v Null (size ∙ sym was) (slots ∙ sym was) (omega (arith, inside, was)) at
+      values = values_more old row now image c.loop-column.image.values c.exchange_value.new.image.values k v Null (size ∙ sym was) (slots ∙ sym was)
+          (omega (arith, inside, was)) at
           (row_now rows c.loop-column.columns.rows c.args.place (over k row old) c.requires.within c.loop-column.invariant.rows)
           c.loop-column.invariant.values (c.exchange_value.ensures.values Null);
       live = c.exchange_value.ensures.live ∙ c.loop-column.invariant.live;

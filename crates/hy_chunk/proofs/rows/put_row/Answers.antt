@@ -19,7 +19,8 @@ replace-old-requires-clause-fits c =
     let inside : k < length kinds = omega (arith, c.loop-column-test.true, c.width-column-end.ensures) in
     let size = fits_length kinds row c.requires.new in
     value_fits kinds c.loop-column.columns.kinds row k Int c.copy.result c.copy.result c.loop-column.invariant.kinds c.requires.new inside refl
-    (copied_at c.as_slice.result.now row k c.index-as_slice-column.result c.copy.result c.copy.ensures c.index-as_slice-column.is c.as_slice.ensures (omega (arith, inside, size)))
+    (copied_at c.as_slice.result.now row k c.index-as_slice-column.result c.copy.result c.copy.ensures c.index-as_slice-column.is c.as_slice.ensures
+    (omega (arith, inside, size)))
 
 pub loop-column-preserved : goal.loop-column-preserved
 loop-column-preserved c =
@@ -35,7 +36,8 @@ loop-column-preserved c =
       kinds = c.replace-old.ensures.kinds ∙ c.loop-column.invariant.kinds;
       rows = row_more c.args.columns.now.rows c.replace-old.new.self.rows c.loop-column.columns.rows c.args.place k row c.copy.result c.requires.within
           c.loop-column.invariant.rows c.replace-old.ensures.rows less (size ∙ sym was)
-          (copied_at c.as_slice.result.now row k c.index-as_slice-column.result c.copy.result c.copy.ensures c.index-as_slice-column.is c.as_slice.ensures less);
+          (copied_at c.as_slice.result.now row k c.index-as_slice-column.result c.copy.result c.copy.ensures c.index-as_slice-column.is
+          c.as_slice.ensures less);
     }
 
 pub returns-clause-rows : goal.returns-clause-rows

@@ -13,7 +13,8 @@ loop-column-preserved c =
     let less : k < length row = omega (arith, c.loop-column-test.true, c.len-column-end.ensures) in
     let at = copied_at c.as_slice.result.now row k c.index-as_slice-column.result x c.copy.ensures c.index-as_slice-column.is c.as_slice.ensures less in
     record {
-      next = c.replace-old.ensures.after ∙ (ap (λ (xs : List Value). set xs k x) c.loop-column.invariant.next ∙ over_more k row c.args.next.now x less (sym c.requires) at);
+      next = c.replace-old.ensures.after
+          ∙ (ap (λ (xs : List Value). set xs k x) c.loop-column.invariant.next ∙ over_more k row c.args.next.now x less (sym c.requires) at);
       size = ap (λ (xs : List Value). length xs) c.replace-old.ensures.after ∙ (length-set c.loop-column.next k x ∙ c.loop-column.invariant.size);
     }
 

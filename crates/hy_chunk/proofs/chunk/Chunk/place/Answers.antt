@@ -14,11 +14,25 @@ place_at-requires-clause-within c =
 
 pub overflow_cast-pos : goal.overflow_cast-pos
 overflow_cast-pos c =
-    omega (arith, c.first_free-place.ensures.within, c.if-place-len.false, c.len.ensures, ap (λ (w : Whole). length w.shown.places) c.self.view_is, c.self.invariant.numbered)
+    omega (
+      arith,
+      c.first_free-place.ensures.within,
+      c.if-place-len.false,
+      c.len.ensures,
+      ap (λ (w : Whole). length w.shown.places) c.self.view_is,
+      c.self.invariant.numbered,
+    )
 
 pub overflow_add-pos : goal.overflow_add-pos
 overflow_add-pos c =
-    omega (arith, c.first_free-place.ensures.within, c.if-place-len.false, c.len.ensures, ap (λ (w : Whole). length w.shown.places) c.self.view_is, c.self.invariant.numbered)
+    omega (
+      arith,
+      c.first_free-place.ensures.within,
+      c.if-place-len.false,
+      c.len.ensures,
+      ap (λ (w : Whole). length w.shown.places) c.self.view_is,
+      c.self.invariant.numbered,
+    )
 
 pub note_reserved-requires-clause-after : goal.note_reserved-requires-clause-after
 note_reserved-requires-clause-after c = omega (arith, fits_length c.args.self.now.kinds c.args.row.now c.requires.fits, c.requires.wide)

@@ -6,7 +6,7 @@ use Rattle.hy_undo.specs.Chunks.{Everywhere, Pruned}
 use Rattle.hy_undo.specs.Steps.{pruned_place}
 use Rattle.hy_value.specs.declared.Kind.{Kind}
 use Rattle.hy_chunk.specs.Fields.{nth}
-use Rattle.hy_chunk.specs.Views.{Whole, with_places}
+use Rattle.hy_chunk.specs.Views.{Held, Whole, with_places}
 use Rattle.hy_chunk.proofs.Mapped.{all_done, all_at}
 use Rattle.hy_chunk.proofs.Wholes.{whole_of, still_whole}
 use Rattle.hy_chunk.proofs.chunk.Chunk.prune.Goals as goal
@@ -14,21 +14,32 @@ use Rattle.hy_chunk.proofs.chunk.Chunk.prune.Goals as goal
 pub invariant_of-self : goal.invariant_of-self
 invariant_of-self c =
     let v = c.loop-place.invariant in
-    still_whole c.self.inside.first (length c.self.inside.positions.places) (length c.self.inside.positions.kinds) (length c.self.inside.seen.row) (length c.self.inside.next.row)
-    c.loop-place.self-inside.first (length c.loop-place.self-inside.positions.places) (length c.loop-place.self-inside.positions.kinds) (length c.loop-place.self-inside.seen.row) (length c.loop-place.self-inside.next.row)
-    c.self.invariant v.first v.places.size (ap (λ (kinds : List Kind). length kinds) v.kinds) v.wide v.next
+    let old = c.self.inside in
+    let now = c.loop-place.self-inside in
+    let new = c.narrow.new.self in
+    still_whole old.first (length old.positions.places) (length old.positions.kinds) (length old.seen.row) (length old.next.row)
+    now.first (length new.places) (length new.kinds) (length now.seen.row) (length now.next.row)
+    c.self.invariant v.first (ap (λ (h : Held). length h.places) c.narrow.ensures ∙ v.places.size)
+    (ap (λ (h : Held). length h.kinds) c.narrow.ensures ∙ ap (λ (kinds : List Kind). length kinds) v.kinds) v.wide v.next
 
 pub returns-clause-all : goal.returns-clause-all
 returns-clause-all c =
     let v = c.loop-place.invariant in
-    let now = c.loop-place.self-inside.positions in
-    (λ i. whole_of (v.table i) (v.first i) (v.key i) (v.kinds i) now.places now.room) ∙ ap (λ (w : Whole). with_places w now.places now.room) c.self.view_is
+    let now = c.narrow.new.self in
+    let kinds = ap (λ (h : Held). h.kinds) c.narrow.ensures ∙ v.kinds in
+    let key = ap (λ (h : Held). h.key) c.narrow.ensures ∙ v.key in
+    (λ i. whole_of (v.table i) (v.first i) (key i) (kinds i) now.places now.room) ∙ ap (λ (w : Whole). with_places w now.places now.room) c.self.view_is
 
 pub returns-clause-places : goal.returns-clause-places
 returns-clause-places c =
     let old = c.self.inside.positions.places in
-    let new = c.loop-place.self-inside.positions.places in
+    let now = c.loop-place.self-inside.positions.places in
+    let new = c.narrow.new.self.places in
     let end : length old ≤ c.loop-place.place = omega (arith, c.loop-place-test.false, c.len-place-end.ensures) in
-    subst (λ (places : List Place). Everywhere (Pruned c.args.cover.now) places new) (ap (λ (w : Whole). w.shown.places) c.self.view_is)
-    (all_done (Pruned c.args.cover.now) (pruned_place c.args.cover.now) old new c.loop-place.place c.loop-place.invariant.places end
-    (λ k l. c.places_step.ensures.prunes c.args.cover.now (nth old k) (all_at (λ (p : Place). Falls p.chain) old k (subst (AllByRecursion (λ (p : Place). Falls p.chain)) (ap (λ (w : Whole). w.shown.places) (sym c.self.view_is)) c.requires) l)))
+    let was = ap (λ (w : Whole). w.shown.places) c.self.view_is in
+    let falls = subst (AllByRecursion (λ (p : Place). Falls p.chain)) (sym was) c.requires in
+    let done : Everywhere (Pruned c.args.cover.now) old now =
+    all_done (Pruned c.args.cover.now) (pruned_place c.args.cover.now) old now c.loop-place.place c.loop-place.invariant.places end
+    (λ k l. c.places_step.ensures.prunes c.args.cover.now (nth old k) (all_at (λ (p : Place). Falls p.chain) old k falls l)) in
+    subst (λ (places : List Place). Everywhere (Pruned c.args.cover.now) places new) was
+    (subst (λ (h : Held). Everywhere (Pruned c.args.cover.now) old h.places) (sym c.narrow.ensures) done)

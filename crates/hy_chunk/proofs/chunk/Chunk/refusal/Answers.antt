@@ -15,8 +15,10 @@ use Rattle.hy_chunk.proofs.chunk.Chunk.refusal.Goals as goal
 pub invariant_of-self-in-Some : goal.invariant_of-self-in-Some
 invariant_of-self-in-Some c =
     let v = c.loop-place.invariant in
-    still_whole c.self.inside.first (length c.self.inside.positions.places) (length c.self.inside.positions.kinds) (length c.self.inside.seen.row) (length c.self.inside.next.row)
-    c.loop-place.self-inside.first (length c.loop-place.self-inside.positions.places) (length c.loop-place.self-inside.positions.kinds) (length c.see.new.version.row) (length c.loop-place.self-inside.next.row)
+    still_whole c.self.inside.first (length c.self.inside.positions.places) (length c.self.inside.positions.kinds) (length c.self.inside.seen.row)
+    (length c.self.inside.next.row)
+    c.loop-place.self-inside.first (length c.loop-place.self-inside.positions.places) (length c.loop-place.self-inside.positions.kinds)
+    (length c.see.new.version.row) (length c.loop-place.self-inside.next.row)
     c.self.invariant v.first (ap (λ (h : Held). length h.places) v.positions) (ap (λ (h : Held). length h.kinds) v.positions)
     (fits_length c.loop-place.self-inside.positions.kinds c.see.new.version.row c.see.ensures.fits ∙ ap (λ (h : Held). length h.kinds) v.positions) v.next
 

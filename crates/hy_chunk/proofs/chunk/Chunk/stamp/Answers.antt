@@ -12,8 +12,10 @@ use Rattle.hy_chunk.proofs.chunk.Chunk.stamp.Goals as goal
 pub invariant_of-self : goal.invariant_of-self
 invariant_of-self c =
     let v = c.loop-place.invariant in
-    still_whole c.self.inside.first (length c.self.inside.positions.places) (length c.self.inside.positions.kinds) (length c.self.inside.seen.row) (length c.self.inside.next.row)
-    c.loop-place.self-inside.first (length c.loop-place.self-inside.positions.places) (length c.loop-place.self-inside.positions.kinds) (length c.loop-place.self-inside.seen.row) (length c.loop-place.self-inside.next.row)
+    still_whole c.self.inside.first (length c.self.inside.positions.places) (length c.self.inside.positions.kinds) (length c.self.inside.seen.row)
+    (length c.self.inside.next.row)
+    c.loop-place.self-inside.first (length c.loop-place.self-inside.positions.places) (length c.loop-place.self-inside.positions.kinds)
+    (length c.loop-place.self-inside.seen.row) (length c.loop-place.self-inside.next.row)
     c.self.invariant v.first v.places.size (ap (λ (kinds : List Kind). length kinds) v.kinds) v.wide v.next
 
 pub returns-clause-all : goal.returns-clause-all
@@ -27,6 +29,8 @@ returns-clause-places c =
     let old = c.self.inside.positions.places in
     let new = c.loop-place.self-inside.positions.places in
     let end : length old ≤ c.loop-place.place = omega (arith, c.loop-place-test.false, c.len-place-end.ensures) in
-    subst (λ (places : List Place). Everywhere (AtOwn c.args.id (StampedPlace c.args.id c.args.time)) places new) (ap (λ (w : Whole). w.shown.places) c.self.view_is)
-    (all_done (AtOwn c.args.id (StampedPlace c.args.id c.args.time)) (stamped_place c.args.id c.args.time) old new c.loop-place.place c.loop-place.invariant.places end
+    subst (λ (places : List Place). Everywhere (AtOwn c.args.id (StampedPlace c.args.id c.args.time)) places new)
+    (ap (λ (w : Whole). w.shown.places) c.self.view_is)
+    (all_done (AtOwn c.args.id (StampedPlace c.args.id c.args.time)) (stamped_place c.args.id c.args.time) old new c.loop-place.place
+    c.loop-place.invariant.places end
     (λ k l. c.places_step.ensures.commits c.args.id c.args.time (nth old k)))

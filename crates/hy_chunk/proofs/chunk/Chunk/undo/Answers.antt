@@ -12,8 +12,10 @@ use Rattle.hy_chunk.proofs.chunk.Chunk.undo.Goals as goal
 pub invariant_of-self : goal.invariant_of-self
 invariant_of-self c =
     let v = c.loop-place.invariant in
-    still_whole c.self.inside.first (length c.self.inside.positions.places) (length c.self.inside.positions.kinds) (length c.self.inside.seen.row) (length c.self.inside.next.row)
-    c.loop-place.self-inside.first (length c.loop-place.self-inside.positions.places) (length c.loop-place.self-inside.positions.kinds) (length c.loop-place.self-inside.seen.row) (length c.loop-place.self-inside.next.row)
+    still_whole c.self.inside.first (length c.self.inside.positions.places) (length c.self.inside.positions.kinds) (length c.self.inside.seen.row)
+    (length c.self.inside.next.row)
+    c.loop-place.self-inside.first (length c.loop-place.self-inside.positions.places) (length c.loop-place.self-inside.positions.kinds)
+    (length c.loop-place.self-inside.seen.row) (length c.loop-place.self-inside.next.row)
     c.self.invariant v.first v.places.size (ap (λ (kinds : List Kind). length kinds) v.kinds) v.wide v.next
 
 pub returns-clause-all : goal.returns-clause-all

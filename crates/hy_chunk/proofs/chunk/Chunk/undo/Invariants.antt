@@ -8,7 +8,7 @@ abbrev pub invariant-loop-place : goal.invariant-loop-place
 invariant-loop-place l = record {
   table : l.self-inside.table ≡ l.initial.self-inside.table;
   first : l.self-inside.first ≡ l.initial.self-inside.first;
-  key : l.self-inside.key ≡ l.initial.self-inside.key;
+  key : l.self-inside.positions.key ≡ l.initial.self-inside.positions.key;
   kinds : l.self-inside.positions.kinds ≡ l.initial.self-inside.positions.kinds;
   places : DoneUpTo (undone_place l.id) l.initial.self-inside.positions.places l.self-inside.positions.places l.place;
   room : l.initial.self-inside.positions.room ≤ l.self-inside.positions.room;

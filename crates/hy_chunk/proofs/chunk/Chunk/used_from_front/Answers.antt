@@ -18,4 +18,5 @@ returns-clause-least c =
     let size : c.len.result ≡ length places = c.len.ensures in
     let end : length places ≤ c.loop-place.place = omega (arith, c.loop-place-test.false, c.len-place-end.ensures) in
     sym (prefix_len_is (λ (p : Place). p.used) places c.len.result (blank_with []) (omega (arith, size))
-    (λ k l. c.loop-place.invariant k (omega (arith, l, size, end))) (λ l. absurd (omega (arith, l, size)))) ∙ ap (λ (w : Whole). least_unused w.shown.places) c.self.view_is
+    (λ k l. c.loop-place.invariant k (omega (arith, l, size, end))) (λ l. absurd (omega (arith, l, size))))
+    ∙ ap (λ (w : Whole). least_unused w.shown.places) c.self.view_is

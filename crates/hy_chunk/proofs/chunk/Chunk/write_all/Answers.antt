@@ -1,4 +1,4 @@
-use Rattle.std.proofs.Common.{◌≡◌, ℕ, ◌+◌, ◌<◌, ◌≤◌, Bool, true, false, List, [], length, drop, None, Some, Ok, sym, ap, ◌∙◌, cond, subst, arith}
+use Rattle.std.proofs.Common.{◌≡◌, ℕ, ◌+◌, ◌<◌, ◌≤◌, Bool, true, false, List, [], length, drop, Option, None, Some, Ok, sym, ap, ◌∙◌, cond, subst, arith}
 use Rattle.std.proofs.Math.ListN.{set}
 use Rattle.std.proofs.lemmas.List.{length-set, get_or-set_other}
 use Rattle.hy_value.specs.declared.Kind.{Kind}
@@ -11,10 +11,12 @@ use Rattle.hy_undo.specs.Images.{before}
 use Rattle.hy_undo.specs.Places.{Place, Cell, cell_of, sees}
 use Rattle.hy_undo.specs.Sweeps.{swept}
 use Rattle.hy_chunk.specs.Fields.{nth, blank_with}
+use Rattle.hy_chunk.specs.Keyed.{SameKey}
 use Rattle.hy_chunk.specs.Views.{Whole}
 use Rattle.hy_chunk.specs.Writes.{FitsWrite, sets_of, refusal_in, judged_at, WrittenAs, IsDone}
 use Rattle.hy_chunk.proofs.Over.{fits_length}
-use Rattle.hy_chunk.proofs.Sweeping.{unselected, is_live, new_judged, without_rival, is_in_range, is_in_place, noted_of, here_ok, left_ok, unnoted, uncounted, noted, counted, all_written, all_done, done_more, as_none, as_some, sets_within}
+use Rattle.hy_chunk.proofs.Sweeping.{unselected, is_live, new_judged, without_rival, is_in_range, is_in_place, noted_of, here_ok, left_ok}
+use Rattle.hy_chunk.proofs.Sweeping.{unnoted, uncounted, noted, counted, all_written, all_done, done_more, as_none, as_some, sets_within}
 use Rattle.hy_chunk.proofs.chunk.Chunk.write_all.Goals as goal
 
 pub loop-place-preserved-then-not-is_selected : goal.loop-place-preserved-then-not-is_selected
@@ -43,7 +45,8 @@ loop-place-preserved-then-not-is_selected c =
       wide = fits_length c.loop-place.self-inside.positions.kinds c.see.new.version.row c.see.ensures.fits ∙ ap (λ (kinds : List Kind). length kinds) v.kinds;
       size = v.size;
       ok = left_ok sets pred viewer c.self.inside.table first olds k l v.ok;
-      done = done_more (λ (j : ℕ). WrittenAs viewer c.args.label (judged_at sets pred viewer (first + j) (nth olds j)) (nth olds j) (nth c.loop-place.self-inside.positions.places j)) k v.done
+      done = done_more (λ (j : ℕ). WrittenAs viewer c.args.label (judged_at sets pred viewer (first + j) (nth olds j)) (nth olds j)
+          (nth c.loop-place.self-inside.positions.places j)) k v.done
           (as_none viewer c.args.label (judged_at sets pred viewer (first + k) p) p (nth c.loop-place.self-inside.positions.places k) none same);
       rest = λ j m. v.rest j (omega (arith, m));
       noted = sym (unnoted sets pred viewer c.self.inside.table first olds k l v.ok none c.loop-place.changes.notes) ∙ v.noted;
@@ -56,11 +59,15 @@ loop-place-preserved-then-not-is_selected c =
 
 pub make_next-requires-clause-width : goal.make_next-requires-clause-width
 make_next-requires-clause-width c =
-    let v = c.loop-place.invariant in v.next ∙ sym (fits_length c.loop-place.self-inside.positions.kinds c.see.new.version.row c.see.ensures.fits ∙ ap (λ (kinds : List Kind). length kinds) v.kinds)
+    let v = c.loop-place.invariant in v.next
+    ∙ sym (fits_length c.loop-place.self-inside.positions.kinds c.see.new.version.row c.see.ensures.fits
+    ∙ ap (λ (kinds : List Kind). length kinds) v.kinds)
 
 pub make_next-requires-clause-within : goal.make_next-requires-clause-within
 make_next-requires-clause-within c =
-    let v = c.loop-place.invariant in sets_within c.args.self.now.kinds c.args.self.now.shown.key c.args.kind.now (length c.see.new.version.row) (fits_length c.loop-place.self-inside.positions.kinds c.see.new.version.row c.see.ensures.fits ∙ ap (λ (kinds : List Kind). length kinds) v.kinds ∙ (ap (λ (w : Whole). length w.kinds) c.self.view_is)) c.requires.fits
+    let v = c.loop-place.invariant in sets_within c.args.self.now.kinds c.args.self.now.shown.key c.args.kind.now (length c.see.new.version.row)
+    (fits_length c.loop-place.self-inside.positions.kinds c.see.new.version.row c.see.ensures.fits
+    ∙ ap (λ (kinds : List Kind). length kinds) v.kinds ∙ (ap (λ (w : Whole). length w.kinds) c.self.view_is)) c.requires.fits
 
 pub make_next-requires-clause-in_range : goal.make_next-requires-clause-in_range
 make_next-requires-clause-in_range c =
@@ -96,7 +103,8 @@ write_at-requires-clause-live c =
     let is : version ≡ seen before viewer p.version p.chain = c.see.ensures.version ∙ ap (λ (q : Place). seen before viewer q.version q.chain) same in
     let ok : refusal_in (judged_at sets pred viewer (first + k) p) ≡ None = here_ok sets pred viewer c.self.inside.table first olds k l v.ok in
     let yes : truth_at pred (cell_of version) ≡ true = sym c.is_selected.ensures ∙ c.if-not-is_selected.false in
-    let now_live : p.version.live ≡ true = ap (λ (x : Version). x.live) (sym (is_in_place sets pred viewer (first + k) p version is yes ok)) ∙ is_live sets pred viewer (first + k) p version is yes in
+    let now_live : p.version.live ≡ true = ap (λ (x : Version). x.live) (sym (is_in_place sets pred viewer (first + k) p version is yes ok))
+    ∙ is_live sets pred viewer (first + k) p version is yes in
     ap (λ (q : Place). q.version.live) same ∙ now_live
 
 pub write_at-requires-clause-fits : goal.write_at-requires-clause-fits
@@ -106,16 +114,41 @@ write_at-requires-clause-fits c =
     c.make_next.ensures.fits c.loop-place.self-inside.positions.kinds c.args.self.now.shown.key c.see.ensures.fits
     (subst (λ (ks : List Kind). FitsWrite ks c.args.self.now.shown.key c.args.kind.now) kinds c.requires.fits)
 
+pub write_at-requires-clause-same_key : goal.write_at-requires-clause-same_key
+write_at-requires-clause-same_key c =
+    let sets = sets_of c.args.kind.now in
+    let pred = c.args.pred.now in
+    let viewer = c.args.viewer.now in
+    let olds = c.self.inside.positions.places in
+    let k = c.loop-place.place in
+    let first : ℕ = c.self.inside.first in
+    let v = c.loop-place.invariant in
+    let l : k < length olds = omega (arith, c.loop-place-test.true, c.len-place-end.ensures) in
+    let p : Place = nth olds k in
+    let version : Version = c.see.new.version in
+    let same : nth c.loop-place.self-inside.positions.places k ≡ p = v.rest k (omega arith) in
+    let is : version ≡ seen before viewer p.version p.chain = c.see.ensures.version ∙ ap (λ (q : Place). seen before viewer q.version q.chain) same in
+    let ok : refusal_in (judged_at sets pred viewer (first + k) p) ≡ None = here_ok sets pred viewer c.self.inside.table first olds k l v.ok in
+    let selected : truth_at pred (cell_of version) ≡ true = sym c.is_selected.ensures ∙ c.if-not-is_selected.false in
+    let there : version ≡ (nth c.loop-place.self-inside.positions.places k).version =
+    is_in_place sets pred viewer (first + k) p version is selected ok ∙ ap (λ (q : Place). q.version) (sym same) in
+    let key : c.args.self.now.shown.key ≡ c.loop-place.self-inside.positions.key = sym (v.key ∙ ap (λ (w : Whole). w.shown.key) c.self.view_is) in
+    subst (λ (which : Option ℕ). SameKey which c.make_next.new.next.row (nth c.loop-place.self-inside.positions.places k).version.row) key
+    (subst (λ (x : Version). SameKey c.args.self.now.shown.key c.make_next.new.next.row x.row) there
+    (c.make_next.ensures.same_key c.args.self.now.kinds c.args.self.now.shown.key c.requires.fits))
+
 pub note-requires-clause-before : goal.note-requires-clause-before
 note-requires-clause-before c =
     let v = c.loop-place.invariant in
-    let wide : length c.see.new.version.row ≡ length c.args.self.now.kinds = fits_length c.loop-place.self-inside.positions.kinds c.see.new.version.row c.see.ensures.fits ∙ ap (λ (kinds : List Kind). length kinds) v.kinds ∙ (ap (λ (w : Whole). length w.kinds) c.self.view_is) in
+    let wide : length c.see.new.version.row ≡ length c.args.self.now.kinds = fits_length c.loop-place.self-inside.positions.kinds
+    c.see.new.version.row c.see.ensures.fits ∙ ap (λ (kinds : List Kind). length kinds) v.kinds ∙ (ap (λ (w : Whole). length w.kinds) c.self.view_is) in
     omega (arith, wide, c.requires.wide, v.notes_width)
 
 pub note-requires-clause-after : goal.note-requires-clause-after
 note-requires-clause-after c =
     let v = c.loop-place.invariant in
-    let wide : length c.see.new.version.row ≡ length c.args.self.now.kinds = fits_length c.loop-place.self-inside.positions.kinds c.see.new.version.row c.see.ensures.fits ∙ ap (λ (kinds : List Kind). length kinds) v.kinds ∙ (ap (λ (w : Whole). length w.kinds) c.self.view_is) in
+    let wide : length c.see.new.version.row ≡ length c.args.self.now.kinds = fits_length c.loop-place.self-inside.positions.kinds
+    c.see.new.version.row c.see.ensures.fits ∙ ap (λ (kinds : List Kind). length kinds) v.kinds ∙ (ap (λ (w : Whole). length w.kinds) c.self.view_is) in
     omega (arith, wide, c.make_next.ensures.size, c.requires.wide, v.notes_width)
 
 pub overflow_add-written : goal.overflow_add-written
@@ -139,22 +172,27 @@ loop-place-preserved c =
     let ok : refusal_in (judged_at sets pred viewer (first + k) p) ≡ None = here_ok sets pred viewer c.self.inside.table first olds k l v.ok in
     let yes : truth_at pred (cell_of version) ≡ true = sym c.is_selected.ensures ∙ c.if-not-is_selected.false in
     let cell : Cell = cell_of c.make_next.new.next in
-    let some : judged_at sets pred viewer (first + k) p ≡ Ok (Some cell) = new_judged sets pred viewer (first + k) p version is yes cell (without_rival sets pred viewer (first + k) p version is yes ok) c.make_next.ensures.cell in
+    let some : judged_at sets pred viewer (first + k) p ≡ Ok (Some cell) = new_judged sets pred viewer (first + k) p version is yes cell
+    (without_rival sets pred viewer (first + k) p version is yes ok) c.make_next.ensures.cell in
     let now = c.loop-place.self-inside.positions.places in
     let news = c.write_at.new.self.places in
     let puts : news ≡ set now k (nth news k) = c.write_at.ensures.places in
     let live : version.live ≡ true = is_live sets pred viewer (first + k) p version is yes in
     let saw : Some version.row ≡ sees viewer p = ap (λ (b : Bool). cond b (Some version.row) None) (sym live) ∙ ap (λ (x : Version). cell_of x) is in
-    let told : c.note.new.changes.notes ≡ with_note (record { table = c.self.inside.table; pos = first + k; before = sees viewer p; after = cell }) c.loop-place.changes.notes =
+    let told : c.note.new.changes.notes ≡ with_note (record { table = c.self.inside.table; pos = first + k; before = sees viewer p; after = cell })
+    c.loop-place.changes.notes =
     c.note.ensures.notes ∙ λ i. with_note (record { table = v.table i; pos = v.first i + k; before = saw i; after = cell }) c.loop-place.changes.notes in
     let e = counted sets pred viewer c.self.inside.table first olds k l v.ok cell some c.loop-place.changes.notes in
-    let stays : (j : ℕ) → (j ≡ k → ⊥) → nth news j ≡ nth now j = λ j ne. ap (λ (ps : List Place). nth ps j) puts ∙ get_or-set_other now k j (nth news k) (blank_with []) ne in
+    let stays : (j : ℕ) → (j ≡ k → ⊥) → nth news j ≡ nth now j = λ j ne. ap (λ (ps : List Place). nth ps j) puts
+    ∙ get_or-set_other now k j (nth news k) (blank_with []) ne in
     record {
       table = v.table;
       first = v.first;
-      key = v.key;
+      key = c.write_at.ensures.key ∙ v.key;
       kinds = c.write_at.ensures.kinds ∙ v.kinds;
-      next = c.make_next.ensures.size ∙ (fits_length c.loop-place.self-inside.positions.kinds c.see.new.version.row c.see.ensures.fits ∙ ap (λ (kinds : List Kind). length kinds) v.kinds);
+      next = c.make_next.ensures.size
+          ∙ (fits_length c.loop-place.self-inside.positions.kinds c.see.new.version.row c.see.ensures.fits
+          ∙ ap (λ (kinds : List Kind). length kinds) v.kinds);
       wide = fits_length c.loop-place.self-inside.positions.kinds c.see.new.version.row c.see.ensures.fits ∙ ap (λ (kinds : List Kind). length kinds) v.kinds;
       size = ap (λ (ps : List Place). length ps) puts ∙ (length-set now k (nth news k) ∙ v.size);
       ok = left_ok sets pred viewer c.self.inside.table first olds k l v.ok;
@@ -163,7 +201,8 @@ loop-place-preserved c =
           (sym (stays j (λ eq. absurd (omega (arith, eq, m))))) (v.done j m))
           (as_some viewer c.args.label (judged_at sets pred viewer (first + k) p) cell p (nth now k) (nth news k) some same c.write_at.ensures.written);
       rest = λ j m. stays j (λ eq. absurd (omega (arith, eq, m))) ∙ v.rest j (omega (arith, m));
-      noted = ap (λ (notes : List Change). noted_of c.self.inside.table (first + (k + 1)) viewer (swept sets pred viewer (first + (k + 1)) (drop (k + 1) olds)) (drop (k + 1) olds) notes) told
+      noted = ap (λ (notes : List Change). noted_of c.self.inside.table (first + (k + 1)) viewer
+          (swept sets pred viewer (first + (k + 1)) (drop (k + 1) olds)) (drop (k + 1) olds) notes) told
           ∙ (sym (noted sets pred viewer c.self.inside.table first olds k l v.ok cell some c.loop-place.changes.notes) ∙ v.noted);
       counted = omega (arith, v.counted, e);
       few = omega (arith, v.few);
@@ -184,7 +223,9 @@ returns-clause-done c =
     let end : length olds ≤ c.loop-place.place = omega (arith, c.loop-place-test.false, c.len-place-end.ensures) in
     let ok : refusal_in (swept sets pred viewer first olds) ≡ None =
     ap (λ (w : Whole). refusal_in (swept sets pred viewer w.shown.first w.shown.places)) c.self.view_is ∙ c.requires.ok in
-    subst (λ (w : Whole). IsDone viewer c.args.label w.shown.table w.shown.first (swept sets pred viewer w.shown.first w.shown.places) w.shown.places news c.args.changes.now.notes
+    subst (λ (w : Whole). IsDone viewer c.args.label w.shown.table w.shown.first (swept sets pred viewer w.shown.first w.shown.places) w.shown.places
+    news c.args.changes.now.notes
     c.loop-place.changes.notes c.loop-place.written) c.self.view_is
-    (all_done sets pred viewer c.args.label c.self.inside.table first olds news c.args.changes.now.notes c.loop-place.changes.notes c.loop-place.written c.loop-place.place end
+    (all_done sets pred viewer c.args.label c.self.inside.table first olds news c.args.changes.now.notes c.loop-place.changes.notes
+    c.loop-place.written c.loop-place.place end
     (all_written sets pred viewer c.args.label first olds news ok v.size (λ j m. v.done j (omega (arith, m, end)))) v.noted v.counted)

@@ -10,20 +10,24 @@ abbrev pub invariant-loop-place : goal.invariant-loop-place
 invariant-loop-place l = record {
   table : l.self-inside.table ≡ l.initial.self-inside.table;
   first : l.self-inside.first ≡ l.initial.self-inside.first;
-  key : l.self-inside.key ≡ l.initial.self-inside.key;
+  key : l.self-inside.positions.key ≡ l.initial.self-inside.positions.key;
   kinds : l.self-inside.positions.kinds ≡ l.initial.self-inside.positions.kinds;
   next : length l.self-inside.next.row ≡ length l.initial.self-inside.positions.kinds;
   wide : length l.self-inside.seen.row ≡ length l.initial.self-inside.positions.kinds;
   size : length l.self-inside.positions.places ≡ length l.initial.self-inside.positions.places;
   ok : refusal_in (swept (sets_of l.kind) l.pred l.viewer (l.initial.self-inside.first + l.place) (drop l.place l.initial.self-inside.positions.places)) ≡ None;
-  done : (k : ℕ) → k < l.place → WrittenAs l.viewer l.label (judged_at (sets_of l.kind) l.pred l.viewer (l.initial.self-inside.first + k) (nth l.initial.self-inside.positions.places k))
+  done : (k : ℕ) → k < l.place → WrittenAs l.viewer l.label
+      (judged_at (sets_of l.kind) l.pred l.viewer (l.initial.self-inside.first + k) (nth l.initial.self-inside.positions.places k))
       (nth l.initial.self-inside.positions.places k) (nth l.self-inside.positions.places k);
   rest : (k : ℕ) → l.place ≤ k → nth l.self-inside.positions.places k ≡ nth l.initial.self-inside.positions.places k;
   noted : noted_of l.initial.self-inside.table (l.initial.self-inside.first + l.place) l.viewer
-      (swept (sets_of l.kind) l.pred l.viewer (l.initial.self-inside.first + l.place) (drop l.place l.initial.self-inside.positions.places)) (drop l.place l.initial.self-inside.positions.places) l.changes.notes
+      (swept (sets_of l.kind) l.pred l.viewer (l.initial.self-inside.first + l.place) (drop l.place l.initial.self-inside.positions.places))
+      (drop l.place l.initial.self-inside.positions.places) l.changes.notes
       ≡ noted_of l.initial.self-inside.table l.initial.self-inside.first l.viewer
-      (swept (sets_of l.kind) l.pred l.viewer l.initial.self-inside.first l.initial.self-inside.positions.places) l.initial.self-inside.positions.places l.initial.changes.notes;
-  counted : l.written + counted_of (swept (sets_of l.kind) l.pred l.viewer (l.initial.self-inside.first + l.place) (drop l.place l.initial.self-inside.positions.places))
+      (swept (sets_of l.kind) l.pred l.viewer l.initial.self-inside.first l.initial.self-inside.positions.places)
+      l.initial.self-inside.positions.places l.initial.changes.notes;
+  counted : l.written + counted_of
+      (swept (sets_of l.kind) l.pred l.viewer (l.initial.self-inside.first + l.place) (drop l.place l.initial.self-inside.positions.places))
       ≡ counted_of (swept (sets_of l.kind) l.pred l.viewer l.initial.self-inside.first l.initial.self-inside.positions.places);
   few : l.written ≤ l.place;
   room : l.initial.self-inside.positions.room ≤ l.self-inside.positions.room + l.place;

@@ -2,13 +2,23 @@ use Rattle.std.proofs.Common.{false, sym, ap, ◌∙◌, arith}
 use Rattle.std.proofs.lemmas.List.{get_or_read}
 use Rattle.hy_undo.specs.Places.{Place}
 use Rattle.hy_chunk.specs.Views.{Held}
-use Rattle.hy_chunk.proofs.Places.{Fields, nth_is, in_used}
+use Rattle.hy_chunk.proofs.Places.{Fields, fields, nth_is, in_used}
 use Rattle.hy_chunk.proofs.positions.Positions.is_used.Goals as goal
 
 pub index-requires : goal.index-requires
-index-requires c = let f : Fields = record { rows = c.self.inside.columns.rows; live = c.self.inside.live.items; used = c.self.inside.used.items; deaths = c.self.inside.deaths.items; chains = c.self.inside.chains.chains } in omega (arith, in_used f c.self.inside.columns.kinds c.self.inside.spare.items c.args.self.now.places (ap (λ (h : Held). h.places) c.self.view_is) c.self.invariant c.args.place c.requires, c.self.inside.used.ok.0)
+index-requires c =
+    let f : Fields = fields c.self.inside in
+    omega (
+      arith,
+      in_used f c.self.inside.columns.kinds c.self.inside.spare.items c.args.self.now.places (ap (λ (h : Held). h.places) c.self.view_is)
+          c.self.invariant.sound c.args.place c.requires,
+      c.self.inside.used.ok.0,
+    )
 
 pub returns : goal.returns
-returns c = let f : Fields = record { rows = c.self.inside.columns.rows; live = c.self.inside.live.items; used = c.self.inside.used.items; deaths = c.self.inside.deaths.items; chains = c.self.inside.chains.chains } in
-    get_or_read f.used c.args.place c.index.result.now (in_used f c.self.inside.columns.kinds c.self.inside.spare.items c.args.self.now.places (ap (λ (h : Held). h.places) c.self.view_is) c.self.invariant c.args.place c.requires) c.index.ensures false
+returns c =
+    let f : Fields = fields c.self.inside in
+    get_or_read f.used c.args.place c.index.result.now
+    (in_used f c.self.inside.columns.kinds c.self.inside.spare.items c.args.self.now.places (ap (λ (h : Held). h.places) c.self.view_is)
+    c.self.invariant.sound c.args.place c.requires) c.index.ensures false
     ∙ ap (λ (p : Place). p.used) (sym (nth_is f c.args.self.now.places c.args.place (ap (λ (h : Held). h.places) c.self.view_is) c.requires))

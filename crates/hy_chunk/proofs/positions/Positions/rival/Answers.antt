@@ -2,12 +2,17 @@ use Rattle.std.proofs.Common.{sym, ap, ◌∙◌}
 use Rattle.hy_chain.specs.Chains.{rival}
 use Rattle.hy_undo.specs.Places.{Place}
 use Rattle.hy_chunk.specs.Views.{Held}
-use Rattle.hy_chunk.proofs.Places.{Fields, nth_is, in_chains}
+use Rattle.hy_chunk.proofs.Places.{Fields, fields, nth_is, in_chains}
 use Rattle.hy_chunk.proofs.positions.Positions.rival.Goals as goal
 
 pub rival-requires : goal.rival-requires
-rival-requires c = let f : Fields = record { rows = c.self.inside.columns.rows; live = c.self.inside.live.items; used = c.self.inside.used.items; deaths = c.self.inside.deaths.items; chains = c.self.inside.chains.chains } in in_chains f c.self.inside.columns.kinds c.self.inside.spare.items c.args.self.now.places (ap (λ (h : Held). h.places) c.self.view_is) c.self.invariant c.args.place c.requires
+rival-requires c =
+    let f : Fields = fields c.self.inside in
+    in_chains f c.self.inside.columns.kinds c.self.inside.spare.items c.args.self.now.places (ap (λ (h : Held). h.places) c.self.view_is)
+    c.self.invariant.sound c.args.place c.requires
 
 pub returns : goal.returns
-returns c = let f : Fields = record { rows = c.self.inside.columns.rows; live = c.self.inside.live.items; used = c.self.inside.used.items; deaths = c.self.inside.deaths.items; chains = c.self.inside.chains.chains } in
-    c.rival.ensures ∙ ap (λ (p : Place). rival c.args.viewer.now p.chain) (sym (nth_is f c.args.self.now.places c.args.place (ap (λ (h : Held). h.places) c.self.view_is) c.requires))
+returns c =
+    let f : Fields = fields c.self.inside in
+    c.rival.ensures ∙ ap (λ (p : Place). rival c.args.viewer.now p.chain)
+    (sym (nth_is f c.args.self.now.places c.args.place (ap (λ (h : Held). h.places) c.self.view_is) c.requires))

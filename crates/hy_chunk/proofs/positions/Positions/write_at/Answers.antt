@@ -1,63 +1,162 @@
-use Rattle.std.proofs.Common.{List, [], length, get_or, sym, ap, ◌∙◌, subst, arith}
+use Rattle.hy_chunk.proofs.Ranges.{still_numbered, covers_less, without_none}
+use Rattle.hy_chunk.proofs.Indexing.{same_key}
+use Rattle.hy_chunk.proofs.Spared.{spare_changed, spares_at, same_at, taken_spares, noted_spares, without_spares}
+use Rattle.hy_chunk.specs.Keyed.{SameKey}
+use Rattle.hy_undo.specs.Places.{Place}
+use Rattle.hy_value.specs.declared.Value.{Value}
+use Rattle.std.proofs.Common.{ℕ, List, [], ◌∷◌, length, get_or, Option, None, sym, ap, ◌∙◌, subst, arith}
 use Rattle.hy_value.specs.declared.Kind.{Kind}
 use Rattle.hy_chain.specs.Chains.{Undo, without_own}
 use Rattle.hy_undo.specs.Images.{Image}
 use Rattle.hy_chunk.specs.Views.{Held}
 use Rattle.hy_chunk.specs.Sound.{FitsRow}
-use Rattle.hy_chunk.proofs.Places.{Fields, in_rows, in_live, in_chains, fits_there}
+use Rattle.hy_chunk.proofs.Places.{Fields, fields, nth_is, in_rows, in_live, in_chains, fits_there}
 use Rattle.hy_chunk.specs.Noting.{own_stamp}
 use Rattle.std.proofs.lemmas.List.{length-set}
 use Rattle.hy_chunk.proofs.WriteAt.{taken_fits, written_sound, written_places, written}
 use Rattle.hy_chunk.proofs.positions.Positions.write_at.Goals as goal
 
 pub head-newest-requires : goal.head-newest-requires
-head-newest-requires c = let f : Fields = record { rows = c.self.inside.columns.rows; live = c.self.inside.live.items; used = c.self.inside.used.items; deaths = c.self.inside.deaths.items; chains = c.self.inside.chains.chains } in
-    in_chains f c.self.inside.columns.kinds c.self.inside.spare.items c.args.self.now.places (ap (λ (h : Held). h.places) c.self.view_is) c.self.invariant c.args.place c.requires.within
+head-newest-requires c =
+    let f : Fields = fields c.self.inside in
+    in_chains f c.self.inside.columns.kinds c.self.inside.spare.items c.args.self.now.places (ap (λ (h : Held). h.places) c.self.view_is)
+    c.self.invariant.sound c.args.place c.requires.within
 
 pub take_image-image-requires-clause-within : goal.take_image-image-requires-clause-within
-take_image-image-requires-clause-within c = let f : Fields = record { rows = c.self.inside.columns.rows; live = c.self.inside.live.items; used = c.self.inside.used.items; deaths = c.self.inside.deaths.items; chains = c.self.inside.chains.chains } in
-    in_chains f c.self.inside.columns.kinds c.self.inside.spare.items c.args.self.now.places (ap (λ (h : Held). h.places) c.self.view_is) c.self.invariant c.args.place c.requires.within
+take_image-image-requires-clause-within c =
+    let f : Fields = fields c.self.inside in
+    in_chains f c.self.inside.columns.kinds c.self.inside.spare.items c.args.self.now.places (ap (λ (h : Held). h.places) c.self.view_is)
+    c.self.invariant.sound c.args.place c.requires.within
 
 pub exchange_row-requires-clause-within : goal.exchange_row-requires-clause-within
-exchange_row-requires-clause-within c = let f : Fields = record { rows = c.self.inside.columns.rows; live = c.self.inside.live.items; used = c.self.inside.used.items; deaths = c.self.inside.deaths.items; chains = c.self.inside.chains.chains } in
-    in_rows f c.self.inside.columns.kinds c.self.inside.spare.items c.args.self.now.places (ap (λ (h : Held). h.places) c.self.view_is) c.self.invariant c.args.place c.requires.within
+exchange_row-requires-clause-within c =
+    let f : Fields = fields c.self.inside in
+    in_rows f c.self.inside.columns.kinds c.self.inside.spare.items c.args.self.now.places (ap (λ (h : Held). h.places) c.self.view_is)
+    c.self.invariant.sound c.args.place c.requires.within
 
 pub exchange_row-requires-clause-old : goal.exchange_row-requires-clause-old
-exchange_row-requires-clause-old c = let f : Fields = record { rows = c.self.inside.columns.rows; live = c.self.inside.live.items; used = c.self.inside.used.items; deaths = c.self.inside.deaths.items; chains = c.self.inside.chains.chains } in
-    (fits_there f c.self.inside.columns.kinds c.self.inside.spare.items c.args.self.now.places (ap (λ (h : Held). h.places) c.self.view_is) c.self.invariant c.args.place c.requires.within).row
+exchange_row-requires-clause-old c =
+    let f : Fields = fields c.self.inside in
+    (fits_there f c.self.inside.columns.kinds c.self.inside.spare.items c.args.self.now.places (ap (λ (h : Held). h.places) c.self.view_is)
+    c.self.invariant.sound c.args.place c.requires.within).row
 
 pub exchange_row-requires-clause-image : goal.exchange_row-requires-clause-image
-exchange_row-requires-clause-image c = let f : Fields = record { rows = c.self.inside.columns.rows; live = c.self.inside.live.items; used = c.self.inside.used.items; deaths = c.self.inside.deaths.items; chains = c.self.inside.chains.chains } in
-    taken_fits f c.self.inside.columns.kinds c.self.inside.spare.items c.args.self.now.places (ap (λ (h : Held). h.places) c.self.view_is) c.self.invariant c.args.place c.requires.within c.args.viewer.now c.args.label c.args.version.now (subst (λ (ks : List Kind). FitsRow ks c.args.version.now.row) (sym (ap (λ (h : Held). h.kinds) c.self.view_is)) c.requires.fits) c.requires.live c.take_image-image.result (c.take_image-image.ensures.image (length c.self.inside.columns.kinds) c.self.invariant.blank)
+exchange_row-requires-clause-image c =
+    let f : Fields = fields c.self.inside in
+    taken_fits f c.self.inside.columns.kinds c.self.inside.spare.items c.args.self.now.places (ap (λ (h : Held). h.places) c.self.view_is)
+    c.self.invariant.sound c.args.place c.requires.within c.args.viewer.now c.args.label c.args.version.now
+    (subst (λ (ks : List Kind). FitsRow ks c.args.version.now.row) (sym (ap (λ (h : Held). h.kinds) c.self.view_is)) c.requires.fits)
+    c.requires.live c.take_image-image.result (c.take_image-image.ensures.image (length c.self.inside.columns.kinds) c.self.invariant.sound.blank)
 
 pub put_flag-requires : goal.put_flag-requires
-put_flag-requires c = let f : Fields = record { rows = c.self.inside.columns.rows; live = c.self.inside.live.items; used = c.self.inside.used.items; deaths = c.self.inside.deaths.items; chains = c.self.inside.chains.chains } in
-    omega (arith, in_live f c.self.inside.columns.kinds c.self.inside.spare.items c.args.self.now.places (ap (λ (h : Held). h.places) c.self.view_is) c.self.invariant c.args.place c.requires.within, c.self.inside.live.ok.0)
+put_flag-requires c =
+    let f : Fields = fields c.self.inside in
+    omega (
+      arith,
+      in_live f c.self.inside.columns.kinds c.self.inside.spare.items c.args.self.now.places (ap (λ (h : Held). h.places) c.self.view_is)
+          c.self.invariant.sound c.args.place c.requires.within,
+      c.self.inside.live.ok.0,
+    )
 
-pub push_reserved-requires-clause-within : goal.push_reserved-requires-clause-within
-push_reserved-requires-clause-within c = let f : Fields = record { rows = c.self.inside.columns.rows; live = c.self.inside.live.items; used = c.self.inside.used.items; deaths = c.self.inside.deaths.items; chains = c.self.inside.chains.chains } in
-    omega (arith, in_chains f c.self.inside.columns.kinds c.self.inside.spare.items c.args.self.now.places (ap (λ (h : Held). h.places) c.self.view_is) c.self.invariant c.args.place c.requires.within, ap (λ (cs : List (List (Undo Image))). length cs) c.take_image-image.ensures.chains, length-set f.chains c.args.place (without_own c.args.viewer.now.id (get_or f.chains c.args.place [])))
+pub push_covered-requires-clause-within : goal.push_covered-requires-clause-within
+push_covered-requires-clause-within c =
+    let f : Fields = fields c.self.inside in
+    omega (
+      arith,
+      in_chains f c.self.inside.columns.kinds c.self.inside.spare.items c.args.self.now.places
+          (ap (λ (h : Held). h.places) c.self.view_is) c.self.invariant.sound c.args.place c.requires.within,
+      ap
+          (λ (cs : List (List (Undo Image))). length cs) c.take_image-image.ensures.chains,
+      length-set f.chains c.args.place
+          (without_own c.args.viewer.now.id (get_or f.chains c.args.place [])),
+    )
 
 pub invariant_of-self : goal.invariant_of-self
-invariant_of-self c = let f : Fields = record { rows = c.self.inside.columns.rows; live = c.self.inside.live.items; used = c.self.inside.used.items; deaths = c.self.inside.deaths.items; chains = c.self.inside.chains.chains } in
-    written_sound f c.self.inside.columns.kinds c.self.inside.spare.items c.args.self.now.places (ap (λ (h : Held). h.places) c.self.view_is) c.self.invariant c.args.place c.requires.within c.args.viewer.now c.args.label c.args.version.now (subst (λ (ks : List Kind). FitsRow ks c.args.version.now.row) (sym (ap (λ (h : Held). h.kinds) c.self.view_is)) c.requires.fits) c.requires.live c.take_image-image.result (c.take_image-image.ensures.image (length c.self.inside.columns.kinds) c.self.invariant.blank) c.places_step.ensures c.exchange_row.new.columns.kinds c.exchange_row.ensures.kinds
-    c.exchange_row.new.columns.rows c.put_flag.new.flags.items c.exchange_row.new.image c.stamp_over-stamp.result c.take_image-image.new.chains.chains c.push_reserved.new.self.chains
-    c.take_image-image.new.spare.items (c.take_image-image.ensures.blank (length c.self.inside.columns.kinds) c.self.invariant.blank)
-    c.exchange_row.ensures.rows c.put_flag.ensures c.exchange_row.ensures.values c.exchange_row.ensures.live
-    (c.stamp_over-stamp.ensures ∙ ap (own_stamp c.args.label c.args.viewer.now.id) c.head-newest.ensures) c.take_image-image.ensures.chains c.push_reserved.ensures.chains
+invariant_of-self c =
+    let f : Fields = fields c.self.inside in
+    let view = ap (λ (h : Held). h.places) c.self.view_is in
+    let inside = in_rows f c.self.inside.columns.kinds c.self.inside.spare.items c.args.self.now.places view c.self.invariant.sound c.args.place
+    c.requires.within in
+    let same : SameKey c.self.inside.key c.args.version.now.row (get_or f.rows c.args.place []) =
+    subst (λ (key : Option ℕ). SameKey key c.args.version.now.row (get_or f.rows c.args.place [])) (sym (ap (λ (h : Held). h.key) c.self.view_is))
+    (subst (λ (p : Place). SameKey c.args.self.now.key c.args.version.now.row p.version.row)
+    (nth_is f c.args.self.now.places c.args.place view c.requires.within) c.requires.same_key) in
+    record {
+      sound = written_sound f c.self.inside.columns.kinds c.self.inside.spare.items c.args.self.now.places
+          (ap (λ (h : Held). h.places) c.self.view_is) c.self.invariant.sound c.args.place c.requires.within c.args.viewer.now c.args.label
+          c.args.version.now (subst (λ (ks : List Kind). FitsRow ks c.args.version.now.row) (sym (ap (λ (h : Held). h.kinds) c.self.view_is))
+          c.requires.fits) c.requires.live c.take_image-image.result
+          (c.take_image-image.ensures.image (length c.self.inside.columns.kinds) c.self.invariant.sound.blank) c.places_step.ensures
+          c.exchange_row.new.columns.kinds c.exchange_row.ensures.kinds
+          c.exchange_row.new.columns.rows c.put_flag.new.flags.items c.exchange_row.new.image c.stamp_over-stamp.result
+          c.take_image-image.new.chains.chains c.push_covered.new.chains.chains
+          c.take_image-image.new.spare.items (c.take_image-image.ensures.blank (length c.self.inside.columns.kinds) c.self.invariant.sound.blank)
+          c.exchange_row.ensures.rows c.put_flag.ensures c.exchange_row.ensures.values c.exchange_row.ensures.live
+          (c.stamp_over-stamp.ensures ∙ ap (own_stamp c.args.label c.args.viewer.now.id) c.head-newest.ensures) c.take_image-image.ensures.chains
+          c.push_covered.ensures.chains;
+      numbered = still_numbered f.rows c.exchange_row.new.columns.rows c.args.place c.args.version.now.row c.exchange_row.ensures.rows
+          c.self.invariant.numbered;
+      indexed = same_key c.self.inside.key f.rows c.exchange_row.new.columns.rows f.used c.self.inside.index c.args.place c.args.version.now.row inside
+          c.exchange_row.ensures.rows same c.self.invariant.indexed;
+      spared = spare_changed c.self.inside.key c.take_image-image.new.chains.chains c.push_covered.new.chains.chains c.args.place
+          (record { stamp = c.stamp_over-stamp.result; image = c.exchange_row.new.image } ∷ get_or c.take_image-image.new.chains.chains c.args.place [])
+          c.push_covered.ensures.chains
+          (spare_changed c.self.inside.key f.chains c.take_image-image.new.chains.chains c.args.place
+          (without_own c.args.viewer.now.id (get_or f.chains c.args.place []))
+          c.take_image-image.ensures.chains c.self.invariant.spared (λ k e s. without_spares k c.args.viewer.now.id (get_or f.chains c.args.place []) s))
+          (λ k e s. (
+            ap (λ (values : List (Option Value)). get_or values k None) c.exchange_row.ensures.values
+                ∙ noted_spares (get_or f.rows c.args.place []) c.args.version.now.row c.take_image-image.result.values k
+                (same_at c.self.inside.key c.args.version.now.row (get_or f.rows c.args.place []) k e same)
+                (ap (λ (x : Image). get_or x.values k None) (c.take_image-image.ensures.image (length c.self.inside.columns.kinds) c.self.invariant.sound.blank)
+                ∙ taken_spares k (length c.self.inside.columns.kinds) c.args.viewer.now.id (get_or f.chains c.args.place [])
+                (spares_at c.self.inside.key f.chains k e c.self.invariant.spared c.args.place)),
+            s,
+          ));
+      covered = c.push_covered.ensures.covered
+          (covers_less c.self.inside.versioned f.chains c.take_image-image.new.chains.chains c.args.place
+          (without_own c.args.viewer.now.id (get_or f.chains c.args.place []))
+          c.self.invariant.covered c.take_image-image.ensures.chains (without_none c.args.viewer.now.id (get_or f.chains c.args.place [])));
+    }
 
 pub returns-clause-places : goal.returns-clause-places
-returns-clause-places c = let f : Fields = record { rows = c.self.inside.columns.rows; live = c.self.inside.live.items; used = c.self.inside.used.items; deaths = c.self.inside.deaths.items; chains = c.self.inside.chains.chains } in
-    written_places f c.self.inside.columns.kinds c.self.inside.spare.items c.args.self.now.places (ap (λ (h : Held). h.places) c.self.view_is) c.self.invariant c.args.place c.requires.within c.args.viewer.now c.args.label c.args.version.now (subst (λ (ks : List Kind). FitsRow ks c.args.version.now.row) (sym (ap (λ (h : Held). h.kinds) c.self.view_is)) c.requires.fits) c.requires.live c.take_image-image.result (c.take_image-image.ensures.image (length c.self.inside.columns.kinds) c.self.invariant.blank) c.places_step.ensures c.exchange_row.new.columns.kinds c.exchange_row.ensures.kinds
-    c.exchange_row.new.columns.rows c.put_flag.new.flags.items c.exchange_row.new.image c.stamp_over-stamp.result c.take_image-image.new.chains.chains c.push_reserved.new.self.chains
-    c.take_image-image.new.spare.items (c.take_image-image.ensures.blank (length c.self.inside.columns.kinds) c.self.invariant.blank)
+returns-clause-places c =
+    let f : Fields = fields c.self.inside in
+    written_places f c.self.inside.columns.kinds c.self.inside.spare.items c.args.self.now.places (ap (λ (h : Held). h.places) c.self.view_is)
+    c.self.invariant.sound c.args.place c.requires.within c.args.viewer.now c.args.label c.args.version.now
+    (subst (λ (ks : List Kind). FitsRow ks c.args.version.now.row) (sym (ap (λ (h : Held). h.kinds) c.self.view_is)) c.requires.fits)
+    c.requires.live c.take_image-image.result
+    (c.take_image-image.ensures.image (length c.self.inside.columns.kinds) c.self.invariant.sound.blank) c.places_step.ensures
+    c.exchange_row.new.columns.kinds c.exchange_row.ensures.kinds
+    c.exchange_row.new.columns.rows c.put_flag.new.flags.items c.exchange_row.new.image c.stamp_over-stamp.result
+    c.take_image-image.new.chains.chains c.push_covered.new.chains.chains
+    c.take_image-image.new.spare.items (c.take_image-image.ensures.blank (length c.self.inside.columns.kinds) c.self.invariant.sound.blank)
     c.exchange_row.ensures.rows c.put_flag.ensures c.exchange_row.ensures.values c.exchange_row.ensures.live
-    (c.stamp_over-stamp.ensures ∙ ap (own_stamp c.args.label c.args.viewer.now.id) c.head-newest.ensures) c.take_image-image.ensures.chains c.push_reserved.ensures.chains
+    (c.stamp_over-stamp.ensures ∙ ap (own_stamp c.args.label c.args.viewer.now.id) c.head-newest.ensures) c.take_image-image.ensures.chains
+    c.push_covered.ensures.chains
 
 pub returns-clause-written : goal.returns-clause-written
-returns-clause-written c = let f : Fields = record { rows = c.self.inside.columns.rows; live = c.self.inside.live.items; used = c.self.inside.used.items; deaths = c.self.inside.deaths.items; chains = c.self.inside.chains.chains } in
-    written f c.self.inside.columns.kinds c.self.inside.spare.items c.args.self.now.places (ap (λ (h : Held). h.places) c.self.view_is) c.self.invariant c.args.place c.requires.within c.args.viewer.now c.args.label c.args.version.now (subst (λ (ks : List Kind). FitsRow ks c.args.version.now.row) (sym (ap (λ (h : Held). h.kinds) c.self.view_is)) c.requires.fits) c.requires.live c.take_image-image.result (c.take_image-image.ensures.image (length c.self.inside.columns.kinds) c.self.invariant.blank) c.places_step.ensures c.exchange_row.new.columns.kinds c.exchange_row.ensures.kinds
-    c.exchange_row.new.columns.rows c.put_flag.new.flags.items c.exchange_row.new.image c.stamp_over-stamp.result c.take_image-image.new.chains.chains c.push_reserved.new.self.chains
-    c.take_image-image.new.spare.items (c.take_image-image.ensures.blank (length c.self.inside.columns.kinds) c.self.invariant.blank)
+returns-clause-written c =
+    let f : Fields = fields c.self.inside in
+    written f c.self.inside.columns.kinds c.self.inside.spare.items c.args.self.now.places (ap (λ (h : Held). h.places) c.self.view_is)
+    c.self.invariant.sound c.args.place c.requires.within c.args.viewer.now c.args.label c.args.version.now
+    (subst (λ (ks : List Kind). FitsRow ks c.args.version.now.row) (sym (ap (λ (h : Held). h.kinds) c.self.view_is)) c.requires.fits)
+    c.requires.live c.take_image-image.result
+    (c.take_image-image.ensures.image (length c.self.inside.columns.kinds) c.self.invariant.sound.blank) c.places_step.ensures
+    c.exchange_row.new.columns.kinds c.exchange_row.ensures.kinds
+    c.exchange_row.new.columns.rows c.put_flag.new.flags.items c.exchange_row.new.image c.stamp_over-stamp.result
+    c.take_image-image.new.chains.chains c.push_covered.new.chains.chains
+    c.take_image-image.new.spare.items (c.take_image-image.ensures.blank (length c.self.inside.columns.kinds) c.self.invariant.sound.blank)
     c.exchange_row.ensures.rows c.put_flag.ensures c.exchange_row.ensures.values c.exchange_row.ensures.live
-    (c.stamp_over-stamp.ensures ∙ ap (own_stamp c.args.label c.args.viewer.now.id) c.head-newest.ensures) c.take_image-image.ensures.chains c.push_reserved.ensures.chains
+    (c.stamp_over-stamp.ensures ∙ ap (own_stamp c.args.label c.args.viewer.now.id) c.head-newest.ensures) c.take_image-image.ensures.chains
+    c.push_covered.ensures.chains
+
+pub push_covered-requires-clause-numbered : goal.push_covered-requires-clause-numbered
+push_covered-requires-clause-numbered c =
+    let f : Fields = fields c.self.inside in
+    omega (
+      arith,
+      in_rows f c.self.inside.columns.kinds c.self.inside.spare.items c.args.self.now.places (ap (λ (h : Held). h.places) c.self.view_is)
+          c.self.invariant.sound c.args.place c.requires.within,
+      c.self.invariant.numbered,
+    )

@@ -1,16 +1,17 @@
 use Rattle.std.proofs.Common.{◌≡◌, ◌++◌, length, take}
 use Rattle.hy_undo.specs.Chunks.{rows_seen}
-use Rattle.hy_chunk.specs.Gathering.{gathered_of}
-use Rattle.hy_chunk.proofs.chunk.Chunk.gather.Given as goal
+use Rattle.hy_chunk.specs.Gathering.{gathered_by, conditions_of}
+use Rattle.hy_chunk.proofs.chunk.Chunk.gather_of_all.Given as goal
 
 abbrev pub invariant-loop-place : goal.invariant-loop-place
 invariant-loop-place l = record {
   table : l.self-inside.table ≡ l.initial.self-inside.table;
   first : l.self-inside.first ≡ l.initial.self-inside.first;
-  key : l.self-inside.key ≡ l.initial.self-inside.key;
+  key : l.self-inside.positions.key ≡ l.initial.self-inside.positions.key;
   positions : l.self-inside.positions ≡ l.initial.self-inside.positions;
   next : length l.self-inside.next.row ≡ length l.initial.self-inside.positions.kinds;
   wide : length l.self-inside.seen.row ≡ length l.initial.self-inside.positions.kinds;
-  rows : l.gathered.rows ≡ l.initial.gathered.rows ++ gathered_of l.columns l.pred (rows_seen l.viewer (take l.place l.initial.self-inside.positions.places));
+  rows : l.gathered.rows ≡ l.initial.gathered.rows ++ gathered_by l.wanted.columns (conditions_of l.wanted.pred.now l.wanted.keys)
+      (rows_seen l.viewer (take l.place l.initial.self-inside.positions.places));
   width : l.gathered.width ≡ l.initial.gathered.width;
 }

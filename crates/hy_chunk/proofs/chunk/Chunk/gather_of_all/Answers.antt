@@ -3,20 +3,23 @@ use Rattle.hy_value.specs.declared.Value.{Value}
 use Rattle.hy_undo.specs.declared.version.Version.{Version}
 use Rattle.hy_undo.specs.Places.{Cell, cell_of, sees}
 use Rattle.hy_chunk.specs.Fields.{nth}
-use Rattle.hy_chunk.specs.Gathering.{kept_of}
+use Rattle.hy_chunk.specs.Gathering.{kept_by, conditions_of}
 use Rattle.hy_chunk.specs.Views.{Held}
 use Rattle.hy_chunk.proofs.Over.{fits_length}
 use Rattle.hy_chunk.proofs.Looks.{gathered_more}
 use Rattle.hy_chunk.proofs.Wholes.{still_whole}
-use Rattle.hy_chunk.proofs.chunk.Chunk.gather.Goals as goal
+use Rattle.hy_chunk.proofs.chunk.Chunk.gather_of_all.Goals as goal
 
 pub invariant_of-self-in_err-keep : goal.invariant_of-self-in_err-keep
 invariant_of-self-in_err-keep c =
     let v = c.loop-place.invariant in
-    still_whole c.self.inside.first (length c.self.inside.positions.places) (length c.self.inside.positions.kinds) (length c.self.inside.seen.row) (length c.self.inside.next.row)
-    c.loop-place.self-inside.first (length c.loop-place.self-inside.positions.places) (length c.loop-place.self-inside.positions.kinds) (length c.see.new.version.row) (length c.loop-place.self-inside.next.row)
+    still_whole c.self.inside.first (length c.self.inside.positions.places) (length c.self.inside.positions.kinds) (length c.self.inside.seen.row)
+    (length c.self.inside.next.row)
+    c.loop-place.self-inside.first (length c.loop-place.self-inside.positions.places) (length c.loop-place.self-inside.positions.kinds)
+    (length c.see.new.version.row) (length c.loop-place.self-inside.next.row)
     c.self.invariant v.first (ap (λ (h : Held). length h.places) v.positions) (ap (λ (h : Held). length h.kinds) v.positions)
-    (fits_length c.loop-place.self-inside.positions.kinds c.see.new.version.row c.see.ensures.fits ∙ ap (λ (h : Held). length h.kinds) c.loop-place.invariant.positions) v.next
+    (fits_length c.loop-place.self-inside.positions.kinds c.see.new.version.row c.see.ensures.fits
+    ∙ ap (λ (h : Held). length h.kinds) c.loop-place.invariant.positions) v.next
 
 pub loop-place-preserved : goal.loop-place-preserved
 loop-place-preserved c =
@@ -25,15 +28,17 @@ loop-place-preserved c =
     let here : cell_of c.see.new.version ≡ sees c.args.viewer.now (nth old k) =
     ap (λ (v : Version). cell_of v) c.see.ensures.version ∙ ap (λ (h : Held). sees c.args.viewer.now (nth h.places k)) c.loop-place.invariant.positions in
     let v = c.loop-place.invariant in
-    let keeps : Cell → List (List Value) = kept_of c.args.columns c.args.pred.now in
+    let keeps : Cell → List (List Value) = kept_by c.args.wanted.now.columns (conditions_of c.args.wanted.now.pred.now c.args.wanted.now.keys) in
     record {
       table = v.table;
       first = v.first;
       key = v.key;
       positions = v.positions;
       next = v.next;
-      wide = fits_length c.loop-place.self-inside.positions.kinds c.see.new.version.row c.see.ensures.fits ∙ ap (λ (h : Held). length h.kinds) c.loop-place.invariant.positions;
+      wide = fits_length c.loop-place.self-inside.positions.kinds c.see.new.version.row c.see.ensures.fits
+          ∙ ap (λ (h : Held). length h.kinds) c.loop-place.invariant.positions;
       rows = c.in_ok-keep.ensures.rows
-          ∙ ((λ i. v.rows i ++ keeps (here i)) ∙ gathered_more keeps c.args.viewer.now old k c.args.gathered.now.rows (omega (arith, c.loop-place-test.true, c.len-place-end.ensures)));
+          ∙ ((λ i. v.rows i ++ keeps (here i))
+          ∙ gathered_more keeps c.args.viewer.now old k c.args.gathered.now.rows (omega (arith, c.loop-place-test.true, c.len-place-end.ensures)));
       width = c.keep.ensures.width ∙ v.width;
     }

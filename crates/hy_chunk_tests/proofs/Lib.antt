@@ -1,0 +1,4 @@
+pub mod Orders
+pub mod Visits
+pub mod Fits
+pub mod Wholes

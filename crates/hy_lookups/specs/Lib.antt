@@ -1,3 +1,4 @@
 pub mod Lookups
 pub mod Turns
 pub mod Ends
+pub mod Wanted

@@ -2,6 +2,7 @@
 
 ghost use Rattle.hy_lookups.specs.Lookups.{LookedUpIsRead, LookedUpAnswers, LookedUpLogsTheSame};
 ghost use Rattle.hy_lookups.specs.Turns.{LookedUpInTurn, LookedUpAlone};
+ghost use Rattle.hy_lookups.specs.Wanted.{ReadIsWanted};
 
 use hy_laws::{answers_depend_on_what_is_read, gathered_rows_answer, what_is_read_is_read_again};
 
@@ -33,3 +34,8 @@ pub fn looked_up_rows_log_the_same()
 {
     what_is_read_is_read_again();
 }
+
+/// The rows that a look-up wants of those of which a part's condition is true are those that are read of its table by key.
+pub fn wanted_rows_are_read_by_key()
+    ensures { ReadIsWanted }
+{}

@@ -1,11 +1,11 @@
 -- A position is free by the watermark exactly where it is free in the machine.
-use Rattle.std.proofs.Common.{◌≡◌, ◌⊎◌, ℕ, ◌+◌, ◌-◌, ◌<◌, ◌≤◌, List, [], ◌∷◌, length, take, drop, get_or, Option, None, Some, Bool, true}
+use Rattle.std.proofs.Common.{◌≡◌, ◌⊎◌, ℕ, ◌+◌, ◌-◌, ◌<◌, ◌≤◌, List, [], ◌∷◌, length, drop, None, Some, Bool, true}
 use Rattle.std.proofs.Common.{false, not, refl, sym, ap, ◌∙◌, arith, inl, inr, cond}
-use Rattle.std.specs.Prelude.{slice_get, is_some, unwrap_or, ◌||◌, ◌&&◌, nat_lt, ◌==◌}
+use Rattle.std.specs.Prelude.{slice_get, is_some, ◌||◌, ◌&&◌, nat_lt, ◌==◌}
 use Rattle.std.specs.List.{list_any}
 use Rattle.std.proofs.lemmas.Bool.{cases_Bool, cases_lt, cases_eq, lt-ltb, le-ltb, or_right}
 use Rattle.std.proofs.lemmas.List.{take_all}
-use Rattle.std.proofs.lemmas.Option.{slice_get_within, slice_get-get_or, get_or_from_slice_get}
+use Rattle.std.proofs.lemmas.Option.{get_or_from_slice_get}
 use Rattle.hy_stamp.specs.declared.Label.{Label}
 use Rattle.hy_stamp.specs.declared.Stamp.{Stamp}
 use Rattle.hy_stamp.specs.declared.Viewer.{Viewer}
@@ -32,13 +32,13 @@ use Rattle.hy_machine.specs.Holding.{holds, is_held, has_pair, is_free as is_fre
 use Rattle.hy_shows.specs.Stamped.{entries_counted}
 use Rattle.hy_shows.specs.Transactions.{IsOpen}
 use Rattle.hy_shows.specs.Sessions.{OpenShows}
-use Rattle.hy_shows.specs.Places.{emptied_at}
 use Rattle.hy_shows.specs.Rivals.{ShownAt}
 use Rattle.hy_shows.specs.Free.{HasPosition, FreeIsTheMachines}
-use Rattle.hy_shows.proofs.Orders.{IsLastOf, last_or_none, last_some_at, dropped_get, cell_stays}
-use Rattle.hy_shows.proofs.LastCells.{any_at, any_true, any_false, taken_get, taken_below, leaves, emptied, not_emptied}
+use Rattle.hy_shows.proofs.Orders.{IsLastOf, last_or_none, dropped_get, cell_stays}
+use Rattle.hy_shows.proofs.LastCells.{any_at, any_true, any_false}
 use Rattle.hy_shows.proofs.Holders.{holder_open, is_there}
 use Rattle.hy_shows.proofs.RivalTops.{own_top, top_or_none, open_shown, has_entry, NoneOwn, writer_top}
+use Rattle.hy_shows.proofs.Deaths.{death_by_last}
 use Rattle.hy_shows.proofs.Rivals.{held_by_other, top_holds, writer_counts}
 
 -- ---- the two tests
@@ -96,7 +96,7 @@ rival_is_late viewer (undo ∷ chain) label watermark e low = elim (cases_lt und
   | inr late ↦ le-ltb undo.stamp.mark watermark (omega (arith, late, low))
 ]
 
-live_is : (version : Version) → is_some (cell_of version) ≡ version.live
+pub live_is : (version : Version) → is_some (cell_of version) ≡ version.live
 live_is version = by_live version.live
   where
     by_live : (live : Bool) → is_some (cond live (Some version.row) None) ≡ live
@@ -104,7 +104,7 @@ live_is version = by_live version.live
     by_live false = refl
 
 -- a viewer that the newest record stops sees what is in place
-stopped : (viewer : Viewer) (version : Version) (chain : List (Undo Image)) → ((stamp : Stamp) → newest chain ≡ Some stamp → stamp.mark < viewer.start)
+pub stopped : (viewer : Viewer) (version : Version) (chain : List (Undo Image)) → ((stamp : Stamp) → newest chain ≡ Some stamp → stamp.mark < viewer.start)
     → seen before viewer version chain ≡ version
 stopped viewer version [] early = refl
 stopped viewer version (undo ∷ chain) early =
@@ -216,22 +216,9 @@ module _ (setting : Setting) (state : State) (core : CoreData) (sessions : List 
     death_is : (last : IsLastOf (has_pair table pos) state.order) → last_cell ≡ None → (entry : Noted) → slice_get core.entries last.rank ≡ Some entry
         → place.death ≡ entry.time
     death_is last gone entry stands =
-        let left = leaves setting state table pos has last in
-        let n : ℕ = entries_counted setting state table chunk in
-        let below = counts last.rank last.item last.stands last.passes in
         shown.place_shows.death_shows
-        ∙ ap (λ (o : Option ℕ). unwrap_or o 0)
-        (last_some_at (emptied_at table pos) (take n core.entries) last.rank entry entry.time (taken_get n core.entries last.rank below ∙ stands)
-        (emptied state.order core.entries table pos last.rank last.item entry left.pair shown.core_shows.entries_show last.stands stands left.pair_is
-        (sym left.after ∙ gone))
-        (λ other later less e.
-        let there : slice_get core.entries other ≡ Some later = sym (taken_get n core.entries other (taken_below n core.entries other later e)) ∙ e in
-        let count = shown.core_shows.entries_show.count in
-        let within = slice_get_within core.entries other later there in
-        let none : Entry = record { label = record { session = 0; txn = 0 }; cells = [] } in
-        let one : Entry = get_or state.order other none in
-        let one_stands : slice_get state.order other ≡ Some one = slice_get-get_or state.order other none (omega (arith, count, within)) in
-        not_emptied state.order core.entries table pos other one later shown.core_shows.entries_show one_stands there (last.last other one less one_stands)))
+        ∙ death_by_last setting state core sessions table chunk pos shown.core_shows.entries_show has last
+        (counts last.rank last.item last.stands last.passes) gone entry stands
 
     -- an entry from the low prefix on wrote it
     wrote_case : IsLastOf (has_pair table pos) (drop current.begun.low state.order)

@@ -22,7 +22,7 @@ use Rattle.hy_shows.specs.Stamped.{HasNotStamped, is_unstamped, entries_counted}
 use Rattle.hy_shows.specs.Transactions.{IsOpen}
 use Rattle.hy_shows.specs.Sessions.{NowShows, SessionShows}
 use Rattle.hy_shows.specs.Shows.{SessionsShow}
-use Rattle.hy_shows.specs.Kept.{Fits}
+use Rattle.hy_kept.specs.Kept.{Fits}
 
 -- ---- holders
 
@@ -128,7 +128,7 @@ opened setting state core sessions number current fits shows e =
     by_now session found None is n = absurd n
     by_now session found (Some now) is n = record { session = session; now = now; is_open = record { found = found; open_here = is; open_there = e } }
 
-outcomes_length : (setting : Setting) (number before : ℕ) (done : List Finished) → length (outcomes_from setting number before done) ≡ length done
+pub outcomes_length : (setting : Setting) (number before : ℕ) (done : List Finished) → length (outcomes_from setting number before done) ≡ length done
 outcomes_length setting number before [] = refl
 outcomes_length setting number before (finished ∷ done) = let e = outcomes_length setting number (suc before) done in omega (arith, e)
 

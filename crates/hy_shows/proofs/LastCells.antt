@@ -64,7 +64,7 @@ tables_length f [] lists = refl
 tables_length f (cells ∷ tables) [] = refl
 tables_length f (cells ∷ tables) (items ∷ lists) = let e = tables_length f tables lists in omega (arith, e)
 
-row_length : {B : Type 0} (f : B → Cell) (tables : Tables) (lists : List (List (Option B))) (table : ℕ)
+pub row_length : {B : Type 0} (f : B → Cell) (tables : Tables) (lists : List (List (Option B))) (table : ℕ)
     → length (get_or (covered_tables f tables lists) table []) ≡ length (get_or tables table [])
 row_length f [] lists table = refl
 row_length f (cells ∷ tables) [] table = refl
@@ -77,7 +77,7 @@ stays_after tables entry table pos has = record {
   pos_below = let l = row_length (λ (pair : Pair). pair.after) tables entry.cells table in let h = has.pos_below in omega (arith, l, h);
 }
 
-stays_along : (tables : Tables) (order : List Entry) (table pos : ℕ) → HasPosition tables table pos → HasPosition (history tables order) table pos
+pub stays_along : (tables : Tables) (order : List Entry) (table pos : ℕ) → HasPosition tables table pos → HasPosition (history tables order) table pos
 stays_along tables [] table pos has = has
 stays_along tables (entry ∷ order) table pos has = stays_along (after_entry tables entry) order table pos (stays_after tables entry table pos has)
 
@@ -91,7 +91,7 @@ item_over f (cell ∷ cells) [] pos item e below = absurd cc
 item_over f (cell ∷ cells) (other ∷ others) zero item e below = ap (covered f cell) e
 item_over f (cell ∷ cells) (other ∷ others) (suc pos) item e below = item_over f cells others pos item e (omega (arith, below))
 
-pair_over : {B : Type 0} (f : B → Cell) (tables : Tables) (lists : List (List (Option B))) (table pos : ℕ) (item : B) → item_at lists table pos ≡ Some item
+pub pair_over : {B : Type 0} (f : B → Cell) (tables : Tables) (lists : List (List (Option B))) (table pos : ℕ) (item : B) → item_at lists table pos ≡ Some item
     → table < length tables → pos < length (get_or tables table []) → item_at (covered_tables f tables lists) table pos ≡ f item
 pair_over f [] lists table pos item e t p = absurd (omega (arith, t))
 pair_over f (cells ∷ tables) [] table pos item e t p = absurd cc

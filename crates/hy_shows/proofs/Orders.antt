@@ -77,7 +77,7 @@ items_over f (cell ∷ cells) [] pos e = refl
 items_over f (cell ∷ cells) (other ∷ others) zero e = ap (covered f cell) e
 items_over f (cell ∷ cells) (other ∷ others) (suc pos) e = items_over f cells others pos e
 
-tables_over : {B : Type 0} (f : B → Cell) (tables : Tables) (lists : List (List (Option B))) (table pos : ℕ) → item_at lists table pos ≡ None
+pub tables_over : {B : Type 0} (f : B → Cell) (tables : Tables) (lists : List (List (Option B))) (table pos : ℕ) → item_at lists table pos ≡ None
     → item_at (covered_tables f tables lists) table pos ≡ item_at tables table pos
 tables_over f [] lists table pos e = refl
 tables_over f (cells ∷ tables) [] table pos e = refl

@@ -17,7 +17,7 @@ under_by_stamps time (p ∷ c) (q ∷ d) e u =
     let rest : stamps_of c ≡ stamps_of d = cc in
     (subst (λ (s : Stamp). s.mark < time) same u.0, under_by_stamps time c d rest u.1)
 
-falls_by_stamps : (c d : List (Undo Image)) → stamps_of c ≡ stamps_of d → Falls c → Falls d
+pub falls_by_stamps : (c d : List (Undo Image)) → stamps_of c ≡ stamps_of d → Falls c → Falls d
 falls_by_stamps [] [] e f = tt
 falls_by_stamps [] (q ∷ d) e f = absurd (cc)
 falls_by_stamps (p ∷ c) [] e f = absurd (cc)

@@ -31,7 +31,7 @@ use Rattle.hy_machine.specs.Holding.{holds, holder_from, has_pair, changer_at, u
 use Rattle.hy_shows.specs.Stamped.{HasNotStamped, is_unstamped, entries_counted, is_unstamped_by}
 use Rattle.hy_shows.specs.Transactions.{IsOpen}
 use Rattle.hy_shows.specs.Places.{IsOwnStamp}
-use Rattle.hy_shows.specs.Kept.{Kept, is_stamping, entered}
+use Rattle.hy_kept.specs.Kept.{Kept, is_stamping, entered}
 use Rattle.hy_shows.specs.Rivals.{ShownAt, RivalsAreOpponents}
 use Rattle.hy_shows.proofs.Written.{own_among}
 use Rattle.hy_shows.proofs.Orders.{IsLastOf, last_or_none, last_some_none, last_some_at, dropped_get, changes_none, changes_some}
@@ -41,24 +41,24 @@ use Rattle.hy_shows.proofs.Changers.{is_changed}
 
 -- ---- the marked transaction
 
-pair_there : (before : Cell) (own : Option Cell) → is_some own ≡ true → is_some (pair_of before own) ≡ true
+pub pair_there : (before : Cell) (own : Option Cell) → is_some own ≡ true → is_some (pair_of before own) ≡ true
 pair_there before None e = absurd cc
 pair_there before (Some cell) e = refl
 
-own_there : (before : Cell) (own : Option Cell) → is_some (pair_of before own) ≡ true → is_some own ≡ true
+pub own_there : (before : Cell) (own : Option Cell) → is_some (pair_of before own) ≡ true → is_some own ≡ true
 own_there before None e = absurd cc
 own_there before (Some cell) e = refl
 
 -- its entry is the last one, and has what it wrote
-record LastEntry (setting : Setting) (state : State) (marked : ℕ) (current : Current) : Type 0 where
-  entry : Entry
-  stands : slice_get state.order (length state.order - 1) ≡ Some entry
-  label : entry.label ≡ label_of marked (session_at state marked)
-  some : 0 < length state.order
-  cells : (table pos : ℕ)
+pub record LastEntry (setting : Setting) (state : State) (marked : ℕ) (current : Current) : Type 0 where
+  pub entry : Entry
+  pub stands : slice_get state.order (length state.order - 1) ≡ Some entry
+  pub label : entry.label ≡ label_of marked (session_at state marked)
+  pub some : 0 < length state.order
+  pub cells : (table pos : ℕ)
       → item_at entry.cells table pos ≡ pair_of (item_at (snapshot setting state (length state.order - 1)) table pos) (item_at current.begun.own table pos)
 
-last_entry : (setting : Setting) (state : State) (marked : ℕ) (current : Current) → Kept setting state → state.mark ≡ Some marked
+pub last_entry : (setting : Setting) (state : State) (marked : ℕ) (current : Current) → Kept setting state → state.mark ≡ Some marked
     → (session_at state marked).now ≡ Some current
     → LastEntry setting state marked current
 last_entry setting state marked current kept mark is =
@@ -78,7 +78,7 @@ last_entry setting state marked current kept mark is =
     }
 
 -- what it wrote it holds
-marked_holds : (setting : Setting) (state : State) (marked : ℕ) (current : Current) (table pos : ℕ) → Kept setting state
+pub marked_holds : (setting : Setting) (state : State) (marked : ℕ) (current : Current) (table pos : ℕ) → Kept setting state
     → (session_at state marked).now ≡ Some current
     → is_stamping current.phase ≡ true → is_some (item_at current.begun.own table pos) ≡ true → holds setting table pos (Some current) ≡ true
 marked_holds setting state marked current table pos kept is stamping own =
@@ -183,7 +183,7 @@ held_by_self setting state core sessions table chunk pos place shown number sess
     (sym (dropped_get current.begun.prefix state.order k) ∙ e) table pos held)))
 
 -- all entries count in a chunk, or the last one, that of the marked session, doesn't
-all_or_marked : (setting : Setting) (state : State) (table chunk : ℕ)
+pub all_or_marked : (setting : Setting) (state : State) (table chunk : ℕ)
     → (entries_counted setting state table chunk ≡ length state.order)
     ⊎ ((marked : ℕ) × ((state.mark ≡ Some marked) × (entries_counted setting state table chunk ≡ length state.order - 1)))
 all_or_marked setting state table chunk = elim (cases_Bool (is_unstamped setting state table chunk)) [

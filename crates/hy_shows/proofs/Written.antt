@@ -11,9 +11,9 @@ use Rattle.hy_machine.specs.declared.Setting.{Setting}
 use Rattle.hy_machine.specs.Positions.{item_at}
 use Rattle.hy_machine.specs.Tables.{Cell, Own, capacity, chunk_of}
 use Rattle.hy_machine.specs.Writes.{has_written_in, chunks_in_table, chunks_from, written_chunks, is_among}
-use Rattle.hy_shows.specs.Kept.{OwnFits}
+use Rattle.hy_kept.specs.Kept.{OwnFits}
 
-any_in_range : (f : ℕ → Bool) (first n i : ℕ) → i < n → f (first + i) ≡ true → list_any f (range_with_len first n) ≡ true
+pub any_in_range : (f : ℕ → Bool) (first n i : ℕ) → i < n → f (first + i) ≡ true → list_any f (range_with_len first n) ≡ true
 any_in_range f first zero i h e = absurd (omega (arith, h))
 any_in_range f first (suc n) zero h e =
     or_left (f first) (list_any f (range_with_len (first + 1) n)) (ap f (sym (add-zero first)) ∙ e)
@@ -59,7 +59,7 @@ among_table setting table cells pos long e =
     (mod-lt pos rows) (ap (λ (n : ℕ). is_some (get_or cells n None)) (div-add-mod' pos setting.rows) ∙ e))
     (any_in_range (λ (one : ℕ). one == chunk) 0 setting.chunks chunk below (eq-eqb (0 + chunk) chunk (zero-add chunk)))
 
-among_joined : (chunks others : List (ℕ × ℕ)) (table chunk : ℕ)
+pub among_joined : (chunks others : List (ℕ × ℕ)) (table chunk : ℕ)
     → is_among (chunks ++ others) table chunk ≡ (is_among chunks table chunk || is_among others table chunk)
 among_joined chunks others table chunk = list_any-append (λ (one : ℕ × ℕ). one.0 == table && one.1 == chunk) chunks others
 

@@ -5,9 +5,14 @@ pub mod Sessions
 pub mod Places
 pub mod Parts
 pub mod Shows
-pub mod Kept
 pub mod Pruned
 pub mod Rivals
 pub mod Free
 pub mod Waiting
 pub mod Laws
+pub mod Labels
+pub mod Taken
+pub mod Frames
+pub mod Visits
+pub mod CoreVisits
+pub mod Steps

@@ -1,9 +1,8 @@
 -- The open transactions, as the engine has them and as the machine has them.
-use Rattle.std.specs.Prelude.{◌≡◌, ℕ, ◌+◌, List, Option, None, Some, slice_get, length, sum_by}
+use Rattle.std.specs.Prelude.{◌≡◌, ℕ, List, Some, slice_get}
 use Rattle.hy_event.specs.declared.SessionData.{SessionData}
 use Rattle.hy_event.specs.declared.Open.{Open}
 use Rattle.hy_machine.specs.declared.State.{State}
-use Rattle.hy_machine.specs.declared.Session.{Session}
 use Rattle.hy_machine.specs.declared.Open.{Open as Current}
 use Rattle.hy_machine.specs.Sessions.{session_at}
 
@@ -18,12 +17,3 @@ abbrev pub OfOpen : State → List SessionData → (ℕ → SessionData → Open
 OfOpen state sessions holds =
     (number : ℕ) (session : SessionData) (now : Open) (current : Current) → IsOpen state sessions number session now current
     → holds number session now current
-
--- one where a transaction is open
-abbrev pub count_open : Option Current → ℕ
-count_open None = 0
-count_open (Some current) = 1
-
--- how many transactions have begun, ended or open
-abbrev pub count_begun : State → ℕ
-count_begun state = sum_by (λ (session : Session). length session.done + count_open session.now) state.sessions

@@ -1,0 +1,10 @@
+use Rattle.std.proofs.Common.{arith, ℕ}
+use Rattle.std.proofs.lemmas.Grind.{common_steps}
+use Rattle.hy_event.specs.Ended.{placed_in}
+use Rattle.hy_session.proofs.Seeks.{mapped_more}
+use Rattle.hy_session.proofs.ends.placed_each.Goals as goal
+
+pub loop-table-preserved : goal.loop-table-preserved
+loop-table-preserved c =
+    let step = mapped_more (λ (table : ℕ). placed_in table c.args.statements.now c.args.took.now) c.loop-table.table c.args.tables c.loop-table-test.true in
+    grind (arith, common_steps, step, c.count_placed.ensures)

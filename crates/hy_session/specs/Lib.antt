@@ -1,0 +1,4 @@
+pub mod Limits
+pub mod Seeking
+pub mod Near
+pub mod Works

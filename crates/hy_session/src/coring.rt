@@ -1,0 +1,154 @@
+//! A visit of the core: BEGIN, COMMIT, and the ends of transactions.
+
+ghost use Rattle.std.specs.Prelude.{◌≡◌, ◌^◌, ◌<◌, IfOk, OnOk, OnErr, length};
+ghost use Rattle.hy_event.specs.declared.Need.{Need};
+ghost use Rattle.hy_event.specs.Needs.{need_of};
+ghost use Rattle.hy_event.specs.Coring.{CoreEvent, beginning};
+ghost use Rattle.hy_event.specs.Turns.{Begins, Enters, Ends, Takes, refused};
+ghost use Rattle.hy_render.specs.declared.Ending.TheVariants.{Committed};
+ghost use Rattle.hy_journal.specs.Core.{core_begun};
+ghost use Rattle.hy_session.specs.Near.{IsActive, NearCore};
+ghost use Rattle.hy_session.specs.Works.{closed_by, entered_by, left_by};
+
+use crate::ends::written_places;
+use crate::numbers::number;
+use crate::works::Work;
+use crate::{Running, Session};
+use hy_core::Core;
+use hy_event::{Phase, Progress};
+use hy_notes::Changes;
+use hy_plan::ReadLog;
+use hy_render::Ending;
+use hy_value::Seq;
+use std::alloc::{AllocError, Global};
+use std::mem;
+
+/// A transaction begins at the core. Err is for want of memory, and changes nothing.
+fn begun(alloc: Global, core: &mut Core) -> Result<Running, AllocError>
+    requires { core.old.next < 2 ^ 63 }
+    ensures now { IfOk result (λ now. now ≡ beginning core.old) }
+    ensures ok { OnOk result (core.new ≡ core_begun core.old) }
+    ensures err { OnErr result (core.new ≡ core.old) }
+{
+    let prefix = number(core.since(0).len())?;
+    let begun = core.begin()?;
+    Ok(Running {
+        start: begun.start,
+        prefix,
+        cover: begun.cover,
+        replies: Vec::new(alloc),
+        records: ReadLog::new(alloc),
+        took: Vec::new(alloc),
+        gathered: Vec::new(alloc),
+        notes: Changes::new(alloc),
+        wrote: Seq::new(alloc),
+        phase: Phase::Working {
+            visited: 0,
+            count: 0,
+        },
+    })
+}
+
+impl Session {
+    /// It begins a transaction. Err is for want of memory, and changes nothing.
+    fn begin(&mut self, alloc: Global, core: &mut Core) -> Result<Progress, AllocError>
+        requires { core.old.next < 2 ^ 63 }
+        ensures turn { IfOk result (λ progress. Takes self.old (Begins (beginning core.old)) progress self.new) }
+        ensures core { OnOk result (core.new ≡ core_begun core.old) }
+        ensures err { OnErr result (self.new ≡ self.old) }
+        ensures core_err { OnErr result (core.new ≡ core.old) }
+    {
+        self.now = Some(begun(alloc, core)?);
+        Ok(Progress::Answered)
+    }
+
+    /// Its open transaction enters the journal. Err is for want of memory, and changes nothing.
+    fn enter(&mut self, alloc: Global, core: &mut Core) -> Result<Progress, AllocError>
+        requires clock { core.old.next < 2 ^ 63 }
+        requires at { length self.old.done < length self.old.program }
+        ensures turn { IfOk result (λ progress. Takes self.old (Enters core.old.next) progress self.new) }
+        ensures core { OnOk result (core.new ≡ entered_by self.old core.old self.old.now) }
+        ensures err { OnErr result (self.new ≡ self.old) }
+        ensures core_err { OnErr result (core.new ≡ core.old) }
+    {
+        let label = self.label();
+        let Some(now) = &mut self.now else {
+            return Ok(Progress::Moved);
+        };
+        let wrote = written_places(alloc, now)?;
+        let notes = mem::replace(&mut now.notes, Changes::new(alloc));
+        match core.enter(label, now.start, notes) {
+            Ok(time) => {
+                now.wrote = wrote;
+                now.phase = Phase::Stamping { visited: 0, time };
+                Ok(Progress::Moved)
+            }
+            Err(notes) => {
+                now.notes = notes;
+                Err(AllocError)
+            }
+        }
+    }
+
+    /// Its open transaction is refused, and will be undone.
+    fn refuse(&mut self, cause: Ending) -> Progress
+        ensures { Takes self.old (refused cause) result self.new }
+    {
+        if let Some(now) = &mut self.now {
+            now.phase = Phase::Undoing { visited: 0, cause };
+        }
+        Progress::Moved
+    }
+
+    /// Its open transaction, which has no entry, ends. Err is for want of memory, and changes nothing.
+    fn close(
+        &mut self,
+        alloc: Global,
+        core: &mut Core,
+        cause: Ending,
+    ) -> Result<Progress, AllocError>
+        requires active { IsActive core.old.active self.old.now }
+        requires at { length self.old.done < length self.old.program }
+        ensures turn { IfOk result (λ progress. Takes self.old (Ends cause) progress self.new) }
+        ensures core { OnOk result (core.new ≡ closed_by core.old self.old.now) }
+        ensures err { OnErr result (self.new ≡ self.old) }
+        ensures core_err { OnErr result (core.new ≡ core.old) }
+    {
+        if let Some(start) = self.end(alloc, cause)? {
+            core.close(start);
+        }
+        Ok(Progress::Answered)
+    }
+
+    /// Its open transaction ends, whose entry has this rank. Err is for want of memory, and changes nothing.
+    fn leave(&mut self, alloc: Global, core: &mut Core, rank: u32) -> Result<Progress, AllocError>
+        requires active { IsActive core.old.active self.old.now }
+        requires at { length self.old.done < length self.old.program }
+        ensures turn { IfOk result (λ progress. Takes self.old (Ends (Committed rank)) progress self.new) }
+        ensures core { OnOk result (core.new ≡ left_by core.old self.old.now) }
+        ensures err { OnErr result (self.new ≡ self.old) }
+        ensures core_err { OnErr result (core.new ≡ core.old) }
+    {
+        if let Some(start) = self.end(alloc, Ending::Committed { rank })? {
+            core.leave(start);
+        }
+        Ok(Progress::Answered)
+    }
+
+    /// Visits the core, which it needs. Err is for want of memory, and changes nothing.
+    pub fn visit_core(&mut self, alloc: Global, core: &mut Core) -> Result<Progress, AllocError>
+        requires needs { need_of self.old ≡ Need.Core }
+        requires near { NearCore self.old core.old }
+        ensures event { IfOk result (λ progress. CoreEvent self.old core.old progress self.new core.new) }
+        ensures kept { OnErr result ((self.new ≡ self.old) × (core.new ≡ core.old)) }
+    {
+        match self.choose(alloc, core)? {
+            Work::Wait(by) => Ok(Progress::Blocked { by }),
+            Work::Begin => self.begin(alloc, core),
+            Work::Enter => self.enter(alloc, core),
+            Work::Refuse(cause) => Ok(self.refuse(cause)),
+            Work::Close(cause) => self.close(alloc, core, cause),
+            Work::Leave(rank) => self.leave(alloc, core, rank),
+        }
+    }
+}

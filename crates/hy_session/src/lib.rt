@@ -1,0 +1,156 @@
+//! A session of the engine: it runs the transactions of its program, one visit at one part at a time.
+#![tactic(auto)]
+
+ghost use Rattle.std.specs.Prelude.{◌≡◌, ◌<◌, ◌≤◌, [], None, length};
+ghost use Rattle.hy_limits.specs.declared.TheConstants.{MOST_TABLES, MOST_TXNS};
+ghost use Rattle.hy_event.specs.Needs.{need_of};
+
+mod coring;
+mod ends;
+mod needs;
+mod numbers;
+mod seeking;
+mod works;
+
+use hy_bound::{Reply, Shapes, Txns};
+use hy_event::{Need, Phase};
+use hy_notes::Changes;
+use hy_plan::{Gathered, ReadLog};
+use hy_prune::Cover;
+use hy_render::{Places, TxnOutcome};
+use std::alloc::Global;
+use std::marker::Model;
+
+/// An open transaction, with room for what it will keep. Contracts see what it keeps.
+#[derive(Drop)]
+struct Running {
+    start: u64,
+    prefix: u32,
+    cover: Cover,
+    replies: Vec<Reply>,
+    records: ReadLog,
+    took: Vec<Option<u32>>,
+    gathered: Vec<Gathered>,
+    notes: Changes,
+    wrote: Places,
+    phase: Phase,
+}
+
+impl Model for Running {
+    ghost use Rattle.std.specs.Prelude.{map};
+    ghost use Rattle.hy_event.specs.declared.Open.{Open};
+    ghost use Rattle.hy_event.specs.contracts.Open as open_data;
+
+    ghost Value = { Open };
+
+    ghost coded = { open_data.the_row.coded };
+
+    ghost view = { λ a. record {
+      start = a.start;
+      prefix = a.prefix;
+      cover = a.cover;
+      replies = a.replies.items;
+      records = a.records.entries;
+      took = a.took.items;
+      gathered = map (λ table. table.rows) a.gathered.items;
+      notes = a.notes.notes;
+      wrote = a.wrote;
+      phase = a.phase;
+    } };
+}
+
+/// A session. Contracts see its plain data.
+#[derive(Drop)]
+pub struct Session {
+    number: u32,
+    program: Txns,
+    shapes: Shapes,
+    chunks: u32,
+    rows: u32,
+    prunes: bool,
+    done: Vec<TxnOutcome>,
+    now: Option<Running>,
+}
+
+impl Model for Session {
+    ghost use Rattle.std.specs.Prelude.{length};
+    ghost use Rattle.hy_event.specs.declared.SessionData.{SessionData};
+    ghost use Rattle.hy_event.specs.contracts.SessionData as session_data;
+    ghost use Rattle.hy_session.specs.Limits.{IsLimited};
+
+    ghost Value = { SessionData };
+
+    ghost coded = { session_data.the_row.coded };
+
+    ghost view = { λ a. record {
+      number = a.number;
+      program = a.program;
+      shapes = a.shapes;
+      chunks = a.chunks;
+      rows = a.rows;
+      prunes = a.prunes;
+      done = a.done.items;
+      now = a.now;
+    } };
+
+    ghost invariant = { λ a. IsLimited a.chunks a.shapes a.program (length a.done.items) };
+}
+
+/// How the tables of a script lie in chunks.
+#[derive(Clone, Copy, Debug, PartialEq, Eq)]
+pub struct Layout {
+    /// How many chunks a table has.
+    pub chunks: u32,
+    /// How many positions a chunk has.
+    pub rows: u32,
+}
+
+impl Session {
+    /// A session of this number that has run nothing of its program. It takes no memory.
+    pub fn new(
+        alloc: Global,
+        number: u32,
+        program: Txns,
+        shapes: Shapes,
+        layout: Layout,
+        prunes: bool,
+    ) -> Session
+        requires chunks { 0 < layout.chunks }
+        requires tables { length shapes ≤ MOST_TABLES }
+        requires txns { length program ≤ MOST_TXNS }
+        ensures { result ≡ record {
+          number = number;
+          program = program;
+          shapes = shapes;
+          chunks = layout.chunks;
+          rows = layout.rows;
+          prunes = prunes;
+          done = [];
+          now = None;
+        } }
+    {
+        Session {
+            number,
+            program,
+            shapes,
+            chunks: layout.chunks,
+            rows: layout.rows,
+            prunes,
+            done: Vec::new(alloc),
+            now: None,
+        }
+    }
+
+    /// The part that it needs for its next visit.
+    pub fn next(&self) -> Need
+        ensures { result ≡ need_of self.entry.now }
+    {
+        match self.program.as_slice().get(self.done.len()) {
+            None => Need::Done,
+            Some(txn) => match &self.now {
+                None => Need::Core,
+                Some(now) => self.needed_by(txn, now),
+            },
+        }
+    }
+}

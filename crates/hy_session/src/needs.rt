@@ -1,0 +1,80 @@
+//! What an open transaction needs next.
+
+ghost use Rattle.std.specs.Prelude.{◌≡◌, slice_index_or};
+ghost use Rattle.hy_bound.specs.Records.{shape_of};
+ghost use Rattle.hy_event.specs.Needs.{checks_of, insert_need, statement_need, phase_need};
+
+use crate::{Running, Session};
+use hy_bound::{Bound, Txn, table_shape};
+use hy_event::{Need, Phase};
+
+/// The table of this number in FROM order.
+fn table_at(tables: &[u32], number: u32) -> u32
+    ensures { result ≡ slice_index_or tables.now number 0 }
+{
+    match tables.get(number as usize) {
+        Some(table) => *table,
+        None => 0,
+    }
+}
+
+impl Session {
+    /// The chunk that a visit of an INSERT needs: one of those that it checks for its key, or one that may have a
+    /// position for it.
+    fn needed_by_insert(&self, table: u32, visited: u32) -> Need
+        ensures { result ≡ insert_need visited table (checks_of self.entry.now (shape_of self.entry.now.shapes table).key) }
+    {
+        let checks = match table_shape(self.shapes.as_slice(), table).key {
+            Some(_) => self.chunks,
+            None => 0,
+        };
+        if visited < checks {
+            Need::Chunk {
+                table,
+                chunk: visited,
+            }
+        } else {
+            Need::Chunk {
+                table,
+                chunk: visited - checks,
+            }
+        }
+    }
+
+    /// The chunk that a visit of a statement needs.
+    fn needed_by_statement(&self, visited: u32, statement: &Bound) -> Need
+        ensures { result ≡ statement_need self.entry.now visited statement.now }
+    {
+        match statement {
+            Bound::Select { tables, .. } => Need::Chunk {
+                table: table_at(tables.as_slice(), visited / self.chunks),
+                chunk: visited % self.chunks,
+            },
+            Bound::Insert { table, .. } => self.needed_by_insert(*table, visited),
+            Bound::Group { table, .. }
+            | Bound::Update { table, .. }
+            | Bound::Delete { table, .. } => Need::Chunk {
+                table: *table,
+                chunk: visited,
+            },
+        }
+    }
+
+    /// What its open transaction needs, by where it stands.
+    pub(crate) fn needed_by(&self, txn: &Txn, now: &Running) -> Need
+        ensures { result ≡ phase_need self.entry.now txn.now now.now now.now.phase }
+    {
+        match now.phase {
+            Phase::Working { visited, .. } => {
+                match txn.statements.as_slice().get(now.replies.len()) {
+                    Some(statement) => self.needed_by_statement(visited, statement),
+                    None if txn.commits => Need::Core,
+                    None => self.left_of_written(now, 0),
+                }
+            }
+            Phase::Stamping { visited, .. } | Phase::Undoing { visited, .. } => {
+                self.left_of_written(now, visited)
+            }
+        }
+    }
+}

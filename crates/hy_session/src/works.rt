@@ -1,0 +1,146 @@
+//! What a session does at the core, chosen before anything changes.
+
+ghost use Rattle.std.specs.Prelude.{◌≡◌, ◌<◌, Some, IfOk, length, drop};
+ghost use Rattle.hy_event.specs.declared.Need.{Need};
+ghost use Rattle.hy_event.specs.declared.SessionData.{SessionData};
+ghost use Rattle.hy_event.specs.Sessions.{label_of};
+ghost use Rattle.hy_event.specs.Needs.{need_of, phase_need};
+ghost use Rattle.hy_event.specs.Coring.{core_turn, phase_turn, unless_blocked, commit_turn, validated_turn, invalid_by};
+ghost use Rattle.hy_journal.specs.Core.{blocked_by};
+ghost use Rattle.hy_validate.specs.Hits.{first_invalid};
+ghost use Rattle.hy_session.specs.Works.{turn_by};
+
+use crate::numbers::{behind, number};
+use crate::{Running, Session};
+use hy_bound::{Record, Txn};
+use hy_core::Core;
+use hy_event::Phase;
+use hy_ptree::Tree;
+use hy_render::Ending;
+use hy_stamp::Label;
+use hy_validate::{Invalid, validate_with};
+use std::alloc::{AllocError, Global};
+
+/// What a session does at the core.
+#[derive(Clone, Copy, Debug, PartialEq, Eq)]
+pub enum Work {
+    /// It waits for this transaction, which stands between its entry and its end.
+    Wait(Label),
+    /// It begins a transaction.
+    Begin,
+    /// Its open transaction enters the journal.
+    Enter,
+    /// Its open transaction is refused so.
+    Refuse(Ending),
+    /// Its open transaction, which has no entry, ends so.
+    Close(Ending),
+    /// Its open transaction ends, whose entry has this rank.
+    Leave(u32),
+}
+
+/// A core step is taken unless another transaction stands between its entry and its end.
+fn unless_marked(core: &Core, label: Label, work: Work) -> Work
+    ensures { (session : SessionData) → turn_by result session core.now ≡ unless_blocked core.now (blocked_by core.now label) (turn_by work session core.now) }
+{
+    match core.blocked(label) {
+        Some(by) => Work::Wait(by),
+        None => work,
+    }
+}
+
+/// How a transaction of these records ends that is refused by validation.
+fn refusal(records: &[Record], invalid: Invalid) -> Ending
+    ensures { result ≡ invalid_by records.now invalid }
+{
+    let statement = match records.get(invalid.number as usize) {
+        Some(record) => record.statement,
+        None => 0,
+    };
+    Ending::Invalid {
+        table: invalid.table,
+        pos: invalid.pos,
+        other: invalid.other,
+        statement,
+    }
+}
+
+/// COMMIT of a transaction that wrote: validation refuses it, or it enters the journal.
+fn validate(alloc: Global, core: &Core, now: &Running) -> Result<Work, AllocError>
+    ensures { IfOk result (λ work. (session : SessionData) → session.now ≡ Some now.now
+        → validated_turn session core.now now.now (first_invalid now.now.records (drop now.now.prefix core.now.entries)) ≡ turn_by work session core.now) }
+{
+    let records = now.records.records();
+    let tree = Tree::build(alloc, records)?;
+    let since = behind(core.since(0), now.prefix as usize);
+    match validate_with(&tree, since) {
+        Ok(()) => Ok(Work::Enter),
+        Err(invalid) => Ok(Work::Refuse(refusal(records, invalid))),
+    }
+}
+
+/// COMMIT of a transaction of this label.
+fn commit(alloc: Global, core: &Core, label: Label, now: &Running) -> Result<Work, AllocError>
+    ensures { IfOk result (λ work. (session : SessionData) → session.now ≡ Some now.now → label_of session ≡ label
+        → unless_blocked core.now (blocked_by core.now label) (commit_turn session core.now now.now now.now.notes) ≡ turn_by work session core.now) }
+{
+    match core.blocked(label) {
+        Some(by) => Ok(Work::Wait(by)),
+        None if now.notes.len() == 0 => Ok(Work::Close(Ending::Read)),
+        None => validate(alloc, core, now),
+    }
+}
+
+impl Session {
+    /// The label of its transaction that is open or comes next.
+    pub(crate) fn label(&self) -> Label
+        requires { length self.now.done < length self.now.program }
+        ensures { result ≡ label_of self.entry.now }
+    {
+        Label {
+            session: self.number,
+            txn: self.done.len() as u32 + 1,
+        }
+    }
+
+    /// What its open transaction does at the core, by where it stands.
+    fn choose_by(
+        &self,
+        alloc: Global,
+        core: &Core,
+        txn: &Txn,
+        now: &Running,
+    ) -> Result<Work, AllocError>
+        requires is_open { self.now.now ≡ Some now.now }
+        requires needs { phase_need self.now txn.now now.now now.now.phase ≡ Need.Core }
+        requires at { length self.now.done < length self.now.program }
+        ensures { IfOk result (λ work. phase_turn self.entry.now core.now txn.now now.now now.now.phase ≡ Some (turn_by work self.entry.now core.now)) }
+    {
+        let label = self.label();
+        match now.phase {
+            Phase::Working { .. } => match txn.statements.as_slice().get(now.replies.len()) {
+                Some(_) => unreachable!(),
+                None if txn.commits => commit(alloc, core, label, now),
+                None => Ok(unless_marked(core, label, Work::Close(Ending::RolledBack))),
+            },
+            Phase::Stamping { .. } => {
+                let entries = core.since(0).len();
+                Ok(Work::Leave(number(entries.saturating_sub(1))?))
+            }
+            Phase::Undoing { cause, .. } => Ok(unless_marked(core, label, Work::Close(cause))),
+        }
+    }
+
+    /// What it does at the core, which it needs.
+    pub(crate) fn choose(&self, alloc: Global, core: &Core) -> Result<Work, AllocError>
+        requires { need_of self.now ≡ Need.Core }
+        ensures { IfOk result (λ work. core_turn self.entry.now core.now ≡ Some (turn_by work self.entry.now core.now)) }
+    {
+        match self.program.as_slice().get(self.done.len()) {
+            None => unreachable!(),
+            Some(txn) => match &self.now {
+                None => Ok(unless_marked(core, self.label(), Work::Begin)),
+                Some(now) => self.choose_by(alloc, core, txn, now),
+            },
+        }
+    }
+}

@@ -1,0 +1,5 @@
+pub mod Pruning
+pub mod Laws
+pub mod Writing
+pub mod Placing
+pub mod Gathering

@@ -1,0 +1,18 @@
+//! What a visit of one session does to a chunk, and to what its open transaction keeps: it reads, or it prunes and
+//! then writes, or it stamps or undoes what was written.
+#![tactic(auto)]
+
+ghost use Rattle.hy_visit.specs.Laws.{PrunesAsTheSession};
+
+mod pruning;
+mod reading;
+mod writing;
+
+pub use pruning::{prune_first, stamp_visit, undo_visit};
+pub use reading::gather_visit;
+pub use writing::{Writer, check_visit, place_visit, write_visit};
+
+/// A chunk is pruned first as a session does it where it is pruned by the session's cover, if the session prunes.
+pub fn prunes_by_is_prunes_first()
+    ensures { PrunesAsTheSession }
+{}

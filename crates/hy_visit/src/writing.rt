@@ -1,0 +1,93 @@
+//! Visits of an UPDATE, a DELETE or an INSERT.
+
+ghost use Rattle.std.specs.Prelude.{◌≡◌, ◌+◌, ◌<◌, ◌≤◌, true, Some, length};
+ghost use Rattle.hy_chunk.specs.Sound.{FitsRow};
+ghost use Rattle.hy_chunk.specs.Views.{with_places};
+ghost use Rattle.hy_chunk.specs.Writes.{FitsWrite, sets_of};
+ghost use Rattle.hy_event.specs.Inserting.{sees_key};
+ghost use Rattle.hy_visit.specs.Placing.{PlaceDone};
+ghost use Rattle.hy_visit.specs.Pruning.{AllFall, AllShort};
+ghost use Rattle.hy_visit.specs.Writing.{WriteDone};
+
+use crate::pruning::prune_first;
+use hy_bound::{Pred, WriteKind, column_value};
+use hy_chunk::Chunk;
+use hy_notes::Changes;
+use hy_prune::Cover;
+use hy_stamp::{Label, Viewer};
+use hy_undo::Refusal;
+use hy_value::Row;
+
+/// Who writes, and how the chunk is pruned before.
+#[derive(Clone, Copy)]
+pub struct Writer<'a> {
+    /// As whom the transaction looks at positions.
+    pub viewer: Viewer,
+    /// Its label.
+    pub label: Label,
+    /// The starts that were open when it had begun.
+    pub cover: &'a Cover,
+    /// Whether it prunes by them.
+    pub prunes: bool,
+}
+
+/// Prunes the chunk, and then does an UPDATE or a DELETE: it writes and notes each position whose row is seen and
+/// selected, and answers how many they are. It fails with the first refusal, and has then pruned alone.
+pub fn write_visit(
+    chunk: &mut Chunk,
+    writer: &Writer,
+    pred: &Pred,
+    kind: &WriteKind,
+    changes: &mut Changes,
+) -> Result<u32, Refusal>
+    requires falls { AllFall chunk.old.shown.places }
+    requires room { length chunk.old.shown.places ≤ chunk.old.room }
+    requires notes { length chunk.old.shown.places ≤ changes.old.room }
+    requires wide { length chunk.old.kinds ≤ changes.old.width }
+    requires fits { FitsWrite chunk.old.kinds chunk.old.shown.key kind.now }
+    ensures done { WriteDone writer.now (sets_of kind.now) pred.now chunk.old.shown changes.old.notes result chunk.new.shown changes.new.notes }
+    ensures short { writer.now.prunes ≡ true → writer.now.cover.now.next ≤ writer.now.viewer.id → AllShort writer.now.cover.now chunk.new.shown.places }
+    ensures all { chunk.new ≡ with_places chunk.old chunk.new.shown.places chunk.new.room }
+    ensures room { chunk.old.room ≤ chunk.new.room + length chunk.old.shown.places }
+    ensures notes_room { changes.old.room ≤ changes.new.room + length chunk.old.shown.places }
+    ensures notes_width { changes.new.width ≡ changes.old.width }
+{
+    prune_first(chunk, writer.cover, writer.prunes);
+    chunk.write(&writer.viewer, writer.label, pred, kind, changes)
+}
+
+/// Whether a viewer sees a row of the chunk that has the key of this row.
+pub fn check_visit(chunk: &mut Chunk, viewer: &Viewer, row: &Row, key: u32) -> bool
+    ensures found { result ≡ sees_key viewer.now row.now (Some key) chunk.old.shown.places }
+    ensures all { chunk.new ≡ chunk.old }
+{
+    let value = column_value(row, key);
+    chunk.find_key(viewer, key, &value)
+}
+
+/// Prunes the chunk, and then puts a new row at the first free position, notes it, and answers the position. Where
+/// none is free it has pruned alone.
+pub fn place_visit(
+    chunk: &mut Chunk,
+    writer: &Writer,
+    row: &Row,
+    changes: &mut Changes,
+) -> Option<u32>
+    requires falls { AllFall chunk.old.shown.places }
+    requires fits { FitsRow chunk.old.kinds row.now }
+    requires room { 0 < chunk.old.room }
+    requires notes { 0 < changes.old.room }
+    requires wide { length chunk.old.kinds ≤ changes.old.width }
+    ensures done { PlaceDone writer.now row.now chunk.old.shown changes.old.notes result chunk.new.shown changes.new.notes }
+    ensures short { writer.now.prunes ≡ true → writer.now.cover.now.next ≤ writer.now.viewer.id → AllShort writer.now.cover.now chunk.new.shown.places }
+    ensures all { chunk.new ≡ with_places chunk.old chunk.new.shown.places chunk.new.room }
+    ensures room { chunk.old.room ≤ chunk.new.room + 1 }
+    ensures notes_room { changes.old.room ≤ changes.new.room + 1 }
+    ensures notes_width { changes.new.width ≡ changes.old.width }
+{
+    prune_first(chunk, writer.cover, writer.prunes);
+    match chunk.place(&writer.viewer, writer.label, writer.cover, row, changes) {
+        Ok(pos) => Some(pos),
+        Err(_) => None,
+    }
+}

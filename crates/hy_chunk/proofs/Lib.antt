@@ -24,3 +24,4 @@ pub mod Lookups
 pub mod Chosen
 pub mod Asking
 pub mod FoundEach
+pub mod Masking

@@ -9,3 +9,4 @@ pub mod Steps
 pub mod Whole
 pub mod Gathering
 pub mod Writes
+pub mod Masked

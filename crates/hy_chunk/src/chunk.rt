@@ -1,7 +1,7 @@
 //! A chunk of a table.
 
 ghost use Rattle.std.specs.Prelude.{◌≡◌, ◌++◌, take, None, Some, IfErr, ◌+◌, ◌<◌, ◌≤◌, ◌^◌};
-ghost use Rattle.std.specs.Prelude.{ℕ, List, IfOk, true, OnOk, OnErr, length, replicate, slice_index_or, slice_set};
+ghost use Rattle.std.specs.Prelude.{ℕ, List, [], IfOk, true, OnOk, OnErr, length, replicate, slice_index_or, slice_set};
 ghost use Rattle.std.specs.List.{AllByRecursion, flat_map, list_any};
 ghost use Rattle.std.specs.Prelude.{Contains, IfSome};
 ghost use Rattle.hy_bound.specs.Condition.{Compare};
@@ -16,19 +16,25 @@ ghost use Rattle.hy_chunk.specs.Fields.{blank_place, nth};
 ghost use Rattle.hy_plan.specs.Reads.{by_key_of};
 ghost use Rattle.hy_chunk.specs.Gathering.{AreEnough, conditions_of, gathered_by, gathered_of, kept_by};
 ghost use Rattle.hy_chunk.specs.Keyed.{is_key_of};
+ghost use Rattle.hy_chunk.specs.Masked.{Admits};
+ghost use Rattle.hy_bound.specs.Records.{conjuncts};
+ghost use Rattle.std.specs.Option.{option_copied};
 ghost use Rattle.hy_chunk.specs.Sound.{FitsRow};
 ghost use Rattle.hy_chunk.specs.Steps.{loaded_place, least_unused, least_free, IsPut};
 ghost use Rattle.hy_chunk.specs.Views.{with_places};
 ghost use Rattle.hy_chunk.specs.Writes.{FitsWrite, IsDone, refusal_in, sets_of};
 ghost use Rattle.hy_undo.specs.Sweeps.{swept};
+ghost use Rattle.hy_stamp.specs.declared.Viewer.{Viewer};
 ghost use Rattle.hy_value.specs.declared.Value.{Value};
 ghost use Rattle.hy_value.specs.declared.Cmp.{Cmp};
 ghost use Rattle.hy_bound.specs.declared.predicate.Side.{Side};
 
 use crate::gathering::{Keys, Wanted, conditions_gather_rows, has_in, keep, keys_of, value_asked};
+use crate::masks::{admitted, is_passed};
 use crate::positions::Positions;
 use crate::writes::{is_selected, make_next, note, refusal_at};
 use hy_bound::{Pred, WriteKind};
+use hy_kernel::Mask;
 use hy_notes::Changes;
 use hy_plan::Gathered;
 use hy_prune::{Cover, watermark};
@@ -152,6 +158,13 @@ impl Chunk {
         })
     }
 
+    /// How many positions it has.
+    pub fn len(&self) -> usize
+        ensures { result ≡ length self.now.shown.places }
+    {
+        self.positions.len()
+    }
+
     /// Makes room for so many more records. There is never less room, and all else stays, without memory too.
     pub fn reserve(&mut self, additional: usize) -> Result<(), AllocError>
         ensures all { self.new ≡ with_places self.old self.old.shown.places self.new.room }
@@ -260,16 +273,18 @@ impl Chunk {
         }
     }
 
-    /// Appends, position by position, what is wanted of the rows that a viewer sees, tried at each. Err is for want of memory: then
-    /// only the rows that were there before are there for certain.
+    /// Appends, position by position, what is wanted of the rows that a viewer sees, tried at each where a mask does not
+    /// pass it. Err is for want of memory: then only the rows that were there before are there for certain.
     fn gather_of_all(
         &mut self,
         alloc: Global,
         viewer: &Viewer,
         wanted: &Wanted,
+        mask: Option<&Mask>,
         gathered: &mut Gathered,
     ) -> Result<(), AllocError>
-        requires { (row : List Value) → FitsRow self.old.kinds row → length (projected wanted.now.columns row) ≡ gathered.old.width }
+        requires fits { (row : List Value) → FitsRow self.old.kinds row → length (projected wanted.now.columns row) ≡ gathered.old.width }
+        requires mask { IfSome (option_copied mask) (Admits (conjuncts wanted.now.pred.now) self.old.shown.places) }
         ensures rows { OnOk result (gathered.new.rows ≡ gathered.old.rows
             ++ gathered_by wanted.now.columns (conditions_of wanted.now.pred.now wanted.now.keys) (rows_seen viewer.now self.old.shown.places)) }
         ensures err { OnErr result (take (length gathered.old.rows) gathered.new.rows ≡ gathered.old.rows) }
@@ -277,6 +292,9 @@ impl Chunk {
         ensures all { self.new ≡ self.old }
     {
         for place in 0..self.positions.len() {
+            if is_passed(&self.positions, place, wanted, mask) {
+                continue;
+            }
             self.positions.see(place, viewer, &mut self.seen);
             keep(alloc, &self.seen, wanted, gathered)?;
         }
@@ -346,7 +364,10 @@ impl Chunk {
     {
         match self.places_wanted(alloc, wanted)? {
             Some(places) => self.gather_at(alloc, viewer, wanted, places.as_slice(), gathered),
-            None => self.gather_of_all(alloc, viewer, wanted, gathered),
+            None => {
+                let mask = admitted(alloc, &self.positions, wanted.pred)?;
+                self.gather_of_all(alloc, viewer, wanted, mask.as_ref(), gathered)
+            }
         }
     }
 

@@ -3,7 +3,9 @@
 ghost use Rattle.std.specs.Prelude.{◌≡◌, ◌+◌, ◌<◌, ◌≤◌, ◌&&◌, ◌||◌, ◌==◌, ◌^◌, nat_le, nat_lt, not as negated, IfOk};
 ghost use Rattle.std.specs.Prelude.{OnOk, OnErr, length, replicate, slice_set, vec_len, map, true, ℕ, slice_index_or, [], ◌∷◌};
 ghost use Rattle.std.specs.Prelude.{if◌then◌else◌};
-ghost use Rattle.std.specs.Prelude.{◌++◌, Contains};
+ghost use Rattle.std.specs.Prelude.{◌++◌, Contains, IfSome, false};
+ghost use Rattle.hy_bound.specs.Predicate.{column_of};
+ghost use Rattle.hy_column.specs.Compared.{compares_value};
 ghost use Rattle.std.specs.List.{AllByRecursion};
 ghost use Rattle.std.specs.List.Sorted.{IsStrictlyIncreasing};
 ghost use Rattle.hy_value.specs.declared.Value.{Value};
@@ -24,11 +26,12 @@ use crate::rows::{exchange_row, put_row};
 use hy_chain::{Chains, Image};
 use hy_column::Columns;
 use hy_index::{IndexEntry, KeyIndex};
+use hy_kernel::Mask;
 use hy_prune::Cover;
 use hy_range::Versioned;
 use hy_stamp::{Label, Stamp, Viewer};
 use hy_undo::{Delta, Version};
-use hy_value::{Kind, Row, Value};
+use hy_value::{Cmp, Kind, Row, Value};
 use std::alloc::{AllocError, Global};
 use std::marker::Model;
 
@@ -460,6 +463,34 @@ impl Positions {
         if is_in(self.versioned, place) {
             self.chains.see(place, viewer, version);
         }
+    }
+
+    /// Whether a comparison with a number is true of the value in place of a column at each position, where it is a
+    /// column of numbers. Err is for want of memory.
+    pub fn compare(
+        &self,
+        alloc: Global,
+        column: u32,
+        op: Cmp,
+        right: i64,
+    ) -> Result<Option<Mask>, AllocError>
+        ensures { IfOk result (λ found. IfSome found (λ mask. mask
+            ≡ map (λ place. compares_value op right (column_of place.version.row column)) self.now.places)) }
+    {
+        let column = column as usize;
+        if column < self.columns.width() {
+            self.columns.compare(alloc, column, op, right)
+        } else {
+            Ok(None)
+        }
+    }
+
+    /// Whether a position may have records: else every viewer sees what is in place.
+    pub fn is_versioned(&self, place: usize) -> bool
+        requires { place < length self.now.places }
+        ensures { result ≡ false → (nth self.now.places place).chain ≡ [] }
+    {
+        is_in(self.versioned, place)
     }
 
     /// Whether a column is the key.

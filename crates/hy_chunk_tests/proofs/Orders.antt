@@ -1,5 +1,6 @@
 -- The stamps of one position, before and after a visit.
-use Rattle.std.proofs.Common.{◌≡◌, ◌⊎◌, ℕ, zero, suc, ◌+◌, ◌<◌, ◌≤◌, ◌==◌, false, List, [], ◌∷◌, length, drop, get_or, None, Some, inl, inr, refl, sym, ap, subst, arith, Contains}
+use Rattle.std.proofs.Common.{◌≡◌, ◌⊎◌, ℕ, zero, suc, ◌+◌, ◌<◌, ◌≤◌, ◌==◌, false, List, [], ◌∷◌, length, drop, get_or, None, Some, inl, inr, refl}
+use Rattle.std.proofs.Common.{sym, ap, subst, arith, Contains}
 use Rattle.std.specs.Prelude.{nat_lt}
 use Rattle.std.proofs.lemmas.Bool.{ltb-true, cases_Bool, or_from, cond-false, cond_both}
 use Rattle.hy_stamp.specs.declared.Label.{Label}

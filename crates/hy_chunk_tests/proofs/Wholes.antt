@@ -25,12 +25,14 @@ use Rattle.hy_chunk.specs.Writes.{FitsWrite, IsDone}
 use Rattle.hy_chunk_tests.specs.Ready.{AreInOrder, PlacesInOrder, IsReady, two_numbers}
 use Rattle.hy_chunk_tests.proofs.Fits.{pair_fits}
 use Rattle.hy_chunk_tests.proofs.Orders.{single}
-use Rattle.hy_chunk_tests.proofs.Visits.{places_later, none_yet, put_in_order, nth_in_order, everywhere_in_order, everywhere_many, stamped_in_order, undone_in_order, pruned_in_order, done_in_order, done_many}
+use Rattle.hy_chunk_tests.proofs.Visits.{places_later, none_yet, put_in_order, nth_in_order, everywhere_in_order, everywhere_many, stamped_in_order}
+use Rattle.hy_chunk_tests.proofs.Visits.{undone_in_order, pruned_in_order, done_in_order, done_many}
 
 pub later : (n m : ℕ) (whole : Whole) → n ≤ m → IsReady n whole → IsReady m whole
 later n m whole le r = record { kinds = r.kinds; key = r.key; few = r.few; ordered = places_later n m whole.shown.places le r.ordered }
 
-ready_with : (n m : ℕ) (old new : Whole) (places : List Place) (room : ℕ) → IsReady n old → new ≡ with_places old places room → length places ≡ length old.shown.places
+ready_with : (n m : ℕ) (old new : Whole) (places : List Place) (room : ℕ) → IsReady n old → new ≡ with_places old places room
+    → length places ≡ length old.shown.places
     → PlacesInOrder m places → IsReady m new
 ready_with n m old new places room r e many ordered =
     subst (IsReady m) (sym e) (record { kinds = r.kinds; key = r.key; few = omega (arith, many, r.few); ordered = ordered })
@@ -52,7 +54,8 @@ pub after_load : (next : ℕ) (row : List Value) (k : ℕ) (old new : Whole) →
 after_load next row k old new r e =
     let olds : List Place = old.shown.places in
     let p : Place = loaded_place row (nth olds k) in
-    ready_with next next old new (slice_set olds k p) new.room r e (length-set olds k p) (put_in_order next olds k p r.ordered (nth_in_order next olds k r.ordered))
+    ready_with next next old new (slice_set olds k p) new.room r e (length-set olds k p)
+    (put_in_order next olds k p r.ordered (nth_in_order next olds k r.ordered))
 
 pub after_stamp : (id next : ℕ) (old new : Whole) → IsReady next old → new ≡ with_places old new.shown.places new.room
     → Everywhere (AtOwn id (StampedPlace id next)) old.shown.places new.shown.places → IsReady (next + 1) new
@@ -68,13 +71,15 @@ after_undo id next old new r e all =
     ready_with next next old new new.shown.places new.room r e (everywhere_many does old.shown.places new.shown.places all)
     (everywhere_in_order next next does (undone_in_order id next) old.shown.places new.shown.places all r.ordered)
 
-pub after_prune : Shrinks both → KeepsStamps both → (cover : Cover) (next : ℕ) (old new : Whole) → IsReady next old → new ≡ with_places old new.shown.places new.room
+pub after_prune : Shrinks both → KeepsStamps both → (cover : Cover) (next : ℕ) (old new : Whole) → IsReady next old
+    → new ≡ with_places old new.shown.places new.room
     → Everywhere (Pruned cover) old.shown.places new.shown.places → IsReady next new
 after_prune shrinks keeps cover next old new r e all =
     ready_with next next old new new.shown.places new.room r e (everywhere_many (Pruned cover) old.shown.places new.shown.places all)
     (everywhere_in_order next next (Pruned cover) (pruned_in_order shrinks keeps cover next) old.shown.places new.shown.places all r.ordered)
 
-pub after_write : (sets : Option (List Assign)) (pred : Condition) (viewer : Viewer) (label : Label) (table first next : ℕ) (old new : Whole) (notes now : List Change) (count : ℕ)
+pub after_write : (sets : Option (List Assign)) (pred : Condition) (viewer : Viewer) (label : Label) (table first next : ℕ) (old new : Whole)
+    (notes now : List Change) (count : ℕ)
     → viewer.start ≤ next → next ≤ viewer.id → IsReady next old → new ≡ with_places old new.shown.places new.room
     → IsDone viewer label table first (swept sets pred viewer first old.shown.places) old.shown.places new.shown.places notes now count → IsReady next new
 after_write sets pred viewer label table first next old new notes now count start id r e done =
@@ -98,29 +103,38 @@ after_place viewer label watermark row next k old new r e put =
 pub same_ready : (next : ℕ) (old new : Whole) → IsReady next old → new ≡ old → IsReady next new
 same_ready next old new r e = subst (IsReady next) (sym e) r
 
-pub pair_ready : (next : ℕ) (whole : Whole) → IsReady next whole → (first second : ℤ) (row : List Value) → row ≡ Int first ∷ Int second ∷ [] → FitsRow whole.kinds row
+pub pair_ready : (next : ℕ) (whole : Whole) → IsReady next whole → (first second : ℤ) (row : List Value) → row ≡ Int first ∷ Int second ∷ []
+    → FitsRow whole.kinds row
 pair_ready next whole r first second row e = subst (λ (kinds : List Kind). FitsRow kinds row) (sym r.kinds) (pair_fits first second row e)
 
-pub write_ready : (next : ℕ) (whole : Whole) → IsReady next whole → (kind : WriteKind) → FitsWrite two_numbers (Some 0) kind → FitsWrite whole.kinds whole.shown.key kind
+pub write_ready : (next : ℕ) (whole : Whole) → IsReady next whole → (kind : WriteKind) → FitsWrite two_numbers (Some 0) kind
+    → FitsWrite whole.kinds whole.shown.key kind
 write_ready next whole r kind fits =
-    subst (λ (kinds : List Kind). FitsWrite kinds whole.shown.key kind) (sym r.kinds) (subst (λ (key : Option ℕ). FitsWrite two_numbers key kind) (sym r.key) fits)
+    subst (λ (kinds : List Kind). FitsWrite kinds whole.shown.key kind) (sym r.kinds)
+    (subst (λ (key : Option ℕ). FitsWrite two_numbers key kind) (sym r.key) fits)
 
 pub after_load_call : {A B : Type 0} (result : Result A B) (next : ℕ) (row : List Value) (k : ℕ) (old new : Whole) → IsReady next old
-    → OnOk result (new ≡ with_places old (slice_set old.shown.places k (loaded_place row (nth old.shown.places k))) new.room) → OnErr result (new ≡ old) → IsReady next new
+    → OnOk result (new ≡ with_places old (slice_set old.shown.places k (loaded_place row (nth old.shown.places k))) new.room)
+    → OnErr result (new ≡ old) → IsReady next new
 after_load_call (Ok a) next row k old new r done kept = after_load next row k old new r done
 after_load_call (Err b) next row k old new r done kept = same_ready next old new r kept
 
-pub after_place_call : {A B : Type 0} (same : Type 0) (result : Result A B) (viewer : Viewer) (label : Label) (watermark : ℕ) (row : List Value) (next k : ℕ) (old mid new : Whole) → IsReady next old
+pub after_place_call : {A B : Type 0} (same : Type 0) (result : Result A B) (viewer : Viewer) (label : Label) (watermark : ℕ) (row : List Value)
+    (next k : ℕ) (old mid new : Whole) → IsReady next old
     → mid ≡ with_places old old.shown.places mid.room → new ≡ with_places mid new.shown.places new.room
     → OnOk result (IsPut k (Placed viewer label watermark row) mid.shown.places new.shown.places) → OnErr result ((new ≡ mid) × same) → IsReady next new
-after_place_call same (Ok a) viewer label watermark row next k old mid new r e f put kept = after_place viewer label watermark row next k mid new (after_reserve next old mid r e) f put
+after_place_call same (Ok a) viewer label watermark row next k old mid new r e f put kept = after_place viewer label watermark row next k mid new
+    (after_reserve next old mid r e) f put
 after_place_call same (Err b) viewer label watermark row next k old mid new r e f put kept = same_ready next mid new (after_reserve next old mid r e) kept.0
 
-pub after_write_call : {B : Type 0} (same : Type 0) (result : Result ℕ B) (sets : Option (List Assign)) (pred : Condition) (viewer : Viewer) (label : Label) (table first next : ℕ) (old mid new : Whole)
+pub after_write_call : {B : Type 0} (same : Type 0) (result : Result ℕ B) (sets : Option (List Assign)) (pred : Condition) (viewer : Viewer)
+    (label : Label) (table first next : ℕ) (old mid new : Whole)
     (notes now : List Change) → viewer.start ≤ next → next ≤ viewer.id → IsReady next old
     → mid ≡ with_places old old.shown.places mid.room → new ≡ with_places mid new.shown.places new.room
-    → IfOk result (λ count. IsDone viewer label table first (swept sets pred viewer first mid.shown.places) mid.shown.places new.shown.places notes now count) → OnErr result ((new ≡ mid) × same)
+    → IfOk result (λ count. IsDone viewer label table first (swept sets pred viewer first mid.shown.places) mid.shown.places new.shown.places notes
+    now count) → OnErr result ((new ≡ mid) × same)
     → IsReady next new
 after_write_call same (Ok count) sets pred viewer label table first next old mid new notes now start id r e f done kept =
     after_write sets pred viewer label table first next mid new notes now count start id (after_reserve next old mid r e) f done
-after_write_call same (Err b) sets pred viewer label table first next old mid new notes now start id r e f done kept = same_ready next mid new (after_reserve next old mid r e) kept.0
+after_write_call same (Err b) sets pred viewer label table first next old mid new notes now start id r e f done kept = same_ready next mid new
+    (after_reserve next old mid r e) kept.0

@@ -14,6 +14,9 @@ use Rattle.hy_column.specs.declared.columns.Column.TheVariants as column
 use Rattle.hy_column.specs.Cells.{FitsKind, first_value, number_value, text_value}
 use Rattle.hy_column.specs.Columns.{cell, places, kind_of, first_cells, with_cell}
 use Rattle.hy_column.specs.Rows.{ByPlace, row_of, rows_of, kinds_of}
+use Rattle.hy_column.specs.Compared.{compares_number, compares_value}
+use Rattle.hy_value.specs.declared.Cmp.{Cmp}
+use Rattle.std.specs.Prelude.{ℤ, false}
 
 get_map : {A B : Type 0} (f : A → B) (xs : List A) (i : ℕ) (d : A) (e : B) → i < length xs → get_or (map f xs) i e ≡ f (get_or xs i d)
 get_map f [] i d e l = absurd (omega arith)
@@ -187,3 +190,26 @@ module _ (rows : ℕ) (columns : List Column) (seen : ByPlace) (is : record { ki
       → cell c place ≡ get_or (get_or seen.rows place []) i v
   seen_value place i c v l m e =
       ap (λ (d : Column). cell d place) e ∙ (sym (cell_at columns place i c v (column_within i m)) ∙ ap (λ (row : List Value). get_or row i v) (sym (seen_row place l)))
+
+-- what a comparison says of a column of numbers by place is what it says of the rows
+bit_compared : (op : Cmp) (right : ℤ) (number : Option ℤ) → compares_number op right number ≡ compares_value op right (number_value number)
+bit_compared op right None = refl
+bit_compared op right (Some number) = refl
+
+pub rows_compared : (op : Cmp) (right : ℤ) (rows : ℕ) (columns : List Column) (i : ℕ) (numbers : List (Option ℤ)) → i < length columns
+    → get_or columns i (column.Int numbers) ≡ column.Int numbers → length numbers ≡ rows
+    → map (compares_number op right) numbers ≡ map (λ row. compares_value op right (get_or row i value.Null)) (rows_of rows columns)
+rows_compared op right rows columns i numbers within is many =
+    ext_get_or false (map (compares_number op right) numbers) (map (λ row. compares_value op right (get_or row i value.Null)) (rows_of rows columns))
+    (length-map numbers (compares_number op right)
+    ∙ (many ∙ sym (length-map (rows_of rows columns) (λ row. compares_value op right (get_or row i value.Null)) ∙ length_rows rows columns)))
+    (λ j l.
+    let inside : j < length numbers = omega (arith, l, length-map numbers (compares_number op right)) in
+    let here : j < rows = omega (arith, inside, many) in
+    get_map (compares_number op right) numbers j None false inside
+    ∙ (bit_compared op right (get_or numbers j None)
+    ∙ (ap (λ (c : Column). compares_value op right (cell c j)) (sym is)
+    ∙ (ap (compares_value op right) (sym (cell_at columns j i (column.Int numbers) value.Null within))
+    ∙ (ap (λ (row : List Value). compares_value op right (get_or row i value.Null)) (sym (row_at rows columns j here))
+    ∙ sym (get_map (λ row. compares_value op right (get_or row i value.Null)) (rows_of rows columns) j [] false
+    (omega (arith, here, length_rows rows columns))))))))

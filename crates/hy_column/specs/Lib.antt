@@ -2,3 +2,4 @@ pub mod Numbers
 pub mod Cells
 pub mod Columns
 pub mod Rows
+pub mod Compared

@@ -1,13 +1,15 @@
 //! The columns of a chunk, seen as its rows.
 
-ghost use Rattle.std.specs.Prelude.{◌≡◌, ◌<◌, [], ℕ, List, IfOk, length, map, replicate, slice_index_or, slice_set};
+ghost use Rattle.std.specs.Prelude.{◌≡◌, ◌<◌, [], ℕ, List, IfOk, IfSome, length, map, replicate, slice_index_or, slice_set};
+ghost use Rattle.hy_column.specs.Compared.{compares_value};
 ghost use Rattle.hy_column.specs.Cells.{FitsKind, first_value, number_value, text_value};
 ghost use Rattle.hy_value.specs.declared.Value.{Value};
 ghost use Rattle.hy_value.specs.declared.Kind.{Kind};
 
 use crate::numbers::IntColumn;
 use crate::texts::TextColumn;
-use hy_value::{Kind, Row, Text, Value};
+use hy_kernel::Mask;
+use hy_value::{Cmp, Kind, Row, Text, Value};
 use std::alloc::{AllocError, Global};
 use std::marker::Model;
 
@@ -155,5 +157,24 @@ impl Columns {
     {
         let column = &mut self.columns[column];
         column.replace(place, value)
+    }
+
+    /// Whether a comparison with a number is true of the value of a column at each place, where it is a column of
+    /// numbers. Err is for want of memory.
+    pub fn compare(
+        &self,
+        alloc: Global,
+        column: usize,
+        op: Cmp,
+        right: i64,
+    ) -> Result<Option<Mask>, AllocError>
+        requires { column < length self.now.kinds }
+        ensures { IfOk result (λ found. IfSome found (λ mask. mask
+            ≡ map (λ row. compares_value op right (slice_index_or row column Value.Null)) self.now.rows)) }
+    {
+        match &self.columns[column] {
+            Column::Int(numbers) => Ok(Some(numbers.compare(alloc, op, right)?)),
+            Column::Text(_) => Ok(None),
+        }
     }
 }

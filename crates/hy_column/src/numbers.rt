@@ -2,8 +2,10 @@
 
 ghost use Rattle.std.specs.Prelude.{◌≡◌, ℕ, ℤ, pos, ◌<◌, Some, None, IfOk, length, map, replicate, slice_index_or, slice_set, vec_len};
 ghost use Rattle.hy_column.specs.Numbers.{is_null};
+ghost use Rattle.hy_column.specs.Compared.{compares_number};
 
 use hy_kernel::Mask;
+use hy_value::Cmp;
 use std::alloc::{AllocError, Global};
 use std::marker::Model;
 
@@ -94,5 +96,18 @@ impl IntColumn {
         ensures { result.now ≡ map is_null self.now }
     {
         &self.nulls
+    }
+
+    /// Whether a comparison with a number is true of what is at each place. Err is for want of memory.
+    pub fn compare(&self, alloc: Global, op: Cmp, right: i64) -> Result<Mask, AllocError>
+        ensures { IfOk result (λ mask. mask ≡ map (compares_number op right) self.now) }
+    {
+        let mut known = Mask::new(alloc, self.values.len())?;
+        known.or_with(&self.nulls);
+        known.invert();
+        let mut mask = Mask::new(alloc, self.values.len())?;
+        mask.compare(self.values.as_slice(), op, right);
+        mask.and_with(&known);
+        Ok(mask)
     }
 }

@@ -1,4 +1,4 @@
-use Rattle.std.proofs.Common.{◌≡◌, ◌++◌, List, length, ap, ◌∙◌, arith}
+use Rattle.std.proofs.Common.{◌≡◌, ◌++◌, List, [], length, ap, ◌∙◌, arith, subst}
 use Rattle.hy_value.specs.declared.Value.{Value}
 use Rattle.hy_undo.specs.declared.version.Version.{Version}
 use Rattle.hy_undo.specs.Places.{Cell, cell_of, sees}
@@ -7,6 +7,7 @@ use Rattle.hy_chunk.specs.Gathering.{kept_by, conditions_of}
 use Rattle.hy_chunk.specs.Views.{Held}
 use Rattle.hy_chunk.proofs.Over.{fits_length}
 use Rattle.hy_chunk.proofs.Looks.{gathered_more}
+use Rattle.hy_chunk.proofs.Masking.{passed_more}
 use Rattle.hy_chunk.proofs.Wholes.{still_whole}
 use Rattle.hy_chunk.proofs.chunk.Chunk.gather_of_all.Goals as goal
 
@@ -41,4 +42,23 @@ loop-place-preserved c =
           ∙ ((λ i. v.rows i ++ keeps (here i))
           ∙ gathered_more keeps c.args.viewer.now old k c.args.gathered.now.rows (omega (arith, c.loop-place-test.true, c.len-place-end.ensures)));
       width = c.keep.ensures.width ∙ v.width;
+    }
+
+pub loop-place-preserved-then-is_passed : goal.loop-place-preserved-then-is_passed
+loop-place-preserved-then-is_passed c =
+    let v = c.loop-place.invariant in
+    let old = c.self.inside.positions.places in
+    let keeps : Cell → List (List Value) = kept_by c.args.wanted.now.columns (conditions_of c.args.wanted.now.pred.now c.args.wanted.now.keys) in
+    let none : keeps (sees c.args.viewer.now (nth old c.loop-place.place)) ≡ [] =
+    subst (λ (h : Held). keeps (sees c.args.viewer.now (nth h.places c.loop-place.place)) ≡ []) v.positions (c.is_passed.ensures c.if-is_passed.true c.args.viewer.now) in
+    record {
+      table = v.table;
+      first = v.first;
+      key = v.key;
+      positions = v.positions;
+      next = v.next;
+      wide = v.wide;
+      rows = passed_more keeps c.args.viewer.now old c.loop-place.place c.args.gathered.now.rows c.loop-place.gathered.rows
+          (omega (arith, c.loop-place-test.true, c.len-place-end.ensures)) none v.rows;
+      width = v.width;
     }

@@ -7,5 +7,6 @@ load-requires c = pair_ready c.self.inside.next c.self.inside.chunk c.self.invar
 
 pub invariant_of-self : goal.invariant_of-self
 invariant_of-self c =
-    after_load_call c.load.result c.self.inside.next c.in_ok-row.row (least_unused c.self.inside.chunk.shown.places) c.self.inside.chunk c.load.new.self c.self.invariant
+    after_load_call c.load.result c.self.inside.next c.in_ok-row.row (least_unused c.self.inside.chunk.shown.places) c.self.inside.chunk
+    c.load.new.self c.self.invariant
     c.load.ensures.ok c.load.ensures.kept

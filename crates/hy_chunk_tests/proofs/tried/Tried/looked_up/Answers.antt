@@ -8,7 +8,8 @@ use Rattle.hy_chunk_tests.proofs.tried.Tried.looked_up.Goals as goal
 
 pub gather_keys-requires : goal.gather_keys-requires
 gather_keys-requires c = λ row fits.
-    both_columns row (subst (λ (kinds : List Kind). FitsRow kinds row) c.self.invariant.kinds fits) ∙ sym (ap (λ (g : GatheredRows). g.width) c.in_ok-gathered.ensures)
+    both_columns row (subst (λ (kinds : List Kind). FitsRow kinds row) c.self.invariant.kinds fits)
+    ∙ sym (ap (λ (g : GatheredRows). g.width) c.in_ok-gathered.ensures)
 
 pub invariant_of-self : goal.invariant_of-self
 invariant_of-self c = same_ready c.self.inside.next c.self.inside.chunk c.gather_keys.new.self c.self.invariant c.gather_keys.ensures.all

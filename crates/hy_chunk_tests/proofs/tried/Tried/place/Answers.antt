@@ -10,7 +10,8 @@ invariant_of-self c = after_reserve c.self.inside.next c.self.inside.chunk c.res
 
 pub place-requires-clause-fits : goal.place-requires-clause-fits
 place-requires-clause-fits c =
-    pair_ready c.self.inside.next c.reserve.new.self (after_reserve c.self.inside.next c.self.inside.chunk c.reserve.new.self c.self.invariant c.reserve.ensures.all)
+    pair_ready c.self.inside.next c.reserve.new.self
+    (after_reserve c.self.inside.next c.self.inside.chunk c.reserve.new.self c.self.invariant c.reserve.ensures.all)
     _ _ c.in_ok-row.row c.in_ok-row.ensures
 
 pub place-requires-clause-wide : goal.place-requires-clause-wide
@@ -21,5 +22,7 @@ place-requires-clause-wide c =
 pub invariant_of-self-2 : goal.invariant_of-self-2
 invariant_of-self-2 c =
     let w = watermark_of c.args.open.now.cover in
-    after_place_call _ c.place.result c.args.open.now.viewer c.args.open.now.label w c.in_ok-row.row c.self.inside.next (least_free w c.reserve.new.self.shown.places)
-    c.self.inside.chunk c.reserve.new.self c.place.new.self c.self.invariant c.reserve.ensures.all c.place.ensures.all c.place.ensures.places c.place.ensures.kept
+    after_place_call _ c.place.result c.args.open.now.viewer c.args.open.now.label w c.in_ok-row.row c.self.inside.next
+    (least_free w c.reserve.new.self.shown.places)
+    c.self.inside.chunk c.reserve.new.self c.place.new.self c.self.invariant c.reserve.ensures.all c.place.ensures.all c.place.ensures.places
+    c.place.ensures.kept

@@ -1,0 +1,184 @@
+-- Masks of comparisons: where a bit is clear nothing is wanted of the row in place.
+use Rattle.std.proofs.Common.{◌≡◌, ℕ, ℤ, zero, suc, ◌<◌, Bool, true, false, List, [], ◌∷◌, ◌++◌, ◌+◌, map, take, length, get_or, Option, None, Some, refl, sym, ap, ◌∙◌, arith, cond}
+use Rattle.std.specs.Prelude.{Contains, IfOk, IfSome, Result, Ok, Err, not, ◌&&◌, ◌||◌}
+use Rattle.std.specs.List.{flat_map, list_all}
+use Rattle.std.proofs.lemmas.Bool.{and_parts, both_ways, false_from_ne_true}
+use Rattle.std.proofs.lemmas.List.{length-map, ext_get_or}
+use lib.Lanes.{zip2}
+use Rattle.hy_value.specs.declared.Cmp.{Cmp}
+use Rattle.hy_value.specs.declared.Value.{Value}
+use Rattle.hy_value.specs.declared.Value.TheVariants.{Null, Int, Text}
+use Rattle.hy_value.specs.declared.ColMask.{ColMask}
+use Rattle.hy_stamp.specs.declared.Viewer.{Viewer}
+use Rattle.hy_bound.specs.Condition.{Condition, Compare}
+use Rattle.hy_bound.specs.declared.predicate.Side.TheVariants.{Literal}
+use Rattle.hy_bound.specs.Predicate.{column_of, compared, is_known, truth_of}
+use Rattle.hy_bound.specs.Projection.{projected}
+use Rattle.hy_bound.specs.Records.{conjuncts}
+use Rattle.hy_bound.specs.Truths.{conjuncts_truth}
+use Rattle.hy_column.specs.Compared.{compares_value}
+use Rattle.hy_plan.specs.Reads.{is_read_of}
+use Rattle.hy_chain.specs.Chains.{Undo, seen}
+use Rattle.hy_undo.specs.Images.{Image, before}
+use Rattle.hy_undo.specs.Places.{Place, Cell, cell_of, sees, in_place}
+use Rattle.hy_undo.specs.Chunks.{rows_seen}
+use Rattle.hy_chunk.specs.Fields.{nth, blank_with}
+use Rattle.hy_chunk.specs.Gathering.{conditions_of, kept_by}
+use Rattle.hy_chunk.specs.declared.gathering.Keys.{Keys}
+use Rattle.hy_chunk.specs.Masked.{Admits, BarsRow, joined_masks}
+use Rattle.hy_chunk.proofs.Gathers.{not_looked_up}
+use Rattle.hy_chunk.proofs.Looks.{gathered_more}
+use Rattle.hy_chunk.proofs.Places.{Fields, all, length_all, at_all}
+
+-- ---- rows and positions
+
+pub rows_in_place : (f : Fields) (g : List Value → Bool) → map g f.rows ≡ map (λ (p : Place). g p.version.row) (all f)
+rows_in_place f g =
+    ext_get_or false (map g f.rows) (map (λ (p : Place). g p.version.row) (all f))
+    (length-map f.rows g ∙ sym (length-map (all f) (λ (p : Place). g p.version.row) ∙ length_all f))
+    (λ j l.
+    let here : j < length f.rows = omega (arith, l, length-map f.rows g) in
+    let there : j < length (all f) = omega (arith, here, length_all f) in
+    mapped g f.rows j [] here
+    ∙ (ap (λ (p : Place). g p.version.row) (sym (at_all f j (blank_with []) here))
+    ∙ sym (mapped (λ (p : Place). g p.version.row) (all f) j (blank_with []) there)))
+  where
+    mapped : {A : Type 0} (h : A → Bool) (xs : List A) (k : ℕ) (d : A) → k < length xs → get_or (map h xs) k false ≡ h (get_or xs k d)
+    mapped h [] k d l = absurd (omega arith)
+    mapped h (x ∷ xs) zero d l = refl
+    mapped h (x ∷ xs) (suc k) d l = mapped h xs k d (omega arith)
+
+-- ---- one comparison
+
+compared_is : (op : Cmp) (number : ℤ) (value : Value) → is_known (compared op value (Int number)) ≡ compares_value op number value
+compared_is op number Null = refl
+compared_is op number (Int n) = refl
+compared_is op number (Text t) = refl
+
+pub one_admits : (pred : Condition) (column : ℕ) (op : Cmp) (number : ℤ) (places : List Place) (mask : List Bool)
+    → pred ≡ Compare column op (Literal (Int number))
+    → mask ≡ map (λ (p : Place). compares_value op number (column_of p.version.row column)) places → Admits (pred ∷ []) places mask
+one_admits pred column op number places mask is made = record {
+  many = ap length made ∙ length-map places (λ (p : Place). compares_value op number (column_of p.version.row column));
+  clear = λ place l e. record {
+    pred = pred;
+    among = (zero, omega arith, refl);
+    barred = ap (λ (c : Condition). truth_of c (nth places place).version.row) is
+        ∙ (compared_is op number (column_of (nth places place).version.row column)
+        ∙ (sym (bit_at places place l) ∙ (ap (λ (bits : List Bool). get_or bits place false) (sym made) ∙ e)));
+  };
+}
+  where
+    bit_at : (ps : List Place) (k : ℕ) → k < length ps
+        → get_or (map (λ (p : Place). compares_value op number (column_of p.version.row column)) ps) k false
+        ≡ compares_value op number (column_of (nth ps k).version.row column)
+    bit_at [] k l = absurd (omega arith)
+    bit_at (p ∷ ps) zero l = refl
+    bit_at (p ∷ ps) (suc k) l = bit_at ps k (omega arith)
+
+-- ---- many
+
+-- what is among conditions bars for all of them
+pub bars_among : (c : Condition) (conditions : List Condition) (place : Place) → Contains conditions c → BarsRow (c ∷ []) place → BarsRow conditions place
+bars_among c conditions place among bars = record {
+  pred = c;
+  among = among;
+  barred = ap (λ (d : Condition). truth_of d place.version.row) (only bars.among) ∙ bars.barred;
+}
+  where
+    only : Contains (c ∷ []) bars.pred → c ≡ bars.pred
+    only (zero, l, e) = e
+    only (suc k, l, e) = absurd (omega (arith, l))
+
+pub admits_among : (c : Condition) (conditions : List Condition) (places : List Place) (mask : List Bool) → Contains conditions c
+    → Admits (c ∷ []) places mask → Admits conditions places mask
+admits_among c conditions places mask among admits = record {
+  many = admits.many;
+  clear = λ place l e. bars_among c conditions (nth places place) among (admits.clear place l e);
+}
+
+length_both : (one other : List Bool) → length other ≡ length one → length (zip2 (λ bit bits. bit && bits) one other) ≡ length one
+length_both [] [] e = refl
+length_both [] (b ∷ bs) e = refl
+length_both (a ∷ ones) [] e = absurd (omega (arith, e))
+length_both (a ∷ ones) (b ∷ bs) e = let rest = length_both ones bs (omega (arith, e)) in omega (arith, rest)
+
+bit_both : (one other : List Bool) (k : ℕ) → length other ≡ length one → k < length one
+    → get_or (zip2 (λ bit bits. bit && bits) one other) k false ≡ (get_or one k false && get_or other k false)
+bit_both [] other k e l = absurd (omega arith)
+bit_both (a ∷ ones) [] k e l = absurd (omega (arith, e))
+bit_both (a ∷ ones) (b ∷ bs) zero e l = refl
+bit_both (a ∷ ones) (b ∷ bs) (suc k) e l = bit_both ones bs k (omega (arith, e)) (omega arith)
+
+pub joined_admit : (conditions : List Condition) (places : List Place) (one : Option (List Bool)) (other : List Bool)
+    → IfSome one (λ mask. Admits conditions places mask) → Admits conditions places other → Admits conditions places (joined_masks one other)
+joined_admit conditions places None other admits also = also
+joined_admit conditions places (Some mask) other admits also =
+    let same : length other ≡ length mask = also.many ∙ sym admits.many in
+    record {
+      many = length_both mask other same ∙ admits.many;
+      clear = λ place l e. by place l (get_or mask place false) refl (sym (bit_both mask other place same (omega (arith, l, admits.many))) ∙ e);
+    }
+  where
+    by : (place : ℕ) → place < length places → (b : Bool) → get_or mask place false ≡ b → (get_or mask place false && get_or other place false) ≡ false
+        → BarsRow conditions (nth places place)
+    by place l false is e = admits.clear place l is
+    by place l true is e = also.clear place l (ap (λ (c : Bool). c && get_or other place false) (sym is) ∙ e)
+
+-- ---- what is barred is not wanted
+
+conjunct_holds : (conditions : List Condition) (row : List Value) (c : Condition) → list_all (λ d. truth_of d row) conditions ≡ true → Contains conditions c
+    → truth_of c row ≡ true
+conjunct_holds [] row c e (k, l, is) = absurd (omega (arith, l))
+conjunct_holds (d ∷ conditions) row c e (zero, l, is) =
+    ap (λ (x : Condition). truth_of x row) (sym is) ∙ (and_parts (truth_of d row) (list_all (λ x. truth_of x row) conditions) e).0
+conjunct_holds (d ∷ conditions) row c e (suc k, l, is) =
+    conjunct_holds conditions row c (and_parts (truth_of d row) (list_all (λ x. truth_of x row) conditions) e).1 (k, omega (arith, l), is)
+
+barred_pred : (pred : Condition) (place : Place) → BarsRow (conjuncts pred) place → truth_of pred place.version.row ≡ false
+barred_pred pred place bars = false_from_ne_true (truth_of pred place.version.row) (λ e.
+    both_ways (truth_of bars.pred place.version.row) bars.barred
+    (conjunct_holds (conjuncts pred) place.version.row bars.pred (conjuncts_truth pred place.version.row ∙ e) bars.among))
+
+barred_read : (pred : Condition) (keys : Option Keys) (row : List Value) → truth_of pred row ≡ false → is_read_of (conditions_of pred keys) row ≡ false
+barred_read pred None row e = ap (λ (b : Bool). b || false) e
+barred_read pred (Some keys) row e = sym (not_looked_up pred keys.column row keys.values.now e)
+
+in_place_barred : (columns : ColMask) (pred : Condition) (keys : Option Keys) (place : Place) → BarsRow (conjuncts pred) place
+    → kept_by columns (conditions_of pred keys) (in_place place) ≡ []
+in_place_barred columns pred keys place bars = by place.version.live
+  where
+    by : (live : Bool) → kept_by columns (conditions_of pred keys) (cond live (Some place.version.row) None) ≡ []
+    by true = ap (λ (b : Bool). cond b (projected columns place.version.row ∷ []) [])
+        (barred_read pred keys place.version.row (barred_pred pred place bars))
+    by false = refl
+
+-- where no record is there and the row in place is barred, nothing is kept for any viewer
+pub nothing_wanted : (columns : ColMask) (pred : Condition) (keys : Option Keys) (place : Place) → place.chain ≡ [] → BarsRow (conjuncts pred) place
+    → (viewer : Viewer) → kept_by columns (conditions_of pred keys) (sees viewer place) ≡ []
+nothing_wanted columns pred keys place none bars viewer =
+    ap (λ (chain : List (Undo Image)). kept_by columns (conditions_of pred keys) (cell_of (seen before viewer place.version chain))) none
+    ∙ in_place_barred columns pred keys place bars
+
+-- of an answer that may be there
+pub ok_weaker : {A E : Type 0} (r : Result (Option A) E) (P Q : A → Type 0) → ((x : A) → P x → Q x) → IfOk r (λ o. IfSome o P) → IfOk r (λ o. IfSome o Q)
+ok_weaker (Err e) P Q f h = tt
+ok_weaker (Ok None) P Q f h = tt
+ok_weaker (Ok (Some x)) P Q f h = f x h
+
+pub is_false : (b : Bool) → not b ≡ true → b ≡ false
+is_false true e = absurd (both_ways false refl e)
+is_false false e = refl
+
+and_none : {A : Type 0} (xs : List A) → xs ≡ xs ++ []
+and_none [] = refl
+and_none {A} (x ∷ xs) = ap (λ (ys : List A). x ∷ ys) (and_none xs)
+
+-- a position at which nothing is kept adds nothing
+pub passed_more : (keeps : Cell → List (List Value)) (viewer : Viewer) (places : List Place) (count : ℕ) (before gathered : List (List Value))
+    → count < length places → keeps (sees viewer (nth places count)) ≡ [] → gathered ≡ before ++ flat_map keeps (rows_seen viewer (take count places))
+    → gathered ≡ before ++ flat_map keeps (rows_seen viewer (take (count + 1) places))
+passed_more keeps viewer places count before gathered l none so_far =
+    so_far ∙ (and_none (before ++ flat_map keeps (rows_seen viewer (take count places)))
+    ∙ (ap (λ (rows : List (List Value)). (before ++ flat_map keeps (rows_seen viewer (take count places))) ++ rows) (sym none)
+    ∙ gathered_more keeps viewer places count before l))

@@ -1,0 +1,118 @@
+//! Masks by which positions are passed over: 64 of them lie in a word (as HyPer's vectorized scans of unversioned
+//! ranges: Neumann, Mühlbauer, Kemper, "Fast Serializable Multi-Version Concurrency Control for Main-Memory Database
+//! Systems", SIGMOD 2015).
+
+ghost use Rattle.std.specs.Prelude.{◌≡◌, ◌<◌, ◌∷◌, [], true, IfOk, IfSome, length, map};
+ghost use Rattle.std.specs.Option.{option_copied};
+ghost use Rattle.hy_bound.specs.Condition.{Compare};
+ghost use Rattle.hy_bound.specs.Records.{conjuncts};
+ghost use Rattle.hy_bound.specs.declared.predicate.Side.{Side};
+ghost use Rattle.hy_chunk.specs.Fields.{nth};
+ghost use Rattle.hy_chunk.specs.Gathering.{conditions_of, kept_by};
+ghost use Rattle.hy_chunk.specs.Masked.{Admits, joined_masks};
+ghost use Rattle.hy_stamp.specs.declared.Viewer.{Viewer};
+ghost use Rattle.hy_undo.specs.Places.{sees};
+ghost use Rattle.hy_value.specs.declared.Value.{Value};
+
+use crate::gathering::Wanted;
+use crate::positions::Positions;
+use hy_bound::{Pred, Root, SideView};
+use hy_kernel::Mask;
+use hy_value::Cmp;
+use std::alloc::{AllocError, Global};
+
+/// A comparison of a column with a number.
+#[derive(Clone, Copy)]
+struct Comparison {
+    column: u32,
+    op: Cmp,
+    number: i64,
+}
+
+/// A condition as a comparison of a column with a number, if it is one.
+fn comparison_of(pred: &Pred) -> Option<Comparison>
+    ensures { IfSome result (λ one. pred.now ≡ Compare one.column one.op (Side.Literal (Value.Int one.number))) }
+{
+    match pred.root() {
+        Root::Compare {
+            column,
+            op,
+            side: SideView::Int(number),
+        } => Some(Comparison { column, op, number }),
+        _ => None,
+    }
+}
+
+/// The positions at which one condition may be true of the row in place, where a mask can tell. Err is for want of
+/// memory.
+fn admitted_by_one(
+    alloc: Global,
+    positions: &Positions,
+    pred: &Pred,
+) -> Result<Option<Mask>, AllocError>
+    ensures { IfOk result (λ found. IfSome found (λ mask. Admits (pred.now ∷ []) positions.now.places mask)) }
+{
+    match comparison_of(pred) {
+        Some(one) => positions.compare(alloc, one.column, one.op, one.number),
+        None => Ok(None),
+    }
+}
+
+/// The positions that both masks admit, where there is another.
+fn joined(one: Option<Mask>, other: Mask) -> Mask
+    requires { IfSome one (λ mask. length other ≡ length mask) }
+    ensures { result ≡ joined_masks one other }
+{
+    match one {
+        Some(mut mask) => {
+            mask.and_with(&other);
+            mask
+        }
+        None => other,
+    }
+}
+
+/// The positions at which all of some conditions may be true of the row in place, where masks can tell. Err is for
+/// want of memory.
+fn admitted_by_all(
+    alloc: Global,
+    positions: &Positions,
+    parts: &[&Pred],
+) -> Result<Option<Mask>, AllocError>
+    ensures { IfOk result (λ found. IfSome found (λ mask. Admits (map (λ part. part.now) parts.now) positions.now.places mask)) }
+{
+    let mut all = None;
+    for part in parts {
+        if let Some(mask) = admitted_by_one(alloc, positions, part)? {
+            all = Some(joined(all, mask));
+        }
+    }
+    Ok(all)
+}
+
+/// The positions at which a condition may be true of the row in place, where masks of the conditions that AND joins in it
+/// can tell. Err is for want of memory.
+pub fn admitted(
+    alloc: Global,
+    positions: &Positions,
+    pred: &Pred,
+) -> Result<Option<Mask>, AllocError>
+    ensures { IfOk result (λ found. IfSome found (λ mask. Admits (conjuncts pred.now) positions.now.places mask)) }
+{
+    let mut parts = Vec::new(alloc);
+    pred.add_conjuncts(&mut parts)?;
+    admitted_by_all(alloc, positions, parts.as_slice())
+}
+
+/// Whether nothing is wanted at a position, as a mask tells: no record is there, and it admits no row in place.
+pub fn is_passed(positions: &Positions, place: usize, wanted: &Wanted, mask: Option<&Mask>) -> bool
+    requires within { place < length positions.now.places }
+    requires mask { IfSome (option_copied mask) (Admits (conjuncts wanted.now.pred.now) positions.now.places) }
+    ensures { result ≡ true → (viewer : Viewer) → kept_by wanted.now.columns (conditions_of wanted.now.pred.now wanted.now.keys)
+        (sees viewer (nth positions.now.places place)) ≡ [] }
+{
+    match mask {
+        Some(mask) => !mask.get(place) && !positions.is_versioned(place),
+        None => false,
+    }
+}

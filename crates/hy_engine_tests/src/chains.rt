@@ -4,6 +4,7 @@ ghost use Rattle.std.specs.Prelude.{◌≡◌, ◌<◌, length};
 
 use hy_active::Active;
 use hy_chain::Chains;
+use hy_given::pair;
 use hy_journal::{Entry, Journal};
 use hy_prune::{Cover, Fate, Starts, plan, watermark};
 use hy_range::Versioned;
@@ -80,10 +81,10 @@ fn starts_enter_and_leave(rt: HostRuntime) -> Result<(), Fail> {
 
 /// A row of two numbers that is there.
 fn live(alloc: Global, id: i64, bal: i64) -> Result<Version, AllocError> {
-    let mut row = Seq::new(alloc);
-    row.push(Value::Int(id))?;
-    row.push(Value::Int(bal))?;
-    Ok(Version { row, live: true })
+    Ok(Version {
+        row: pair(alloc, id, bal)?,
+        live: true,
+    })
 }
 
 /// Puts a before-image of the balance in front of the first chain.

@@ -1,12 +1,9 @@
 //! The core, and what a transaction notes.
 
-ghost use Rattle.std.specs.Prelude.{◌≡◌, IfOk, length};
-
 use hy_core::Core;
+use hy_given::pair;
 use hy_notes::{Changes, net};
 use hy_stamp::Label;
-use hy_value::{Row, Seq, Value};
-use std::alloc::{AllocError, Global};
 use std::test::Fail;
 
 /// A writer, and another transaction.
@@ -14,20 +11,10 @@ const WRITER: Label = Label { session: 0, txn: 1 };
 
 const OTHER: Label = Label { session: 1, txn: 1 };
 
-/// A row of two numbers.
-fn numbers(alloc: Global, first: i64, second: i64) -> Result<Row, AllocError>
-    ensures { IfOk result (λ row. length row ≡ 2) }
-{
-    let mut row = Seq::new(alloc);
-    row.push(Value::Int(first))?;
-    row.push(Value::Int(second))?;
-    Ok(row)
-}
-
 #[test]
 fn a_row_that_comes_and_goes_is_no_change(rt: HostRuntime) -> Result<(), Fail> {
     let alloc = rt.alloc();
-    let row = numbers(alloc, 3, 1)?;
+    let row = pair(alloc, 3, 1)?;
     let mut changes = Changes::new(alloc);
     changes.reserve(2, 2)?;
     changes.note_reserved(0, 2, None, Some(&row));

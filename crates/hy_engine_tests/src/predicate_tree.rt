@@ -1,27 +1,14 @@
 //! The predicate tree, and validation by it. Column 0 is `id` and column 1 is `bal`.
 
-use hy_bound::{Pred, Record, Side};
+use hy_bound::{Pred, Record};
 use hy_change::Change;
+use hy_given::{compare, pair};
 use hy_journal::Entry;
 use hy_ptree::Tree;
 use hy_stamp::Label;
 use hy_validate::{Invalid, ValidateError, validate};
-use hy_value::{Cmp, ColMask, Row, Seq, Value};
-use std::alloc::{AllocError, Global};
+use hy_value::{Cmp, ColMask, Row, Seq};
 use std::test::Fail;
-
-/// A row of these numbers.
-fn row(alloc: Global, id: i64, bal: i64) -> Result<Row, AllocError> {
-    let mut row = Seq::new(alloc);
-    row.push(Value::Int(id))?;
-    row.push(Value::Int(bal))?;
-    Ok(row)
-}
-
-/// A comparison of a column with a number.
-fn compare(alloc: Global, column: u32, op: Cmp, number: i64) -> Result<Pred, AllocError> {
-    Pred::compare(alloc, column, op, Side::Literal(Value::Int(number)))
-}
 
 /// A record of table 0 by the first statement.
 fn read(pred: Pred, columns: ColMask) -> Record {
@@ -53,11 +40,11 @@ fn the_first_record_that_is_hit(rt: HostRuntime) -> Result<(), Fail> {
         read(is_rich, ColMask::none().with(1)),
     ]?;
     let tree = Tree::build(alloc, &records)?;
-    let comes = change(None, Some(row(alloc, 3, 70)?));
+    let comes = change(None, Some(pair(alloc, 3, 70)?));
     assert_eq!(rt; tree.first_hit(&comes), Some(1));
-    let falls = change(Some(row(alloc, 3, 70)?), Some(row(alloc, 3, 40)?));
+    let falls = change(Some(pair(alloc, 3, 70)?), Some(pair(alloc, 3, 40)?));
     assert_eq!(rt; tree.first_hit(&falls), Some(1));
-    let rises = change(Some(row(alloc, 1, 10)?), Some(row(alloc, 1, 20)?));
+    let rises = change(Some(pair(alloc, 1, 10)?), Some(pair(alloc, 1, 20)?));
     assert_eq!(rt; tree.first_hit(&rises), None);
     Ok(())
 }
@@ -71,9 +58,9 @@ fn a_record_of_all_rows_and_one_of_a_key(rt: HostRuntime) -> Result<(), Fail> {
         read(is_one, ColMask::none().with(0).with(1)),
     ]?;
     let tree = Tree::build(alloc, &records)?;
-    let rises = change(Some(row(alloc, 1, 10)?), Some(row(alloc, 1, 20)?));
+    let rises = change(Some(pair(alloc, 1, 10)?), Some(pair(alloc, 1, 20)?));
     assert_eq!(rt; tree.first_hit(&rises), Some(1));
-    let goes = change(Some(row(alloc, 1, 10)?), None);
+    let goes = change(Some(pair(alloc, 1, 10)?), None);
     assert_eq!(rt; tree.first_hit(&goes), Some(0));
     Ok(())
 }
@@ -83,7 +70,7 @@ fn an_entry_is_validated_by_columns(rt: HostRuntime) -> Result<(), Fail> {
     let alloc = rt.alloc();
     let other = Label { session: 0, txn: 1 };
     let mut notes = Seq::new(alloc);
-    notes.push(change(Some(row(alloc, 1, 100)?), Some(row(alloc, 1, 90)?)))?;
+    notes.push(change(Some(pair(alloc, 1, 100)?), Some(pair(alloc, 1, 90)?)))?;
     let entry = Entry {
         label: other,
         start: 1,

@@ -1,9 +1,10 @@
 //! Transactions that run alone, answers, the text of replies, changes that hit a read, times.
 
-use crate::given::{compare, equal, pair, pairs, printed, row};
+use crate::printing::printed;
 use hy_bound::{
     Aggregate, Assign, Bound, Items, Pred, Record, Replies, Reply, SetExpr, Shape, Statements, hits,
 };
+use hy_given::{compare, equal, pair, pairs, row};
 use hy_meaning::{Stop, alone, answer, meaning};
 use hy_render::{Ending, Names, Outcome, TxnOutcome, render};
 use hy_stamp::{Clock, Label};

@@ -27,7 +27,8 @@ set_fits bal = (
   tt,
 )
 
-pub sets_fit : (bal : ℤ) (expression : Expression) (before sets : List Assign) → expression ≡ Literal (Int bal) → before ≡ [] → sets ≡ before ++ record { column = 1; value = expression } ∷ []
+pub sets_fit : (bal : ℤ) (expression : Expression) (before sets : List Assign) → expression ≡ Literal (Int bal) → before ≡ []
+    → sets ≡ before ++ record { column = 1; value = expression } ∷ []
     → FitsSets two_numbers (Some 0) sets
 sets_fit bal expression before sets e b s =
     let of_one : Expression → List Assign = λ x. record { column = 1; value = x } ∷ [] in

@@ -1,5 +1,6 @@
 -- The stamps of all positions, before and after a visit.
-use Rattle.std.proofs.Common.{◌≡◌, ◌⊎◌, ℕ, zero, suc, ◌+◌, ◌<◌, ◌≤◌, Bool, true, false, cond, List, [], ◌∷◌, length, Option, None, Some, Result, Ok, Err, inl, inr, refl, sym, ap, ◌∙◌, subst, arith}
+use Rattle.std.proofs.Common.{◌≡◌, ◌⊎◌, ℕ, zero, suc, ◌+◌, ◌<◌, ◌≤◌, Bool, true, false, cond, List, [], ◌∷◌, length, Option, None, Some, Result, Ok}
+use Rattle.std.proofs.Common.{Err, inl, inr, refl, sym, ap, ◌∙◌, subst, arith}
 use Rattle.std.specs.Prelude.{slice_set, replicate}
 use Rattle.std.specs.List.{AllByRecursion}
 use Rattle.std.proofs.lemmas.Bool.{cases_Bool}
@@ -37,7 +38,8 @@ pub none_yet : (next : ℕ) (kinds : List Kind) (count : ℕ) → PlacesInOrder 
 none_yet next kinds zero = tt
 none_yet next kinds (suc count) = (tt, none_yet next kinds count)
 
-pub put_in_order : (next : ℕ) (places : List Place) (k : ℕ) (p : Place) → PlacesInOrder next places → AreInOrder next (stamps p) → PlacesInOrder next (slice_set places k p)
+pub put_in_order : (next : ℕ) (places : List Place) (k : ℕ) (p : Place) → PlacesInOrder next places → AreInOrder next (stamps p)
+    → PlacesInOrder next (slice_set places k p)
 put_in_order next [] k p all here = tt
 put_in_order next (q ∷ places) zero p all here = (here, all.1)
 put_in_order next (q ∷ places) (suc k) p all here = (all.0, put_in_order next places k p all.1 here)
@@ -71,13 +73,15 @@ own_stamped id next (undo ∷ chain) now own is all =
     let new : Stamp = record { owner = undo.stamp.owner; mark = next } in
     subst (AreInOrder (next + 1)) (sym (is undo.stamp (stamps_of chain) refl)) (committed next undo.stamp new (stamps_of chain) refl all)
 
-pub stamped_in_order : (id next : ℕ) (old new : Place) → AtOwn id (StampedPlace id next) old new → AreInOrder next (stamps old) → AreInOrder (next + 1) (stamps new)
+pub stamped_in_order : (id next : ℕ) (old new : Place) → AtOwn id (StampedPlace id next) old new → AreInOrder next (stamps old)
+    → AreInOrder (next + 1) (stamps new)
 stamped_in_order id next old new at all = elim (cases_Bool (is_own id (newest old.chain))) [
   | inl own ↦ own_stamped id next old.chain (stamps new) own (at.own own).stamps all
   | inr other ↦ subst (λ (p : Place). AreInOrder (next + 1) (stamps p)) (sym (at.others other)) (in_order_later next (next + 1) (stamps old) (omega arith) all)
 ]
 
-pub pruned_in_order : Shrinks both → KeepsStamps both → (cover : Cover) (next : ℕ) (old new : Place) → Pruned cover old new → AreInOrder next (stamps old) → AreInOrder next (stamps new)
+pub pruned_in_order : Shrinks both → KeepsStamps both → (cover : Cover) (next : ℕ) (old new : Place) → Pruned cover old new
+    → AreInOrder next (stamps old) → AreInOrder next (stamps new)
 pruned_in_order shrinks keeps cover next old new p all =
     let left : List (Undo Image) = pruned both cover old.chain in
     subst (AreInOrder next) (sym p.stamps) (fewer next (stamps old) (stamps_of left) all
@@ -85,13 +89,15 @@ pruned_in_order shrinks keeps cover next old new p all =
 
 -- ---- an UPDATE or a DELETE
 
-both_ok : (v : Result (Option Cell) Refusal) (rest : Result (List (Option Cell)) Refusal) (cell : Option Cell) (cells : List (Option Cell)) → and_new v rest ≡ Ok (cell ∷ cells)
+both_ok : (v : Result (Option Cell) Refusal) (rest : Result (List (Option Cell)) Refusal) (cell : Option Cell) (cells : List (Option Cell))
+    → and_new v rest ≡ Ok (cell ∷ cells)
     → (v ≡ Ok cell) × (rest ≡ Ok cells)
 both_ok (Err refusal) rest cell cells e = absurd (cc)
 both_ok (Ok x) (Err refusal) cell cells e = absurd (cc)
 both_ok (Ok x) (Ok xs) cell cells e = (cc, cc)
 
-without_rival : (sets : Option (List Assign)) (pred : Condition) (pos : ℕ) (other : Option Label) (cell new : Cell) → verdict sets pred pos other cell ≡ Ok (Some new) → other ≡ None
+without_rival : (sets : Option (List Assign)) (pred : Condition) (pos : ℕ) (other : Option Label) (cell new : Cell)
+    → verdict sets pred pos other cell ≡ Ok (Some new) → other ≡ None
 without_rival sets pred pos other None new e = absurd (cc)
 without_rival sets pred pos None (Some row) new e = refl
 without_rival sets pred pos (Some label) (Some row) new e =
@@ -100,8 +106,10 @@ without_rival sets pred pos (Some label) (Some row) new e =
       | false ↦ λ f. absurd (cc)
     ] e
 
-module _ (sets : Option (List Assign)) (pred : Condition) (viewer : Viewer) (label : Label) (next : ℕ) (start : viewer.start ≤ next) (id : next ≤ viewer.id) where
-  all_written : (pos : ℕ) (olds : List Place) (cells : List (Option Cell)) (news : List Place) → swept sets pred viewer pos olds ≡ Ok cells → AllWritten viewer label cells olds news
+module _ (sets : Option (List Assign)) (pred : Condition) (viewer : Viewer) (label : Label) (next : ℕ) (start : viewer.start ≤ next)
+    (id : next ≤ viewer.id) where
+  all_written : (pos : ℕ) (olds : List Place) (cells : List (Option Cell)) (news : List Place) → swept sets pred viewer pos olds ≡ Ok cells
+      → AllWritten viewer label cells olds news
       → PlacesInOrder next olds → PlacesInOrder next news
   all_written pos [] [] [] e w all = tt
   all_written pos [] [] (new ∷ news) e w all = absurd w
@@ -114,18 +122,23 @@ module _ (sets : Option (List Assign)) (pred : Condition) (viewer : Viewer) (lab
       (subst (λ (p : Place). AreInOrder next (stamps p)) (sym w.0) all.0, all_written (suc pos) olds cells news parts.1 w.1 all.1)
   all_written pos (old ∷ olds) (Some cell ∷ cells) (new ∷ news) e w all =
       let parts = both_ok (verdict sets pred pos (rival viewer old.chain) (sees viewer old)) (swept sets pred viewer (suc pos) olds) (Some cell) cells e in
-      let free : rival viewer old.chain ≡ None = without_rival sets pred pos (rival viewer old.chain) (sees viewer old) cell parts.0 in
-      (subst (AreInOrder next) (sym w.0.stamps) (written next viewer label old.chain start id free all.0), all_written (suc pos) olds cells news parts.1 w.1 all.1)
+      let free : rival viewer old.chain ≡ None = without_rival sets pred pos (rival viewer old.chain) (sees viewer old) cell parts.0 in (
+        subst (AreInOrder next) (sym w.0.stamps) (written next viewer label old.chain start id free all.0),
+        all_written (suc pos) olds cells news
+            parts.1 w.1 all.1,
+      )
 
   pub done_in_order : (table first : ℕ) (olds news : List Place) (notes now : List Change) (count : ℕ)
       → IsDone viewer label table first (swept sets pred viewer first olds) olds news notes now count → PlacesInOrder next olds → PlacesInOrder next news
   done_in_order table first olds news notes now count done all = by_result (swept sets pred viewer first olds) refl done
     where
-      by_result : (r : Result (List (Option Cell)) Refusal) → swept sets pred viewer first olds ≡ r → IsDone viewer label table first r olds news notes now count → PlacesInOrder next news
+      by_result : (r : Result (List (Option Cell)) Refusal) → swept sets pred viewer first olds ≡ r
+          → IsDone viewer label table first r olds news notes now count → PlacesInOrder next news
       by_result (Err refusal) e d = absurd d
       by_result (Ok cells) e d = all_written first olds cells news e d.written all
 
-many_written : (viewer : Viewer) (label : Label) (cells : List (Option Cell)) (olds news : List Place) → AllWritten viewer label cells olds news → length news ≡ length olds
+many_written : (viewer : Viewer) (label : Label) (cells : List (Option Cell)) (olds news : List Place) → AllWritten viewer label cells olds news
+    → length news ≡ length olds
 many_written viewer label [] [] [] w = refl
 many_written viewer label [] [] (new ∷ news) w = absurd w
 many_written viewer label [] (old ∷ olds) news w = absurd w
@@ -135,7 +148,8 @@ many_written viewer label (Some cell ∷ cells) (old ∷ olds) [] w = absurd w
 many_written viewer label (None ∷ cells) (old ∷ olds) (new ∷ news) w = ap (λ (n : ℕ). suc n) (many_written viewer label cells olds news w.1)
 many_written viewer label (Some cell ∷ cells) (old ∷ olds) (new ∷ news) w = ap (λ (n : ℕ). suc n) (many_written viewer label cells olds news w.1)
 
-pub done_many : (viewer : Viewer) (label : Label) (table first : ℕ) (r : Result (List (Option Cell)) Refusal) (olds news : List Place) (notes now : List Change) (count : ℕ)
+pub done_many : (viewer : Viewer) (label : Label) (table first : ℕ) (r : Result (List (Option Cell)) Refusal) (olds news : List Place)
+    (notes now : List Change) (count : ℕ)
     → IsDone viewer label table first r olds news notes now count → length news ≡ length olds
 done_many viewer label table first (Err refusal) olds news notes now count d = absurd d
 done_many viewer label table first (Ok cells) olds news notes now count d = many_written viewer label cells olds news d.written

@@ -24,13 +24,15 @@ use Rattle.hy_chunk.specs.Views.{Whole, with_places}
 use Rattle.hy_chunk.specs.Writes.{FitsWrite, IsDone}
 use Rattle.hy_measured.specs.Ready.{AreInOrder, PlacesInOrder, IsReady, two_numbers}
 use Rattle.hy_measured.proofs.Fits.{pair_fits}
-use Rattle.hy_measured.proofs.Visits.{places_later, none_yet, put_in_order, nth_in_order, everywhere_in_order, everywhere_many, stamped_in_order, pruned_in_order, done_in_order, done_many}
+use Rattle.hy_measured.proofs.Visits.{places_later, none_yet, put_in_order, nth_in_order, everywhere_in_order, everywhere_many, stamped_in_order}
+use Rattle.hy_measured.proofs.Visits.{pruned_in_order, done_in_order, done_many}
 
 module _ (most : ℕ) where
   pub later : (n m : ℕ) (whole : Whole) → n ≤ m → IsReady most n whole → IsReady most m whole
   later n m whole le r = record { kinds = r.kinds; key = r.key; few = r.few; ordered = places_later n m whole.shown.places le r.ordered }
 
-  ready_with : (n m : ℕ) (old new : Whole) (places : List Place) (room : ℕ) → IsReady most n old → new ≡ with_places old places room → length places ≡ length old.shown.places
+  ready_with : (n m : ℕ) (old new : Whole) (places : List Place) (room : ℕ) → IsReady most n old → new ≡ with_places old places room
+      → length places ≡ length old.shown.places
       → PlacesInOrder m places → IsReady most m new
   ready_with n m old new places room r e many ordered =
       subst (IsReady most m) (sym e) (record { kinds = r.kinds; key = r.key; few = omega (arith, many, r.few); ordered = ordered })
@@ -52,7 +54,8 @@ module _ (most : ℕ) where
   after_load next row k old new r e =
       let olds : List Place = old.shown.places in
       let p : Place = loaded_place row (nth olds k) in
-      ready_with next next old new (slice_set olds k p) new.room r e (length-set olds k p) (put_in_order next olds k p r.ordered (nth_in_order next olds k r.ordered))
+      ready_with next next old new (slice_set olds k p) new.room r e (length-set olds k p)
+      (put_in_order next olds k p r.ordered (nth_in_order next olds k r.ordered))
 
   pub after_stamp : (id next : ℕ) (old new : Whole) → IsReady most next old → new ≡ with_places old new.shown.places new.room
       → Everywhere (AtOwn id (StampedPlace id next)) old.shown.places new.shown.places → IsReady most (next + 1) new
@@ -61,15 +64,18 @@ module _ (most : ℕ) where
       ready_with next (next + 1) old new new.shown.places new.room r e (everywhere_many does old.shown.places new.shown.places all)
       (everywhere_in_order next (next + 1) does (stamped_in_order id next) old.shown.places new.shown.places all r.ordered)
 
-  pub after_prune : Shrinks both → KeepsStamps both → (cover : Cover) (next : ℕ) (old new : Whole) → IsReady most next old → new ≡ with_places old new.shown.places new.room
+  pub after_prune : Shrinks both → KeepsStamps both → (cover : Cover) (next : ℕ) (old new : Whole) → IsReady most next old
+      → new ≡ with_places old new.shown.places new.room
       → Everywhere (Pruned cover) old.shown.places new.shown.places → IsReady most next new
   after_prune shrinks keeps cover next old new r e all =
       ready_with next next old new new.shown.places new.room r e (everywhere_many (Pruned cover) old.shown.places new.shown.places all)
       (everywhere_in_order next next (Pruned cover) (pruned_in_order shrinks keeps cover next) old.shown.places new.shown.places all r.ordered)
 
-  pub after_write : (sets : Option (List Assign)) (pred : Condition) (viewer : Viewer) (label : Label) (table first next : ℕ) (old new : Whole) (notes now : List Change) (count : ℕ)
+  pub after_write : (sets : Option (List Assign)) (pred : Condition) (viewer : Viewer) (label : Label) (table first next : ℕ) (old new : Whole)
+      (notes now : List Change) (count : ℕ)
       → viewer.start ≤ next → next ≤ viewer.id → IsReady most next old → new ≡ with_places old new.shown.places new.room
-      → IsDone viewer label table first (swept sets pred viewer first old.shown.places) old.shown.places new.shown.places notes now count → IsReady most next new
+      → IsDone viewer label table first (swept sets pred viewer first old.shown.places) old.shown.places new.shown.places notes now count
+      → IsReady most next new
   after_write sets pred viewer label table first next old new notes now count start id r e done =
       let olds : List Place = old.shown.places in
       let news : List Place = new.shown.places in
@@ -81,23 +87,30 @@ module _ (most : ℕ) where
   pub same_ready : (next : ℕ) (old new : Whole) → IsReady most next old → new ≡ old → IsReady most next new
   same_ready next old new r e = subst (IsReady most next) (sym e) r
 
-  pub pair_ready : (next : ℕ) (whole : Whole) → IsReady most next whole → (first second : ℤ) (row : List Value) → row ≡ Int first ∷ Int second ∷ [] → FitsRow whole.kinds row
+  pub pair_ready : (next : ℕ) (whole : Whole) → IsReady most next whole → (first second : ℤ) (row : List Value) → row ≡ Int first ∷ Int second ∷ []
+      → FitsRow whole.kinds row
   pair_ready next whole r first second row e = subst (λ (kinds : List Kind). FitsRow kinds row) (sym r.kinds) (pair_fits first second row e)
 
-  pub write_ready : (next : ℕ) (whole : Whole) → IsReady most next whole → (kind : WriteKind) → FitsWrite two_numbers (Some 0) kind → FitsWrite whole.kinds whole.shown.key kind
+  pub write_ready : (next : ℕ) (whole : Whole) → IsReady most next whole → (kind : WriteKind) → FitsWrite two_numbers (Some 0) kind
+      → FitsWrite whole.kinds whole.shown.key kind
   write_ready next whole r kind fits =
-      subst (λ (kinds : List Kind). FitsWrite kinds whole.shown.key kind) (sym r.kinds) (subst (λ (key : Option ℕ). FitsWrite two_numbers key kind) (sym r.key) fits)
+      subst (λ (kinds : List Kind). FitsWrite kinds whole.shown.key kind) (sym r.kinds)
+      (subst (λ (key : Option ℕ). FitsWrite two_numbers key kind) (sym r.key) fits)
 
   pub after_load_call : {A B : Type 0} (result : Result A B) (next : ℕ) (row : List Value) (k : ℕ) (old new : Whole) → IsReady most next old
-      → OnOk result (new ≡ with_places old (slice_set old.shown.places k (loaded_place row (nth old.shown.places k))) new.room) → OnErr result (new ≡ old) → IsReady most next new
+      → OnOk result (new ≡ with_places old (slice_set old.shown.places k (loaded_place row (nth old.shown.places k))) new.room)
+      → OnErr result (new ≡ old) → IsReady most next new
   after_load_call (Ok a) next row k old new r done kept = after_load next row k old new r done
   after_load_call (Err b) next row k old new r done kept = same_ready next old new r kept
 
-  pub after_write_call : {B : Type 0} (same : Type 0) (result : Result ℕ B) (sets : Option (List Assign)) (pred : Condition) (viewer : Viewer) (label : Label) (table first next : ℕ) (old mid new : Whole)
+  pub after_write_call : {B : Type 0} (same : Type 0) (result : Result ℕ B) (sets : Option (List Assign)) (pred : Condition) (viewer : Viewer)
+      (label : Label) (table first next : ℕ) (old mid new : Whole)
       (notes now : List Change) → viewer.start ≤ next → next ≤ viewer.id → IsReady most next old
       → mid ≡ with_places old old.shown.places mid.room → new ≡ with_places mid new.shown.places new.room
-      → IfOk result (λ count. IsDone viewer label table first (swept sets pred viewer first mid.shown.places) mid.shown.places new.shown.places notes now count) → OnErr result ((new ≡ mid) × same)
+      → IfOk result (λ count. IsDone viewer label table first (swept sets pred viewer first mid.shown.places) mid.shown.places new.shown.places notes
+      now count) → OnErr result ((new ≡ mid) × same)
       → IsReady most next new
   after_write_call same (Ok count) sets pred viewer label table first next old mid new notes now start id r e f done kept =
       after_write sets pred viewer label table first next mid new notes now count start id (after_reserve next old mid r e) f done
-  after_write_call same (Err b) sets pred viewer label table first next old mid new notes now start id r e f done kept = same_ready next mid new (after_reserve next old mid r e) kept.0
+  after_write_call same (Err b) sets pred viewer label table first next old mid new notes now start id r e f done kept = same_ready next mid new
+      (after_reserve next old mid r e) kept.0

@@ -1,8 +1,9 @@
-//! Random tables and SELECTs, from a linear congruential generator.
+//! Random tables and SELECTs.
 
 ghost use Rattle.std.specs.Prelude.{◌<◌, ◌≤◌};
 
 use hy_bound::{Aggregate, Bound, Items, On, Pred, Rows, Shape, Shapes, Side};
+use hy_given::Random;
 use hy_meaning::Tables;
 use hy_value::{Cmp, Row, Seq, Text, Value};
 use std::alloc::{AllocError, Global};
@@ -11,31 +12,6 @@ use std::alloc::{AllocError, Global};
 const TABLES: u32 = 3;
 
 const WIDTH: u32 = 3;
-
-/// The generator's state.
-#[derive(Drop)]
-pub struct Random {
-    state: u64,
-}
-
-impl Random {
-    /// The generator that begins with this number.
-    pub fn new(seed: u64) -> Random {
-        Random { state: seed }
-    }
-
-    /// A number below this one.
-    pub fn below(&mut self, bound: u32) -> u32
-        requires { 0 < bound }
-        ensures { result < bound }
-    {
-        self.state = self
-            .state
-            .wrapping_mul(6364136223846793005)
-            .wrapping_add(1442695040888963407);
-        ((self.state >> 33) % u64::from(bound)) as u32
-    }
-}
 
 /// NULL, a small number, or now and then the empty text.
 pub fn value(alloc: Global, random: &mut Random) -> Value {

@@ -1,10 +1,11 @@
 //! SELECTs that are answered from what is gathered for their plans and from their whole tables.
 
 use crate::gather::{gather, gather_part, rows_of, spread};
-use crate::random::{Random, group, select, shapes, tables};
+use crate::random::{group, select, shapes, tables};
 use hy_bound::{
     Bound, Grouped, Items, On, Pred, Record, Records, Reply, Rows, Shape, Shapes, truth,
 };
+use hy_given::Random;
 use hy_group::{answer_groups, plan_group};
 use hy_join::answer;
 use hy_meaning::{Tables, copy_rows};

@@ -2,7 +2,6 @@
 #![tactic(auto)]
 
 #[cfg(test)]
-mod given;
 #[cfg(test)]
 mod plans;
 #[cfg(test)]

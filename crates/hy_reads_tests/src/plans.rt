@@ -1,7 +1,7 @@
 //! Plans of SELECTs, the log of reads, and joins of gathered rows.
 
-use crate::given::{compare, pair, row};
 use hy_bound::{Items, On, Pred, Query, Record, Reply, Shape, truth};
+use hy_given::{compare, pair, row};
 use hy_join::answer;
 use hy_plan::{Gathered, Plan, ReadLog, plan_query};
 use hy_value::{Cmp, ColMask, Seq, Value};

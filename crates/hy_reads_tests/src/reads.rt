@@ -1,9 +1,9 @@
 //! What statements log of their reads: the columns that they name, and a join key by key.
 
-use crate::given::{compare, equal, pair, pairs, row};
 use hy_bound::{
     Aggregate, Assign, Bound, Items, On, Pred, Record, Records, Rows, SetExpr, Shape, Side, truth,
 };
+use hy_given::{compare, equal, pair, pairs, row};
 use hy_plan::records;
 use hy_value::{Cmp, Row, Seq, print_row};
 use std::alloc::{AllocError, Global};

@@ -42,7 +42,8 @@ counted_each table pos viewer label (None ∷ cells) (old ∷ olds) (new ∷ new
     let rest = counted_each table (suc pos) viewer label cells olds news written.1 in
     omega (arith, first, rest)
 counted_each table pos viewer label (Some cell ∷ cells) (old ∷ olds) (new ∷ news) written =
-    let first : count_by is_some (Some cell ∷ cells) ≡ suc (count_by is_some cells) = omega (arith, sum_by-cons (λ (c : Option Cell). cond (is_some c) 1 0) (Some cell) cells) in
+    let first : count_by is_some (Some cell ∷ cells) ≡ suc (count_by is_some cells) = omega
+    (arith, sum_by-cons (λ (c : Option Cell). cond (is_some c) 1 0) (Some cell) cells) in
     let rest = counted_each table (suc pos) viewer label cells olds news written.1 in
     omega (arith, first, rest)
 

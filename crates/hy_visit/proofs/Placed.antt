@@ -27,7 +27,8 @@ use Rattle.hy_visit.proofs.Stamps.{count_of}
 pub free_found : (cover : Cover) (chunk : ChunkData) → least_free (watermark_of cover) chunk.places < length chunk.places
     → free_index cover chunk ≡ Some (least_free (watermark_of cover) chunk.places)
 free_found cover chunk there =
-    ap (λ (b : Bool). cond b (Some (least_free (watermark_of cover) chunk.places)) None) (lt-ltb (least_free (watermark_of cover) chunk.places) (length chunk.places) there)
+    ap (λ (b : Bool). cond b (Some (least_free (watermark_of cover) chunk.places)) None)
+    (lt-ltb (least_free (watermark_of cover) chunk.places) (length chunk.places) there)
 
 pub position_of : (cover : Cover) (chunk : ChunkData) (index : Option ℕ) → free_index cover chunk ≡ index
     → free_position cover chunk ≡ option_map (λ (i : ℕ). chunk.first + i) index
@@ -59,7 +60,8 @@ pub place_done : (writer : Writer) (row : List Value) (old between new : ChunkDa
     → pos ≡ between.first + least_free (watermark_of writer.cover.now) between.places
     → least_free (watermark_of writer.cover.now) between.places < length between.places
     → new ≡ record between { places = new.places }
-    → IsPut (least_free (watermark_of writer.cover.now) between.places) (Placed writer.viewer writer.label (watermark_of writer.cover.now) row) between.places new.places
+    → IsPut (least_free (watermark_of writer.cover.now) between.places) (Placed writer.viewer writer.label (watermark_of writer.cover.now) row)
+    between.places new.places
     → now ≡ with_note (record { table = between.table; pos = pos; before = None; after = Some row }) notes
     → PlaceDone writer row old notes (Some pos) new now
 place_done writer row old between new notes now pos pruned same is there others put noted = record {
@@ -67,7 +69,8 @@ place_done writer row old between new notes now pos pruned same is there others 
   prunes = pruned;
   chunk = row_comes writer.viewer writer.label writer.cover.now row between new there others put;
   told = ap (λ (p : ℕ). Some p) is
-      ∙ sym (position_of writer.cover.now between (Some (least_free (watermark_of writer.cover.now) between.places)) (free_found writer.cover.now between there));
+      ∙ sym (position_of writer.cover.now between (Some (least_free (watermark_of writer.cover.now) between.places))
+      (free_found writer.cover.now between there));
   noted = noted ∙ ap (λ (t : ℕ). with_note (record { table = t; pos = pos; before = None; after = Some row }) notes) same;
 }
 
@@ -82,7 +85,8 @@ all_set P (first ∷ places) (suc index) place all here = (all.0, all_set P plac
 one_alone : (cover : Cover) (viewer : Viewer) (label : Label) (row : List Value) (old new : Place) → cover.next ≤ viewer.id
     → Placed viewer label (watermark_of cover) row old new → count_old cover new.chain ≤ length cover.starts
 one_alone cover viewer label row old new late placed =
-    let none : ◌≡◌ {A = ℕ} (count_old cover new.chain) 0 = count_of cover.next new.chain ∙ ap (count_in cover.next) placed.stamps ∙ late_first cover.next viewer.id label [] late in
+    let none : ◌≡◌ {A = ℕ} (count_old cover new.chain) 0 = count_of cover.next new.chain ∙ ap (count_in cover.next) placed.stamps
+    ∙ late_first cover.next viewer.id label [] late in
     subst (λ (n : ℕ). n ≤ length cover.starts) (sym none) (omega arith)
 
 pub short_placed : (cover : Cover) (viewer : Viewer) (label : Label) (row : List Value) (index : ℕ) (olds news : List Place) → cover.next ≤ viewer.id

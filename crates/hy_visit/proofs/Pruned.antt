@@ -23,7 +23,8 @@ all_changed P Q does step (old ∷ olds) (new ∷ news) all change = (step old n
 pub all_falling : (cover : Cover) → Shrinks both → (olds news : List Place) → AllFall olds → Everywhere (Pruned cover) olds news → AllFall news
 all_falling cover shrinks olds news =
     all_changed (λ place. Falls place.chain) (λ place. Falls place.chain) (Pruned cover)
-    (λ old new falls change. falls_by new.chain (subst FallsStamps (sym change.stamps) (falls_of (pruned both cover old.chain) (shrinks cover old.chain falls).1))) olds news
+    (λ old new falls change. falls_by new.chain
+    (subst FallsStamps (sym change.stamps) (falls_of (pruned both cover old.chain) (shrinks cover old.chain falls).1))) olds news
 
 pub all_short : (cover : Cover) → Shrinks both → (olds news : List Place) → AllFall olds → Everywhere (Pruned cover) olds news → AllShort cover news
 all_short cover shrinks olds news =

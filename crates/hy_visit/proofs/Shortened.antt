@@ -50,8 +50,11 @@ short_written cover viewer label late (None ∷ cells) [] news short written = a
 short_written cover viewer label late (Some cell ∷ cells) [] news short written = absurd written
 short_written cover viewer label late (None ∷ cells) (old ∷ olds) [] short written = absurd written
 short_written cover viewer label late (Some cell ∷ cells) (old ∷ olds) [] short written = absurd written
-short_written cover viewer label late (None ∷ cells) (old ∷ olds) (new ∷ news) short written =
-    (subst (λ (p : Place). count_old cover p.chain ≤ length cover.starts) (sym written.0) short.0, short_written cover viewer label late cells olds news short.1 written.1)
+short_written cover viewer label late (None ∷ cells) (old ∷ olds) (new ∷ news) short written = (
+  subst (λ (p : Place). count_old cover p.chain ≤ length cover.starts) (sym written.0) short.0,
+  short_written cover viewer label late cells olds
+      news short.1 written.1,
+)
 short_written cover viewer label late (Some cell ∷ cells) (old ∷ olds) (new ∷ news) short written = (
   short_as cover old new (ap (count_in cover.next) written.0.stamps ∙ as_few cover.next viewer.id label (stamps old) late) short.0,
   short_written cover viewer label late cells olds news short.1 written.1,

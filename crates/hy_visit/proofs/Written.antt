@@ -21,17 +21,22 @@ module _ (writer : Writer) (sets : Option (List Assign)) (pred : Condition) (bet
       between.shown.places new.shown.places notes.notes now.notes count)
       → IfErr answer (λ refusal. Some refusal ≡ refusal_in (cells_by sets pred writer.viewer between.shown))
       → OnErr answer ((new ≡ between) × (now ≡ notes))
-      → ComesTo writer.viewer writer.label between.shown.table (cells_by sets pred writer.viewer between.shown) between.shown notes.notes answer new.shown now.notes
+      → ComesTo writer.viewer writer.label between.shown.table (cells_by sets pred writer.viewer between.shown) between.shown notes.notes answer
+      new.shown now.notes
   comes_to (Ok count) others done refused kept =
-      done_so writer.viewer writer.label between.shown.table (cells_by sets pred writer.viewer between.shown) between.shown notes.notes count new.shown now.notes others done
+      done_so writer.viewer writer.label between.shown.table (cells_by sets pred writer.viewer between.shown) between.shown notes.notes count
+      new.shown now.notes others done
   comes_to (Err refusal) others done refused kept =
-      refused_so writer.viewer writer.label between.shown.table (cells_by sets pred writer.viewer between.shown) between.shown notes.notes refusal new.shown now.notes refused
+      refused_so writer.viewer writer.label between.shown.table (cells_by sets pred writer.viewer between.shown) between.shown notes.notes refusal
+      new.shown now.notes refused
       (ap (λ (w : Whole). w.shown) kept.0) (ap (λ (n : Noted). n.notes) kept.1)
 
   -- with the pruning before it, that is a visit
   pub write_done : (old : ChunkData) (answer : Result ℕ Refusal) → PrunesBy writer.prunes writer.cover.now old between.shown → between.shown.table ≡ old.table
-      → ComesTo writer.viewer writer.label between.shown.table (cells_by sets pred writer.viewer between.shown) between.shown notes.notes answer new.shown now.notes
+      → ComesTo writer.viewer writer.label between.shown.table (cells_by sets pred writer.viewer between.shown) between.shown notes.notes answer
+      new.shown now.notes
       → WriteDone writer sets pred old notes.notes answer new.shown now.notes
   write_done old answer pruned same here =
-      let there = subst (λ (t : ℕ). ComesTo writer.viewer writer.label t (cells_by sets pred writer.viewer between.shown) between.shown notes.notes answer new.shown now.notes) same here in
+      let there = subst (λ (t : ℕ). ComesTo writer.viewer writer.label t (cells_by sets pred writer.viewer between.shown) between.shown notes.notes
+      answer new.shown now.notes) same here in
       record { between = between.shown; prunes = pruned; chunk = there.chunk; told = there.told; noted = there.noted }

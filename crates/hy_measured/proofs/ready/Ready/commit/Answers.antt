@@ -6,4 +6,5 @@ use Rattle.hy_measured.proofs.ready.Ready.commit.Goals as goal
 pub invariant_of-self : goal.invariant_of-self
 invariant_of-self c =
     after_stamp c.self.inside.positions c.args.writer.now.viewer.id c.in_ok-time.time c.self.inside.chunk c.stamp.new.self
-    (subst (λ (next : ℕ). IsReady c.self.inside.positions next c.self.inside.chunk) (c.self.view_is ∙ sym c.in_ok-time.ensures.time) c.self.invariant) c.stamp.ensures.all c.stamp.ensures.places
+    (subst (λ (next : ℕ). IsReady c.self.inside.positions next c.self.inside.chunk) (c.self.view_is ∙ sym c.in_ok-time.ensures.time) c.self.invariant)
+    c.stamp.ensures.all c.stamp.ensures.places

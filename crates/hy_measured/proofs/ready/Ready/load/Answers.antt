@@ -7,5 +7,6 @@ load-pos-requires c = pair_ready c.self.inside.positions c.self.inside.next c.se
 
 pub invariant_of-self : goal.invariant_of-self
 invariant_of-self c =
-    after_load_call c.self.inside.positions c.load-pos.result c.self.inside.next c.in_ok-row.row (least_unused c.self.inside.chunk.shown.places) c.self.inside.chunk c.load-pos.new.self c.self.invariant
+    after_load_call c.self.inside.positions c.load-pos.result c.self.inside.next c.in_ok-row.row (least_unused c.self.inside.chunk.shown.places)
+    c.self.inside.chunk c.load-pos.new.self c.self.invariant
     c.load-pos.ensures.ok c.load-pos.ensures.kept

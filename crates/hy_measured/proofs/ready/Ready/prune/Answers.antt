@@ -7,5 +7,6 @@ prune-requires c = places_fall c.self.inside.next c.self.inside.chunk.shown.plac
 
 pub invariant_of-self : goal.invariant_of-self
 invariant_of-self c =
-    after_prune c.self.inside.positions c.pruning_shrinks.ensures c.pruning_keeps_stamps.ensures c.args.writer.now.cover c.self.inside.next c.self.inside.chunk c.prune.new.self c.self.invariant
+    after_prune c.self.inside.positions c.pruning_shrinks.ensures c.pruning_keeps_stamps.ensures c.args.writer.now.cover c.self.inside.next
+    c.self.inside.chunk c.prune.new.self c.self.invariant
     c.prune.ensures.all c.prune.ensures.places

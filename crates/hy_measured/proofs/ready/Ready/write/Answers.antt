@@ -24,7 +24,8 @@ write-count-requires-clause-wide c =
 
 pub write-count-requires-clause-fits : goal.write-count-requires-clause-fits
 write-count-requires-clause-fits c =
-    write_ready c.self.inside.positions c.self.inside.next c.reserve.new.self (after_reserve c.self.inside.positions c.self.inside.next c.self.inside.chunk c.reserve.new.self c.self.invariant c.reserve.ensures.all)
+    write_ready c.self.inside.positions c.self.inside.next c.reserve.new.self
+    (after_reserve c.self.inside.positions c.self.inside.next c.self.inside.chunk c.reserve.new.self c.self.invariant c.reserve.ensures.all)
     c.in_ok-kind.kind c.in_ok-kind.ensures
 
 pub invariant_of-self-2 : goal.invariant_of-self-2

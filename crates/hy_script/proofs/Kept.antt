@@ -36,9 +36,11 @@ use Rattle.hy_script.specs.declared.sofar.SoFar.{SoFar}
 use Rattle.hy_script.specs.declared.stocks.Stock.{Stock}
 use Rattle.hy_script.specs.Stocks.{key_there, no_rows, with_row}
 use Rattle.hy_script.specs.Growing.{nothing, table_def, with_table, with_first_row, with_statement, with_insert, with_session, with_schedule, begun, closed, and_bound, all_sessions, after, script_of}
+use Rattle.hy_script.specs.Reading.{Reads}
 use Rattle.hy_script.specs.Refusals.{refusal_in, name_in, insert_code_at, first_row_code, stock_at, statement_code_at, create_code, session_code, schedule_code}
 use Rattle.hy_script.proofs.Accepted.{table_taken, row_taken, session_taken, schedule_taken}
 use Rattle.hy_script.proofs.Defined.{table_fits}
+use Rattle.hy_script.proofs.Induction.{Holds, read_script_holds}
 use Rattle.hy_script.proofs.FirstRows.{IsStock, none_stocked, row_stocked}
 use Rattle.hy_script.proofs.MoreTables.{session_kept}
 use Rattle.hy_script.proofs.Standing.{IsSection, IsSession, no_txns, section_kept, begun_section, bound_section, closed_section, sessions_fit, begun_many, bound_many, closed_many}
@@ -257,3 +259,14 @@ script_fits options sofar good =
       schedule = schedule_kept (length sofar.names) (length sessions) sofar.schedule (omega (arith, many)) good.schedule;
       same = refl;
     }
+
+-- a script that the bytes spell fits
+pub reads_fit : Laws → (bytes : List ℕ) (options : Options) (read : Script) → Reads bytes options (Ok read) → ScriptFits options read
+reads_fit laws bytes options read reads =
+    let holds : Holds bytes options (IsGood options) (ScriptFits options) = record {
+      parsing = laws.parsing;
+      first = nothing_good options;
+      kept = kept laws bytes options;
+      whole = script_fits options;
+    } in
+    read_script_holds bytes options (IsGood options) (ScriptFits options) holds read reads

@@ -15,5 +15,6 @@ pub mod FirstRows
 pub mod Standing
 pub mod Defined
 pub mod Turns
+pub mod Induction
 pub mod Kept
-pub mod ReadsFit
+pub mod KeptBound

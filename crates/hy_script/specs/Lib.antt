@@ -4,3 +4,4 @@ pub mod Refusals
 pub mod Growing
 pub mod Reading
 pub mod Sentences
+pub mod Binding

@@ -7,6 +7,7 @@ ghost use Rattle.hy_bind.specs.Shapes.{catalog_shapes};
 ghost use Rattle.hy_script.specs.declared.Options.{Options};
 ghost use Rattle.hy_script.specs.declared.Script.{Script};
 ghost use Rattle.hy_script.specs.Reading.{Reads};
+ghost use Rattle.hy_script.specs.Binding.{IsBound};
 
 use hy_bind::bound_statements_fit;
 use hy_parse::scripts_are_parsed;
@@ -24,4 +25,12 @@ pub fn what_is_read_fits()
     bound_statements_fit();
     scripts_are_parsed();
     order_is_total();
+}
+
+/// A law: what is read was bound and not refused: each first row has values that its table's columns take, and each
+/// statement of a transaction is one of the script's over the tables that stood there by then.
+pub fn what_is_read_is_bound()
+    ensures { (bytes : List ℕ) (options : Options) (script : Script) → Reads bytes options (Ok script) → IsBound bytes script }
+{
+    scripts_are_parsed();
 }

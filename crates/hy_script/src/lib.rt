@@ -22,7 +22,7 @@ mod sofar;
 mod stocks;
 
 pub use codes::Code;
-pub use fitting::what_is_read_fits;
+pub use fitting::{what_is_read_fits, what_is_read_is_bound};
 pub use laws::{
     accepted_scripts_are_sentences, reading_comes_to_an_answer, sentences_are_accepted,
 };

@@ -64,6 +64,13 @@ impl Core {
         }
     }
 
+    /// The next time of the clock.
+    pub fn next(&self) -> u64
+        ensures { result ≡ self.now.next }
+    {
+        self.clock.next()
+    }
+
     /// The transaction that stands between the entry of its commit and its end, if it is another than this one: until
     /// its end nobody else begins, enters or ends.
     pub fn blocked(&self, label: Label) -> Option<Label>

@@ -197,3 +197,9 @@ reached_see setting state fit r number current is =
     let all : AllWide setting state = reached_wide setting state fit r in
     seen_fits setting (view setting state current.begun) fit
     (view_wide setting state current.begun fit all (subst (NowWide setting) is (all.opens number)))
+
+pub reached_tables : (setting : Setting) (state : State) → TablesAreFitted setting → IsReached setting state → (prefix : ℕ)
+    → SeenFits setting (snapshot setting state prefix)
+reached_tables setting state fit r prefix =
+    seen_fits setting (snapshot setting state prefix) fit
+    (snapshot_wide setting state.order prefix fit.first_rows (reached_wide setting state fit r).order)

@@ -11,7 +11,7 @@ use Rattle.hy_machine.specs.declared.Setting.{Setting}
 use Rattle.hy_machine.specs.declared.State.{State}
 use Rattle.hy_machine.specs.declared.Open.{Open}
 use Rattle.hy_machine.specs.Tables.{Tables}
-use Rattle.hy_machine.specs.Sessions.{view}
+use Rattle.hy_machine.specs.Sessions.{snapshot, view}
 use Rattle.hy_machine.specs.Turns.{rows_seen}
 use Rattle.hy_machine.specs.Runs.{IsReached}
 use Rattle.hy_kept.specs.Kept.{IsNow}
@@ -32,3 +32,8 @@ pub record SeenFits (setting : Setting) (seen : Tables) : Type 0 where
 abbrev pub ReachedViewsFit : Type 0
 ReachedViewsFit = (setting : Setting) (state : State) → TablesAreFitted setting → IsReached setting state
     → (number : ℕ) (current : Open) → IsNow state number current → SeenFits setting (view setting state current.begun)
+
+-- and for the tables after the first entries of the commit order, or after all
+abbrev pub ReachedTablesFit : Type 0
+ReachedTablesFit = (setting : Setting) (state : State) → TablesAreFitted setting → IsReached setting state
+    → (prefix : ℕ) → SeenFits setting (snapshot setting state prefix)

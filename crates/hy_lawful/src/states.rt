@@ -5,7 +5,7 @@ ghost use Rattle.hy_lawful.specs.Overlaps.{OpenOnesOverlap};
 ghost use Rattle.hy_lawful.specs.Rooms.{ReachedPlaced};
 ghost use Rattle.hy_lawful.specs.EffectRows.{InsertsCountPositions, RowsAreFollowed};
 ghost use Rattle.hy_lawful.specs.Kept.{ReachedAreKept};
-ghost use Rattle.hy_lawful.specs.Views.{ReachedViewsFit};
+ghost use Rattle.hy_lawful.specs.Views.{ReachedTablesFit, ReachedViewsFit};
 
 /// What a transaction did until it ended is what its answered statements come to over the tables of its start, each
 /// INSERT at the position that it took: its replies, its records, and where it committed its writes.
@@ -53,4 +53,9 @@ pub fn reached_states_are_kept()
 /// the middle of a statement: the rows that it sees in a table have the table's columns.
 pub fn reached_views_fit()
     ensures { ReachedViewsFit }
+{}
+
+/// So do the tables after any first entries of the commit order.
+pub fn reached_tables_fit()
+    ensures { ReachedTablesFit }
 {}

@@ -29,7 +29,7 @@ use Rattle.hy_machine.specs.Validation.{committed_of, change_at, change_hits, fi
 use Rattle.hy_machine.specs.Turns.{ending_of}
 use Rattle.hy_shows.specs.Numbers.{EntryShows, EntriesShow}
 use Rattle.hy_shows.specs.Sessions.{NowShows, DoneSoFar}
-use Rattle.hy_shows.specs.CoreVisits.{HitsAreTheMachines}
+use Rattle.hy_shows.specs.CoreVisits.{EntriesTellChanges, HitsAreTheMachines}
 use Rattle.hy_shows.proofs.HitNotes.{whole_at, wholes_ascend, wholes_tell, wholes_changes}
 
 -- what a validation tells of statements and of changes
@@ -40,11 +40,10 @@ pub record HitLaws : Type 0 where
   pub one : TellingIsOne
 
 -- the notes of an entry that is shown are those that tell what the machine's does
-entry_changes : HitLaws → (entered : Entered) (entry : Entry) → EntryShows entered entry
-    → filter is_change entry.notes ≡ by_place change_at entered.cells
-entry_changes laws entered entry shows =
+pub entry_changes : TellingIsOne → EntriesTellChanges
+entry_changes one entered entry shows =
     ap (λ (notes : List Change). filter is_change notes)
-    (laws.one entry.notes (by_place whole_at entered.cells) shows.ascends (wholes_ascend entered.cells)
+    (one entry.notes (by_place whole_at entered.cells) shows.ascends (wholes_ascend entered.cells)
     (λ table pos. shows.notes table pos ∙ sym (wholes_tell entered.cells table pos)))
     ∙ wholes_changes entered.cells
 
@@ -101,7 +100,7 @@ entry_same : HitLaws → (records : List Record) (entered : Entered) (entry : En
     ≡ option_map ending_of (hits_among records entered.label (by_place change_at entered.cells))
 entry_same laws records entered entry shows =
     ap (λ (hit : Option Invalid). option_map (invalid_by records) hit) (sym (laws.rows records entry.label entry.notes))
-    ∙ (ap (λ (changes : List Change). option_map (invalid_by records) (hit_among records entry.label changes)) (entry_changes laws entered entry shows)
+    ∙ (ap (λ (changes : List Change). option_map (invalid_by records) (hit_among records entry.label changes)) (entry_changes laws.one entered entry shows)
     ∙ (ap (λ (label : Label). option_map (invalid_by records) (hit_among records label (by_place change_at entered.cells))) shows.label
     ∙ changes_same laws records entered.label (by_place change_at entered.cells)))
 

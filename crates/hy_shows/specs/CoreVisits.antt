@@ -1,5 +1,5 @@
 -- A visit of the core is the machine's turn: for each kind of visit.
-use Rattle.std.specs.Prelude.{◌≡◌, ℕ, ◌-◌, ◌≤◌, ◌==◌, List, false, None, Some, slice_get, drop, length, map}
+use Rattle.std.specs.Prelude.{◌≡◌, ℕ, ◌-◌, ◌≤◌, ◌==◌, List, false, None, Some, slice_get, drop, filter, length, map}
 use Rattle.std.specs.Option.{option_map}
 use Rattle.hy_render.specs.declared.Ending.{Ending}
 use Rattle.hy_render.specs.declared.Ending.TheVariants.{Committed}
@@ -7,6 +7,8 @@ use Rattle.hy_stamp.specs.declared.Label.{Label}
 use Rattle.hy_stamp.specs.Times.{IsLabel}
 use Rattle.hy_validate.specs.Hits.{first_invalid}
 use Rattle.hy_journal.specs.declared.CoreData.{CoreData}
+use Rattle.hy_journal.specs.declared.Entry.{Entry}
+use Rattle.hy_notes.specs.Notes.{is_change}
 use Rattle.hy_journal.specs.Core.{core_entered}
 use Rattle.hy_event.specs.declared.SessionData.{SessionData}
 use Rattle.hy_event.specs.declared.Open.{Open}
@@ -24,9 +26,12 @@ use Rattle.hy_machine.specs.declared.Turn.TheVariants.{Waits, Begins, Enters, En
 use Rattle.hy_machine.specs.Writes.{written_chunks, wrote_nothing}
 use Rattle.hy_machine.specs.Sessions.{blocker}
 use Rattle.hy_machine.specs.Holding.{holds}
-use Rattle.hy_machine.specs.Validation.{first_hit, committed_of}
+use Rattle.hy_machine.specs.declared.Entry.{Entry as Entered}
+use Rattle.hy_machine.specs.Positions.{by_place}
+use Rattle.hy_machine.specs.Validation.{change_at, first_hit, committed_of}
 use Rattle.hy_machine.specs.Turns.{refused, ending_of}
 use Rattle.hy_kept.specs.Kept.{is_stamping}
+use Rattle.hy_shows.specs.Numbers.{EntryShows}
 use Rattle.hy_shows.specs.Shows.{Shows}
 use Rattle.hy_shows.specs.Taken.{ShownState, AtOpen, AtStatement, IsTaken, core_number}
 
@@ -125,3 +130,9 @@ WaitsAreTaken =
     → Shows setting state parts sessions → slice_get sessions number ≡ Some session → slice_get parts part ≡ Some present
     → Takes session (waits by) progress after
     → IsTaken setting state parts sessions number (Waits by) part progress after present
+
+-- ---- the journal
+
+-- the changes among the notes of an entry that is shown are those that the machine's entry commits
+abbrev pub EntriesTellChanges : Type 0
+EntriesTellChanges = (entered : Entered) (entry : Entry) → EntryShows entered entry → filter is_change entry.notes ≡ by_place change_at entered.cells

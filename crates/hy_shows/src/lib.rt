@@ -15,10 +15,11 @@ mod visits;
 use hy_undo::Delta;
 pub use visits::{
     begins_are_taken, checks_are_taken, chunk_visits_show, closes_are_taken, enters_are_taken,
-    events_are_steps, going_on_is_taken, groups_are_taken, hits_are_the_machines, leaves_are_taken,
-    notes_are_writes, notes_follow_writes, own_steps_show, places_are_taken, pruned_chunks_show,
-    refusals_are_taken, selects_are_taken, stamps_are_taken, undos_are_taken, unmoved_places_show,
-    visited_chunks_show, waits_are_taken, writes_are_taken, written_chunks_are_the_machines,
+    entries_tell_changes, events_are_steps, going_on_is_taken, groups_are_taken,
+    hits_are_the_machines, leaves_are_taken, notes_are_writes, notes_follow_writes, own_steps_show,
+    places_are_taken, pruned_chunks_show, refusals_are_taken, selects_are_taken, stamps_are_taken,
+    undos_are_taken, unmoved_places_show, visited_chunks_show, waits_are_taken, writes_are_taken,
+    written_chunks_are_the_machines,
 };
 
 /// Before anything has happened the parts and the sessions show the machine's opening.

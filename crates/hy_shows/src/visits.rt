@@ -5,6 +5,7 @@ ghost use Rattle.hy_shows.specs.Frames.{GoingOnIsTaken, NotesFollowWrites};
 ghost use Rattle.hy_shows.specs.Visits.{SelectsAreTaken, GroupsAreTaken, ChecksAreTaken, PlacesAreTaken, WritesAreTaken};
 ghost use Rattle.hy_shows.specs.Visits.{StampsAreTaken, UndosAreTaken, WrittenChunksAreTheMachines};
 ghost use Rattle.hy_shows.specs.CoreVisits.{BeginsAreTaken, ClosesAreTaken, LeavesAreTaken, NotesAreWrites, HitsAreTheMachines};
+ghost use Rattle.hy_shows.specs.CoreVisits.{EntriesTellChanges};
 ghost use Rattle.hy_shows.specs.CoreVisits.{EntersAreTaken, RefusalsAreTaken, WaitsAreTaken};
 ghost use Rattle.hy_shows.specs.Steps.{EventsAreSteps};
 
@@ -160,6 +161,13 @@ pub fn leaves_are_taken()
 pub fn notes_are_writes()
     ensures { NotesAreWrites }
 {}
+
+/// The changes among the notes of an entry are those that the machine's entry commits.
+pub fn entries_tell_changes()
+    ensures { EntriesTellChanges }
+{
+    hy_notes::notes_tell();
+}
 
 /// Validation finds the first hit that the machine finds.
 pub fn hits_are_the_machines()

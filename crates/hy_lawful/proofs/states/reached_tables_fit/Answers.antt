@@ -1,0 +1,5 @@
+use Rattle.hy_lawful.proofs.ViewSteps.{reached_tables}
+use Rattle.hy_lawful.proofs.states.reached_tables_fit.Goals as goal
+
+pub returns : goal.returns
+returns c = reached_tables

@@ -31,7 +31,8 @@ is_here {A = A} p g from end left others all h t none before =
     ∙ ap (λ (xs : List A). slice_get (xs ++ others) 0) (passes_first p g from end h t))
 
 -- where it passes and isn't the one, one less is before what is looked for
-pub is_behind : {A : Type 0} (p : ℕ → Bool) (g : ℕ → A) (from end left less : ℕ) (others : List A) (all : Option A) → from < end → p from ≡ true → left ≡ suc less
+pub is_behind : {A : Type 0} (p : ℕ → Bool) (g : ℕ → A) (from end left less : ℕ) (others : List A) (all : Option A) → from < end → p from ≡ true
+    → left ≡ suc less
     → slice_get (map g (filter p (range_with_len from (end - from))) ++ others) left ≡ all
     → slice_get (map g (filter p (range_with_len (from + 1) (end - (from + 1)))) ++ others) less ≡ all
 is_behind {A = A} p g from end left less others all h t one before =

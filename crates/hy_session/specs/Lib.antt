@@ -1,4 +1,11 @@
 pub mod Limits
 pub mod Seeking
 pub mod Near
+pub mod Short
 pub mod Works
+pub mod Pieces
+pub mod Parts
+pub mod Readers
+pub mod Reading
+pub mod Visitors
+pub mod Written

@@ -85,7 +85,7 @@ pub fn written_places(alloc: Global, now: &Running) -> Result<Places, AllocError
 
 impl Session {
     /// The statements of the transaction that it is at.
-    fn statements(&self) -> &[Bound]
+    pub(crate) fn statements(&self) -> &[Bound]
         ensures { result.now ≡ statements_in (txn_at self.entry.now) }
     {
         match self.program.as_slice().get(self.done.len()) {
@@ -102,7 +102,8 @@ impl Session {
         ending: Ending,
     ) -> Result<TxnOutcome, AllocError>
         requires { length self.now.done < length self.now.program }
-        ensures { IfOk result (λ outcome. (replies : List Reply) → record outcome { replies = replies } ≡ record (outcome_of self.entry.now now.now ending) { replies = replies }) }
+        ensures { IfOk result (λ outcome. (replies : List Reply)
+            → record outcome { replies = replies } ≡ record (outcome_of self.entry.now now.now ending) { replies = replies }) }
     {
         let tables = self.shapes.len() as u32;
         Ok(TxnOutcome {

@@ -5,19 +5,32 @@ ghost use Rattle.std.specs.Prelude.{◌≡◌, ◌<◌, ◌≤◌, [], None, len
 ghost use Rattle.hy_limits.specs.declared.TheConstants.{MOST_TABLES, MOST_TXNS};
 ghost use Rattle.hy_event.specs.Needs.{need_of};
 
+mod answers;
+mod copying;
 mod coring;
 mod ends;
+mod gathering;
+mod inserting;
 mod needs;
 mod numbers;
+mod parts;
+mod pieces;
+mod reader;
+mod reading;
 mod seeking;
+mod stamping;
+mod visitors;
+mod visits;
 mod works;
+mod writing;
 
 use hy_bound::{Reply, Shapes, Txns};
 use hy_event::{Need, Phase};
 use hy_notes::Changes;
-use hy_plan::{Gathered, ReadLog};
+use hy_plan::ReadLog;
 use hy_prune::Cover;
 use hy_render::{Places, TxnOutcome};
+use pieces::Pieces;
 use std::alloc::Global;
 use std::marker::Model;
 
@@ -30,14 +43,13 @@ struct Running {
     replies: Vec<Reply>,
     records: ReadLog,
     took: Vec<Option<u32>>,
-    gathered: Vec<Gathered>,
+    gathered: Vec<Pieces>,
     notes: Changes,
     wrote: Places,
     phase: Phase,
 }
 
 impl Model for Running {
-    ghost use Rattle.std.specs.Prelude.{map};
     ghost use Rattle.hy_event.specs.declared.Open.{Open};
     ghost use Rattle.hy_event.specs.contracts.Open as open_data;
 
@@ -52,7 +64,7 @@ impl Model for Running {
       replies = a.replies.items;
       records = a.records.entries;
       took = a.took.items;
-      gathered = map (λ table. table.rows) a.gathered.items;
+      gathered = a.gathered.items;
       notes = a.notes.notes;
       wrote = a.wrote;
       phase = a.phase;

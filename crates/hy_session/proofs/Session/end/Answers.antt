@@ -13,7 +13,8 @@ returns-in-Some-take-clause-ok c =
     let is_seen : c.self.inside.now ≡ Some c.in-Some.now = c.in-Some.is in
     let is_taken : Some c.in-Some-take.now ≡ c.self.inside.now = c.in-Some-take.ensures.value in
     let gone : c.take.new.self ≡ None = c.take.ensures.after in
-    let given : (others : List Reply) → record c.in_ok-outcome.outcome { replies = others } ≡ record (outcome_of c.args.self.now c.in-Some.now c.args.ending) { replies = others } =
+    let given : (others : List Reply)
+    → record c.in_ok-outcome.outcome { replies = others } ≡ record (outcome_of c.args.self.now c.in-Some.now c.args.ending) { replies = others } =
     λ others. c.in_ok-outcome.ensures others in
     let told : c.from_vec.result ≡ c.in-Some-take.now.replies = c.from_vec.ensures ∙ ap (λ (now : Open). now.replies) c.now.view_is in
     let put : c.push_reserved.new.self.items ≡ c.args.self.now.done ++ record c.in_ok-outcome.outcome { replies = c.from_vec.result } ∷ [] =

@@ -11,7 +11,8 @@ returns-in-Ok c =
     let tables : length c.self.inside.shapes ≡ length c.args.self.now.shapes = ap (λ (session : SessionData). length session.shapes) c.self.view_is in
     let within : c.loop-table.table < length c.args.self.now.shapes = omega (arith, tables, c.len-table-end.ensures, c.loop-table-test.true) in
     ap chunk_or_core
-    (sym (c.in-Ok.ensures (chunks_from c.args.self.now (written c.args.now.now) (c.loop-table.table + 1) (drop (c.loop-table.table + 1) c.args.self.now.shapes)))
+    (sym (c.in-Ok.ensures (chunks_from c.args.self.now (written c.args.now.now) (c.loop-table.table + 1)
+    (drop (c.loop-table.table + 1) c.args.self.now.shapes)))
     ∙ (ap (λ (chunks : List (ℕ × ℕ)). slice_get chunks c.loop-table.left)
     (sym (tables_more c.args.self.now (written c.args.now.now) c.loop-table.table c.args.self.now.shapes within)) ∙ c.loop-table.invariant))
 
@@ -19,6 +20,7 @@ pub loop-table-preserved : goal.loop-table-preserved
 loop-table-preserved c =
     let tables : length c.self.inside.shapes ≡ length c.args.self.now.shapes = ap (λ (session : SessionData). length session.shapes) c.self.view_is in
     let within : c.loop-table.table < length c.args.self.now.shapes = omega (arith, tables, c.len-table-end.ensures, c.loop-table-test.true) in
-    sym (c.in-Err.ensures (chunks_from c.args.self.now (written c.args.now.now) (c.loop-table.table + 1) (drop (c.loop-table.table + 1) c.args.self.now.shapes)))
+    sym (c.in-Err.ensures (chunks_from c.args.self.now (written c.args.now.now) (c.loop-table.table + 1)
+    (drop (c.loop-table.table + 1) c.args.self.now.shapes)))
     ∙ (ap (λ (chunks : List (ℕ × ℕ)). slice_get chunks c.loop-table.left)
     (sym (tables_more c.args.self.now (written c.args.now.now) c.loop-table.table c.args.self.now.shapes within)) ∙ c.loop-table.invariant)

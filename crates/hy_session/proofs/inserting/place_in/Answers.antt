@@ -1,0 +1,29 @@
+use Rattle.std.proofs.Common.{◌≡◌, ◌≤◌, ap, sym, ◌∙◌, subst}
+use Rattle.hy_stamp.specs.declared.Viewer.{Viewer}
+use Rattle.hy_undo.specs.Chunks.{ChunkData}
+use Rattle.hy_chunk.specs.Views.{Whole}
+use Rattle.hy_session.specs.Written.{Came}
+use Rattle.hy_session.proofs.Wrote.{came_so, viewer_so}
+use Rattle.hy_session.proofs.inserting.place_in.Goals as goal
+
+pub returns-clause-done : goal.returns-clause-done
+returns-clause-done c = λ session now is noted.
+    let insertion = c.args.insertion.now in
+    let same : c.reserve_writes.new.chunk.shown ≡ c.args.chunk.now.shown = ap (λ (w : Whole). w.shown) c.reserve_writes.ensures.all in
+    let did : Came session now insertion.table insertion.row.now c.reserve_writes.new.chunk.shown c.place_visit.result
+    c.place_visit.new.chunk.shown c.place_visit.new.changes.notes =
+    came_so session now _ insertion.table _ _ _ _ insertion.row.now _ c.place_visit.ensures.done
+    (record {
+      viewer = c.viewer.ensures ∙ viewer_so session now c.args.visitor.now.id c.args.start is.id noted.starts;
+      label = is.label;
+      cover = sym noted.covers;
+      prunes = is.prunes;
+    })
+    (ap (λ (o : ChunkData). o.table) same ∙ sym c.requires.table) (c.reserve_writes.ensures.notes ∙ sym noted.noted) in
+    subst
+    (λ (o : ChunkData). Came session now insertion.table insertion.row.now o c.place_visit.result c.place_visit.new.chunk.shown c.place_visit.new.changes.notes)
+    same did
+
+pub returns-clause-short : goal.returns-clause-short
+returns-clause-short c = λ does.
+    c.place_visit.ensures.short does (subst (λ (v : Viewer). c.args.cover.now.next ≤ v.id) (sym c.viewer.ensures) c.requires.ready.early)

@@ -1,0 +1,199 @@
+-- The loops of a run, turn by turn: what is left of the machine's own after a turn.
+use Rattle.std.proofs.Common.{◌≡◌, ℕ, zero, suc, ◌+◌, ◌-◌, ◌*◌, ◌<◌, ◌≤◌, List, ◌∷◌, length, drop, get_or, refl, ap, ◌∙◌, sym, arith, add-one}
+use Rattle.std.proofs.Common.{Bool, true, false, cond, drop-cons}
+use Rattle.std.proofs.lemmas.List.{drop_all}
+use Rattle.std.proofs.lemmas.Slice.Zip.{AllZip-long}
+use Rattle.hy_bound.specs.Fits.{FitsRows}
+use Rattle.hy_schedule.specs.declared.Item.{Item}
+use Rattle.hy_machine.specs.declared.Setting.{Setting}
+use Rattle.hy_machine.specs.declared.State.{State}
+use Rattle.hy_machine.specs.declared.Stepped.{Stepped}
+use Rattle.hy_machine.specs.Steps.{step_of}
+use Rattle.hy_machine.specs.Runs.{is_moved, moves, whole_of, item_of, items_of, round_from, round_of, all_ended_from, repeated, rounds_of}
+use Rattle.hy_lawful.specs.Kept.{ReachedAreKept}
+use Rattle.hy_near.specs.Bounds.{BoundsAreEnough, most_turns}
+use Rattle.hy_near.specs.Outcomes.{EndsAreTheMachines, are_done}
+use Rattle.hy_world.specs.Follows.{Follows, Steps}
+use Rattle.hy_world.specs.Worlds.{WorldData, ShowsState, parts_of}
+use Rattle.hy_world.proofs.Ahead.{Ahead, all_ahead, goes_on, all_done}
+
+-- ---- the steps of a whole statement
+
+abbrev pub stepping : ℕ → Setting → State → State
+stepping number setting state = (step_of setting state number).0
+
+abbrev pub whole_steps : ℕ → Setting → State → State
+whole_steps number setting state = whole_of setting state number
+
+-- so many of the most turns being done
+abbrev pub moves_left : ℕ → ℕ → ℕ → Setting → State → State
+moves_left number most turn setting state = moves (most - turn) setting state number
+
+pub step_follows : (number : ℕ) (stepped : Stepped) (now next : WorldData) → Steps number stepped now next → Follows (stepping number) now next
+step_follows number stepped now next steps = λ setting state shows. (steps setting state shows).shows
+
+moved_on : (number most turn : ℕ) (setting : Setting) (state : State) (stepped : Stepped) → turn < most → (step_of setting state number).1 ≡ stepped
+    → is_moved stepped ≡ true → moves_left number most (turn + 1) setting (step_of setting state number).0 ≡ moves_left number most turn setting state
+unfolding moves
+moved_on number most turn setting state stepped l answer m =
+    let left : most - turn ≡ suc (most - (turn + 1)) = omega arith in
+    let next : State = (step_of setting state number).0 in
+    let choice : Bool → State = λ b. cond b (moves (most - (turn + 1)) setting next number) next in
+    sym (ap (λ n. moves n setting state number) left ∙ ap choice (ap is_moved answer ∙ m))
+
+stopped_at : (number most turn : ℕ) (setting : Setting) (state : State) (stepped : Stepped) → turn < most → (step_of setting state number).1 ≡ stepped
+    → is_moved stepped ≡ false → (step_of setting state number).0 ≡ moves_left number most turn setting state
+unfolding moves
+stopped_at number most turn setting state stepped l answer m =
+    let left : most - turn ≡ suc (most - (turn + 1)) = omega arith in
+    let next : State = (step_of setting state number).0 in
+    let choice : Bool → State = λ b. cond b (moves (most - (turn + 1)) setting next number) next in
+    sym (ap (λ n. moves n setting state number) left ∙ ap choice (ap is_moved answer ∙ m))
+
+moves_over : (number most turn : ℕ) (setting : Setting) (state : State) → most ≤ turn → moves_left number most turn setting state ≡ state
+unfolding moves
+moves_over number most turn setting state l =
+    let left : most - turn ≡ 0 = omega arith in
+    ap (λ n. moves n setting state number) left
+
+pub whole_ahead : (number : ℕ) (now : WorldData) → BoundsAreEnough → Ahead (moves_left number most_turns 0) (whole_steps number) now now
+whole_ahead number now enough = all_ahead (moves_left number most_turns 0) (whole_steps number) now
+    (λ setting state shows. enough.whole setting state number shows.shown.runnable shows.shown.reached)
+
+pub whole_goes_on : (number most turn : ℕ) (stepped : Stepped) (from now next : WorldData) → turn < most → is_moved stepped ≡ true
+    → Ahead (moves_left number most turn) (whole_steps number) from now → Steps number stepped now next
+    → Ahead (moves_left number most (turn + 1)) (whole_steps number) from next
+whole_goes_on number most turn stepped from now next l m ahead steps =
+    goes_on (moves_left number most turn) (stepping number) (moves_left number most (turn + 1)) (whole_steps number) from now next ahead
+    (step_follows number stepped now next steps)
+    (λ setting state shows. moved_on number most turn setting state stepped l (steps setting state shows).answer m)
+
+pub whole_stops : (number most turn : ℕ) (stepped : Stepped) (from now next : WorldData) → turn < most → is_moved stepped ≡ false
+    → Ahead (moves_left number most turn) (whole_steps number) from now → Steps number stepped now next → Follows (whole_steps number) from next
+whole_stops number most turn stepped from now next l m ahead steps =
+    all_done (λ setting state. state) (whole_steps number) from next
+    (goes_on (moves_left number most turn) (stepping number) (λ setting state. state) (whole_steps number) from now next ahead
+    (step_follows number stepped now next steps)
+    (λ setting state shows. stopped_at number most turn setting state stepped l (steps setting state shows).answer m))
+    (λ setting state shows. refl)
+
+pub whole_over : (number most turn : ℕ) (from now : WorldData) → most ≤ turn → Ahead (moves_left number most turn) (whole_steps number) from now
+    → Follows (whole_steps number) from now
+whole_over number most turn from now l ahead =
+    all_done (moves_left number most turn) (whole_steps number) from now ahead (λ setting state shows. moves_over number most turn setting state l)
+
+-- ---- the items of a schedule
+
+abbrev pub an_item : Item → Setting → State → State
+an_item item setting state = item_of setting state item
+
+abbrev pub all_items : List Item → Setting → State → State
+all_items items setting state = items_of setting state items
+
+pub items_go_on : (items : List Item) (i : ℕ) (other : Item) (from now next : WorldData) → i < length items
+    → Ahead (all_items (drop i items)) (all_items items) from now → Follows (an_item (get_or items i other)) now next
+    → Ahead (all_items (drop (i + 1) items)) (all_items items) from next
+items_go_on items i other from now next l ahead follows =
+    let rest : drop i items ≡ get_or items i other ∷ drop (i + 1) items = rw (add-one, drop-cons items i other) refl in
+    goes_on (all_items (drop i items)) (an_item (get_or items i other)) (all_items (drop (i + 1) items)) (all_items items) from now next ahead follows
+    (λ setting state shows. sym (ap (items_of setting state) rest))
+
+pub items_over : (items : List Item) (i : ℕ) (from now : WorldData) → length items ≤ i → Ahead (all_items (drop i items)) (all_items items) from now
+    → Follows (all_items items) from now
+items_over items i from now l ahead =
+    all_done (all_items (drop i items)) (all_items items) from now ahead (λ setting state shows. ap (items_of setting state) (drop_all i items l))
+
+-- ---- a round
+
+abbrev pub a_round : Setting → State → State
+a_round setting state = round_of setting state
+
+-- the sessions from this number on are left
+abbrev pub round_left : ℕ → ℕ → Setting → State → State
+round_left count number setting state = round_from setting state number (count - number)
+
+-- a world has as many sessions as the state
+pub same_count : ReachedAreKept → (setting : Setting) (state : State) (world : WorldData) → ShowsState setting state world
+    → length world.sessions ≡ length state.sessions
+same_count are_kept setting state world shows =
+    let first : length setting.first ≡ length setting.shapes =
+    AllZip-long (FitsRows (setting.chunks * setting.rows)) setting.shapes setting.first shows.shown.runnable.fits.first_rows in
+    shows.shown.shows.sessions_show.count ∙ sym (are_kept setting state first shows.shown.reached).fits.count
+
+pub round_ahead : (now : WorldData) → ReachedAreKept → Ahead (round_left (length now.sessions) 0) a_round now now
+round_ahead now are_kept = all_ahead (round_left (length now.sessions) 0) a_round now
+    (λ setting state shows. first setting state (same_count are_kept setting state now shows))
+  where
+    first : (setting : Setting) (state : State) → length now.sessions ≡ length state.sessions
+        → round_left (length now.sessions) 0 setting state ≡ round_of setting state
+    first setting state e =
+        let same : length now.sessions - 0 ≡ length state.sessions = omega arith in
+        ap (round_from setting state 0) same
+
+next_left : (count number : ℕ) (setting : Setting) (state : State) → number < count
+    → round_left count (number + 1) setting (whole_of setting state number) ≡ round_left count number setting state
+next_left count number setting state l =
+    let left : count - number ≡ suc (count - (number + 1)) = omega arith in
+    rw (left, add-one) refl
+
+pub round_goes_on : (count number : ℕ) (from now next : WorldData) → number < count → Ahead (round_left count number) a_round from now
+    → Follows (whole_steps number) now next → Ahead (round_left count (number + 1)) a_round from next
+round_goes_on count number from now next l ahead follows =
+    goes_on (round_left count number) (whole_steps number) (round_left count (number + 1)) a_round from now next ahead follows
+    (λ setting state shows. next_left count number setting state l)
+
+pub round_over : (count number : ℕ) (from now : WorldData) → count ≤ number → Ahead (round_left count number) a_round from now → Follows a_round from now
+round_over count number from now l ahead =
+    let none : count - number ≡ 0 = omega arith in
+    all_done (round_left count number) a_round from now ahead (λ setting state shows. ap (round_from setting state number) none)
+
+-- ---- rounds
+
+abbrev pub all_rounds : Setting → State → State
+all_rounds setting state = rounds_of setting state
+
+abbrev pub rounds_left : ℕ → ℕ → Setting → State → State
+rounds_left most round setting state = repeated (most - round) setting state
+
+pub rounds_ahead : (now : WorldData) → BoundsAreEnough → Ahead (rounds_left most_turns 0) all_rounds now now
+rounds_ahead now enough = all_ahead (rounds_left most_turns 0) all_rounds now
+    (λ setting state shows. enough.rounds setting state shows.shown.runnable shows.shown.reached)
+
+ended_as : EndsAreTheMachines → (setting : Setting) (state : State) (world : WorldData) (b : Bool) → ShowsState setting state world
+    → are_done world.sessions ≡ b → all_ended_from setting 0 state.sessions ≡ b
+ended_as ends setting state world b shows e = sym (ends setting state (parts_of world.chunks world.core) world.sessions shows.shown) ∙ e
+
+round_more : (most round : ℕ) (setting : Setting) (state : State) → round < most → all_ended_from setting 0 state.sessions ≡ false
+    → rounds_left most (round + 1) setting (round_of setting state) ≡ rounds_left most round setting state
+unfolding repeated
+round_more most round setting state l f =
+    let left : most - round ≡ suc (most - (round + 1)) = omega arith in
+    let choice : Bool → State = λ b. cond b state (repeated (most - (round + 1)) setting (round_of setting state)) in
+    sym (ap (λ n. repeated n setting state) left ∙ ap choice f)
+
+none_more : (left : ℕ) (setting : Setting) (state : State) → all_ended_from setting 0 state.sessions ≡ true → repeated left setting state ≡ state
+unfolding repeated
+none_more zero setting state t = refl
+none_more (suc left) setting state t = rw t refl
+
+no_rounds : (most round : ℕ) (setting : Setting) (state : State) → most ≤ round → rounds_left most round setting state ≡ state
+unfolding repeated
+no_rounds most round setting state l =
+    let left : most - round ≡ 0 = omega arith in
+    ap (λ n. repeated n setting state) left
+
+pub rounds_go_on : EndsAreTheMachines → (most round : ℕ) (from now next : WorldData) → round < most → are_done now.sessions ≡ false
+    → Ahead (rounds_left most round) all_rounds from now → Follows a_round now next → Ahead (rounds_left most (round + 1)) all_rounds from next
+rounds_go_on ends most round from now next l f ahead follows =
+    goes_on (rounds_left most round) a_round (rounds_left most (round + 1)) all_rounds from now next ahead follows
+    (λ setting state shows. round_more most round setting state l (ended_as ends setting state now false shows f))
+
+pub rounds_end : EndsAreTheMachines → (most round : ℕ) (from now : WorldData) → are_done now.sessions ≡ true
+    → Ahead (rounds_left most round) all_rounds from now → Follows all_rounds from now
+rounds_end ends most round from now t ahead =
+    all_done (rounds_left most round) all_rounds from now ahead
+    (λ setting state shows. none_more (most - round) setting state (ended_as ends setting state now true shows t))
+
+pub rounds_over : (most round : ℕ) (from now : WorldData) → most ≤ round → Ahead (rounds_left most round) all_rounds from now → Follows all_rounds from now
+rounds_over most round from now l ahead =
+    all_done (rounds_left most round) all_rounds from now ahead (λ setting state shows. no_rounds most round setting state l)

@@ -1,0 +1,8 @@
+use Rattle.std.proofs.Common.{◌≡◌, length, take}
+use Rattle.hy_chunk.specs.Views.{with_places}
+use Rattle.hy_world.specs.Openings.{places_with}
+use Rattle.hy_world.proofs.opening.load_rows.Given as goal
+
+abbrev pub invariant-loop-row : goal.invariant-loop-row
+invariant-loop-row l =
+    l.chunk ≡ with_places l.fn.chunk (places_with l.fn.chunk.kinds (length l.fn.chunk.shown.places) (take l.row-index l.rows)) l.chunk.room

@@ -1,0 +1,5 @@
+pub mod Worlds
+pub mod Asks
+pub mod Follows
+pub mod Openings
+pub mod Finished

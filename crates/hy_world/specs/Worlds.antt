@@ -1,0 +1,61 @@
+-- What contracts see of a world, and what holds of it at all times.
+use Rattle.std.specs.Prelude.{◌≡◌, ℕ, ◌+◌, ◌*◌, ◌<◌, List, [], ◌∷◌, ◌++◌, Some, map, slice_get, length, refl}
+use Rattle.std.specs.Coded.{Coded, code_by, coded×, coded_list, coded_ℕ}
+use Rattle.hy_value.specs.declared.Kind.{Kind}
+use Rattle.hy_bound.specs.declared.Shape.{Shape}
+use Rattle.hy_journal.specs.declared.CoreData.{CoreData}
+use Rattle.hy_journal.specs.contracts.CoreData as core_data
+use Rattle.hy_undo.specs.Chunks.{ChunkData}
+use Rattle.hy_chunk.specs.Views.{Whole, data_code}
+use Rattle.hy_event.specs.declared.SessionData.{SessionData}
+use Rattle.hy_event.specs.contracts.SessionData as session_data
+use Rattle.hy_event.specs.Events.{Part, ChunkPart, CorePart}
+use Rattle.hy_machine.specs.declared.Setting.{Setting}
+use Rattle.hy_machine.specs.declared.State.{State}
+use Rattle.hy_near.specs.Typed.{AreTyped, kinds_of}
+use Rattle.hy_near.specs.Runnable.{IsShown}
+
+-- how many tables there are, how many chunks each has, the chunks by table, the core, and the sessions
+pub record WorldData : Type 0 where
+  pub tables : ℕ
+  pub per_table : ℕ
+  pub chunks : List ChunkData
+  pub core : CoreData
+  pub sessions : List SessionData
+
+abbrev pub world_code : Coded WorldData
+world_code =
+    code_by (ℕ × (ℕ × (List ChunkData × (CoreData × List SessionData))))
+    (coded× coded_ℕ (coded× coded_ℕ (coded× (coded_list data_code) (coded× core_data.the_row.coded (coded_list session_data.the_row.coded)))))
+    (λ w. (w.tables, (w.per_table, (w.chunks, (w.core, w.sessions)))))
+    (λ p. record { tables = p.0; per_table = p.1.0; chunks = p.1.1.0; core = p.1.1.1.0; sessions = p.1.1.1.1 }) (λ _. refl)
+
+-- the parts, the core last
+abbrev pub parts_of : List ChunkData → CoreData → List Part
+parts_of chunks core = map ChunkPart chunks ++ CorePart core ∷ []
+
+-- a world shows a state of the machine
+pub record ShowsState (setting : Setting) (state : State) (world : WorldData) : Type 0 where
+  pub tables : length setting.shapes ≡ world.tables
+  pub per_table : setting.chunks ≡ world.per_table
+  pub shown : IsShown setting state (parts_of world.chunks world.core) world.sessions
+
+-- the plain data of chunks
+abbrev pub plain : List Whole → List ChunkData
+plain chunks = map (λ chunk. chunk.shown) chunks
+
+-- each chunk has the types of its table
+abbrev pub HaveTypes : List (List Kind) → ℕ → List Whole → Type 0
+HaveTypes kinds per_table chunks =
+    (table chunk : ℕ) (part : Whole) → chunk < per_table → slice_get chunks (table * per_table + chunk) ≡ Some part → part.kinds ≡ kinds_of kinds table
+
+-- some state that the machine comes to is shown, of a setting that has these tables and whose values are of the chunks' types
+pub record IsWorld (shapes : List Shape) (tables per_table : ℕ) (chunks : List Whole) (core : CoreData) (sessions : List SessionData) : Type 0 where
+  pub setting : Setting
+  pub kinds : List (List Kind)
+  pub state : State
+  pub shapes_are : setting.shapes ≡ shapes
+  pub typed : AreTyped kinds setting.shapes setting.first setting.programs
+  pub types : HaveTypes kinds per_table chunks
+  pub shows : ShowsState setting state
+      (record { tables = tables; per_table = per_table; chunks = plain chunks; core = core; sessions = sessions })

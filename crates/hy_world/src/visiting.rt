@@ -1,0 +1,90 @@
+//! A step of a session: it visits the part that it needs.
+
+ghost use Rattle.std.specs.Prelude.{◌≡◌, ◌+◌, ◌*◌, ◌^◌, ◌<◌, IfOk, OnErr};
+ghost use Rattle.hy_event.specs.declared.Need.{Need};
+ghost use Rattle.hy_shows.specs.Taken.{stepped_of};
+ghost use Rattle.hy_world.specs.Asks.{need_at};
+ghost use Rattle.hy_world.specs.Follows.{Steps};
+
+use crate::World;
+use hy_event::{Need, Progress};
+use hy_machine::Stepped;
+use std::alloc::{AllocError, Global};
+
+/// What a visit came to, as the machine says it.
+fn told(progress: Progress) -> Stepped
+    ensures { result ≡ stepped_of progress }
+{
+    match progress {
+        Progress::Moved => Stepped::Moved,
+        Progress::Answered => Stepped::Answered,
+        Progress::Blocked { by } => Stepped::Blocked { by },
+    }
+}
+
+/// Where a chunk of a table stands among all chunks.
+fn place_of(per_table: u32, table: u32, chunk: u32) -> usize
+    ensures { result ≡ table * per_table + chunk }
+{
+    table as usize * per_table as usize + chunk as usize
+}
+
+impl World {
+    /// The part that a session needs next; one that is not there needs none.
+    fn needed(&self, number: u32) -> Need
+        ensures { result ≡ need_at self.now.sessions number }
+    {
+        match self.sessions.get(number as usize) {
+            Some(session) => session.next(),
+            None => Need::Done,
+        }
+    }
+
+    /// A session visits the core. Err is for want of memory, and changes nothing that contracts see.
+    fn visit_core(&mut self, alloc: Global, number: u32) -> Result<Progress, AllocError>
+        requires { need_at self.old.sessions number ≡ Need.Core }
+        ensures step { IfOk result (λ progress. Steps number (stepped_of progress) self.old self.new) }
+        ensures err { OnErr result (self.new ≡ self.old) }
+    {
+        hy_near::cores_are_near();
+        hy_near::visits_are_steps();
+        let session = &mut self.sessions[number as usize];
+        session.visit_core(alloc, &mut self.core)
+    }
+
+    /// A session visits a chunk of a table. Err is for want of memory, and changes nothing that contracts see.
+    fn visit_chunk(
+        &mut self,
+        alloc: Global,
+        number: u32,
+        table: u32,
+        chunk: u32,
+    ) -> Result<Progress, AllocError>
+        requires { need_at self.old.sessions number ≡ Need.Chunk table chunk }
+        ensures step { IfOk result (λ progress. Steps number (stepped_of progress) self.old self.new) }
+        ensures err { OnErr result (self.new ≡ self.old) }
+    {
+        hy_near::needed_chunks_are_there();
+        hy_near::chunks_are_near();
+        hy_near::visits_are_steps();
+        let place = place_of(self.per_table, table, chunk);
+        let session = &mut self.sessions[number as usize];
+        let part = &mut self.chunks[place];
+        session.visit_chunk(alloc, part)
+    }
+
+    /// A step of a session. Err is for want of memory, and changes nothing that contracts see.
+    pub fn step(&mut self, alloc: Global, number: u32) -> Result<Stepped, AllocError>
+        ensures step { IfOk result (λ stepped. Steps number stepped self.old self.new) }
+        ensures err { OnErr result (self.new ≡ self.old) }
+    {
+        hy_near::ended_stay_as_they_are();
+        match self.needed(number) {
+            Need::Core => Ok(told(self.visit_core(alloc, number)?)),
+            Need::Chunk { table, chunk } => Ok(told(self.visit_chunk(
+                alloc, number, table, chunk,
+            )?)),
+            Need::Done => Ok(Stepped::Ended),
+        }
+    }
+}

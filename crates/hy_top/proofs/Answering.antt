@@ -1,6 +1,7 @@
 -- How a report answers what was read.
 use Rattle.std.proofs.Common.{◌≡◌, ℕ, ◌+◌, ◌*◌, ◌<◌, ◌≤◌, List, [], Option, None, Some, Result, Ok, Err, IsNone, IsSome, IfSome, length, map, refl, ap, sym, ◌∙◌, subst, arith, ◌⊎◌, inl, inr}
 use Rattle.std.proofs.Math.Logic.{⊎_elim}
+use Rattle.std.proofs.Math.Nat.{mul-le-mul_right}
 use Rattle.std.proofs.lemmas.List.{take_all, drop_all, length-take-le}
 use Rattle.hy_schedule.specs.declared.Item.{Item}
 use Rattle.hy_outside.specs.Telling.{GivesAll, GivesPast}
@@ -31,8 +32,9 @@ use Rattle.hy_bank.specs.Endings.{EndInFourWays, EndingsAddUp, MadeEndInFourWays
 use Rattle.hy_render.specs.Summary.{balances}
 use Rattle.std.specs.List.{AllByRecursion}
 use Rattle.std.specs.Prelude.{pos}
+use Rattle.hy_near.specs.Runnable.{IsRunnable}
 use Rattle.hy_top.specs.Settings.{setting_at}
-use Rattle.hy_top.specs.Reports.{IsRefused, Spells, IsRun, Writes, Answers, Runs, Checks, Summarizes, Does, Makes}
+use Rattle.hy_top.specs.Reports.{IsRefused, Spells, IsRun, Writes, Answers, Checks, Summarizes, Does, Makes}
 use Rattle.hy_limits.specs.declared.TheConstants.{MOST_BYTES}
 
 none_is : (o : Option Outcome) → IsNone o → o ≡ None
@@ -86,18 +88,34 @@ pub record Theorem : Type 0 where
   pub lawful : (setting : Setting) (schedule : List Item) → Lawful setting (outcome_of setting (run_of setting schedule))
   pub serial : SerialRuns
 
--- what is read fits, and is of tables that have chunks
-pub record FitsAsRead (script : Script) : Type 0 where
-  pub fits : Fits (setting_at script).shapes ((setting_at script).chunks * (setting_at script).rows) (setting_at script).first (setting_at script).programs
-  pub chunked : 0 < (setting_at script).chunks
-
+-- what is read can be run
 abbrev pub ReadFits : Command → List ℕ → Type 0
-ReadFits command bytes = (script : Script) → Spells command bytes script → FitsAsRead script
+ReadFits command bytes = (script : Script) → Spells command bytes script → IsRunnable (setting_at script)
 
-some_chunks : (command : Command) → IsWithin command → 0 < (options_by command).chunks
-some_chunks (Run prune chunks rows) within = within.0
-some_chunks (Check chunks rows) within = within.0
-some_chunks (Gen seed sessions txns) within = omega arith
+-- a table has from 1 to 64 chunks of 1 to 1024 positions
+record AreFew (options : Options) : Type 0 where
+  some_chunk : 0 < options.chunks
+  few_chunks : options.chunks ≤ 64
+  some_row : 0 < options.rows
+  few_rows : options.rows ≤ 1024
+
+few_of : (command : Command) → IsWithin command → AreFew (options_by command)
+few_of (Run prune chunks rows) within = record { some_chunk = within.0; few_chunks = within.1; some_row = within.2; few_rows = within.3 }
+few_of (Check chunks rows) within = record { some_chunk = within.0; few_chunks = within.1; some_row = within.2; few_rows = within.3 }
+few_of (Gen seed sessions txns) within = record { some_chunk = omega arith; few_chunks = omega arith; some_row = omega arith; few_rows = omega arith }
+
+few_runnable : (script : Script) → AreFew script.options
+    → Fits (catalog_shapes script.catalog) (script.options.chunks * script.options.rows) script.rows (map (λ session. session.txns) script.sessions)
+    → IsRunnable (setting_at script)
+few_runnable script few fits = record {
+  fits = fits;
+  some_chunk = few.some_chunk;
+  few_chunks = few.few_chunks;
+  some_row = few.some_row;
+  numbered =
+      let all : script.options.chunks * script.options.rows ≤ 64 * script.options.rows = mul-le-mul_right script.options.rows few.few_chunks in
+      omega (arith, all, few.few_rows);
+}
 
 pub read_fits : (command : Command) (bytes : List ℕ) → IsWithin command
     → ((bytes : List ℕ) (options : Options) (script : Script) → Reads bytes options (Ok script)
@@ -105,11 +123,9 @@ pub read_fits : (command : Command) (bytes : List ℕ) → IsWithin command
     → ((bytes : List ℕ) (options : Options) (script : Script) → Reads bytes options (Ok script) → script.options ≡ options) → ReadFits command bytes
 read_fits command bytes within fits same script s =
     let is : options_by command ≡ script.options = sym (same bytes (options_by command) script s) in
-    record {
-      fits = subst (λ (o : Options). Fits (catalog_shapes script.catalog) (o.chunks * o.rows) script.rows (map (λ session. session.txns) script.sessions))
-          is (fits bytes (options_by command) script s);
-      chunked = subst (λ (o : Options). 0 < o.chunks) is (some_chunks command within);
-    }
+    few_runnable script (subst AreFew is (few_of command within))
+    (subst (λ (o : Options). Fits (catalog_shapes script.catalog) (o.chunks * o.rows) script.rows (map (λ session. session.txns) script.sessions))
+    is (fits bytes (options_by command) script s))
 
 -- nothing was done for want of memory
 gave_up : (command : Command) (bytes : List ℕ) (script : Script) (status : ℕ) (given : Option Outcome) (before after : Option (List ℕ)) → Once → Spells command bytes script → status ≡ 5 → IsNone given → Answers command bytes status given before after
@@ -139,7 +155,7 @@ ran_answers command bytes script status given before after once law fit run s is
           (given_outcome (Lawful (setting_at script)) given (comes_to script) is (law.lawful (setting_at script) script.schedule));
       serial = λ other t. subst (λ (x : Script). IfSome given (IsSerial (setting_at x))) (only other t)
           (given_outcome (IsSerial (setting_at script)) given (comes_to script) is
-          (law.serial (setting_at script) script.schedule (fit script s).chunked (fit script s).fits));
+          (law.serial (setting_at script) script.schedule (fit script s).some_chunk (fit script s).fits));
       outcome_there = λ h. (run, (script, s), ends);
     }
 
@@ -238,19 +254,20 @@ no_memory_made command script status given before after five nothing =
       counts = no_outcome CountsAddUp given nothing;
     }
 
--- what is made fits, and is of tables that have chunks
-pub made_fits : (seed sessions txns : ℕ) → MadeFits seed sessions txns → FitsAsRead (made seed sessions txns)
+-- what is made can be run
+pub made_fits : (seed sessions txns : ℕ) → MadeFits seed sessions txns → IsRunnable (setting_at (made seed sessions txns))
 unfolding made
-made_fits seed sessions txns fits = record { fits = fits; chunked = omega arith }
+made_fits seed sessions txns fits =
+    few_runnable (made seed sessions txns) (record { some_chunk = omega arith; few_chunks = omega arith; some_row = omega arith; few_rows = omega arith }) fits
 
 summarized_makes : (seed sessions txns : ℕ) → sessions ≤ 64 → txns ≤ 1000 → (status : ℕ) (given : Option Outcome) (before after : Option (List ℕ))
-    → Theorem → BankLaws → FitsAsRead (made seed sessions txns) → Summarizes (made seed sessions txns) status given before after
+    → Theorem → BankLaws → IsRunnable (setting_at (made seed sessions txns)) → Summarizes (made seed sessions txns) status given before after
     → Makes (Gen seed sessions txns) (made seed sessions txns) status given before after
 summarized_makes seed sessions txns few short status given before after law bank fit ran =
     let script : Script = made seed sessions txns in
     let o : Outcome = comes_to script in
     let lawful : Lawful (setting_at script) o = law.lawful (setting_at script) script.schedule in
-    let serial : IsSerial (setting_at script) o = law.serial (setting_at script) script.schedule fit.chunked fit.fits in
+    let serial : IsSerial (setting_at script) o = law.serial (setting_at script) script.schedule fit.some_chunk fit.fits in
     record {
       does = inr ran;
       lawful = given_outcome (Lawful (setting_at script)) given o ran.outcome_is lawful;
@@ -263,7 +280,7 @@ summarized_makes seed sessions txns few short status given before after law bank
 
 -- what was done with a made script
 pub made_answers : (seed sessions txns : ℕ) → sessions ≤ 64 → txns ≤ 1000 → (script : Script) (status : ℕ) (given : Option Outcome)
-    (before after : Option (List ℕ)) → Theorem → BankLaws → FitsAsRead (made seed sessions txns) → script ≡ made seed sessions txns
+    (before after : Option (List ℕ)) → Theorem → BankLaws → IsRunnable (setting_at (made seed sessions txns)) → script ≡ made seed sessions txns
     → ((status ≡ 5) × IsNone given) ⊎ Summarizes script status given before after
     → Makes (Gen seed sessions txns) (made seed sessions txns) status given before after
 made_answers seed sessions txns few short script status given before after law bank fit is done =

@@ -1,8 +1,10 @@
--- A script as the machine runs it.
+-- A script as the machine and the engine run it.
 use Rattle.std.specs.Prelude.{map}
 use Rattle.hy_bind.specs.Shapes.{catalog_shapes}
 use Rattle.hy_script.specs.declared.Script.{Script}
 use Rattle.hy_machine.specs.declared.Setting.{Setting}
+use Rattle.hy_near.specs.Runnable.{IsRunnable}
+use Rattle.hy_typed.specs.Scripts.{IsTypedScript}
 
 -- what of a script does not change while it runs
 abbrev pub setting_at : Script → Setting
@@ -13,3 +15,8 @@ setting_at script = record {
   first = script.rows;
   programs = map (λ session. session.txns) script.sessions;
 }
+
+-- the engine can run a script
+pub record CanRun (script : Script) : Type 0 where
+  pub runnable : IsRunnable (setting_at script)
+  pub typed : IsTypedScript script

@@ -12,6 +12,7 @@ ghost use Rattle.hy_words.specs.Words.{IsWithin, command_of};
 ghost use Rattle.hy_gen.specs.Made.{made};
 ghost use Rattle.hy_top.specs.Lines.{usage_line, refusal_line_of, checked_line};
 ghost use Rattle.hy_top.specs.Program.{bytes_read, bytes_left, options_by, made_by, names_at, comes_to};
+ghost use Rattle.hy_top.specs.Settings.{CanRun};
 ghost use Rattle.hy_top.specs.Reports.{Writes, Answers, Runs, Checks, Summarizes, Does, Makes};
 
 mod lines;
@@ -24,9 +25,10 @@ use hy_limits::MOST_BYTES;
 use hy_outside::{ReadAllError, Sink, Source, read_all, write_all};
 use hy_render::{Names, Outcome, render, summarize};
 use hy_script::{Code, Options, ReadError, Refused, Script, read_once, what_is_read_fits};
+use hy_typed::{what_is_made_is_typed, what_is_read_is_typed};
 use hy_words::{Command, WordsError};
 use lines::{checked, refusal_line};
-use settings::setting_of;
+use settings::{Given, given_of};
 use std::alloc::{AllocError, Global};
 
 /// What a call of the program came to.
@@ -119,6 +121,7 @@ fn run_made<W: Sink>(alloc: Global, seed: u32, sessions: u32, txns: u32, sink: &
     ensures statuses { (result.status ≢ 1) × (result.status ≢ 2) × (result.status ≢ 3) × (result.status ≤ 5) }
 {
     made_scripts_fit();
+    what_is_made_is_typed();
     made_outcomes_keep_the_money();
     made_transactions_end_in_four_ways();
     runs_are_lawful();
@@ -235,6 +238,7 @@ fn answer<W: Sink>(alloc: Global, command: Command, bytes: &[u8], sink: &mut W) 
 {
     read_once();
     what_is_read_fits();
+    what_is_read_is_typed();
     runs_are_lawful();
     match hy_script::read(alloc, bytes, &options_of(command)) {
         Ok(script) => perform(alloc, command, script, sink),
@@ -248,26 +252,28 @@ fn answer<W: Sink>(alloc: Global, command: Command, bytes: &[u8], sink: &mut W) 
 
 /// Does what a command asks for with a script.
 fn perform<W: Sink>(alloc: Global, command: Command, script: Script, sink: &mut W) -> Report
+    requires { CanRun script }
     ensures does { (result.status ≡ 5) × (sink.new ≡ sink.old) × IsNone result.outcome
         ⊎ Does command script result.status result.outcome (W.written sink.old) (W.written sink.new) }
     ensures write_fault { result.status ≡ 4 → Rose (W.faults sink.old) (W.faults sink.new) }
     ensures sink_steady { result.status ≢ 4 → W.faults sink.new ≡ W.faults sink.old }
 {
     match command {
-        Command::Run { .. } => run_script(alloc, script, sink),
+        Command::Run { prune, .. } => run_script(alloc, script, prune, sink),
         Command::Check { .. } => check_script(alloc, script, sink),
         Command::Gen { .. } => summarize_script(alloc, script, sink),
     }
 }
 
-/// Runs a script and writes the text of its outcome.
-fn run_script<W: Sink>(alloc: Global, script: Script, sink: &mut W) -> Report
+/// Runs a script, in chunks that are pruned or not, and writes the text of its outcome.
+fn run_script<W: Sink>(alloc: Global, script: Script, prunes: bool, sink: &mut W) -> Report
+    requires { CanRun script }
     ensures run { (result.status ≡ 5) × (sink.new ≡ sink.old) × IsNone result.outcome
         ⊎ Runs script result.status result.outcome (W.written sink.old) (W.written sink.new) }
     ensures write_fault { result.status ≡ 4 → Rose (W.faults sink.old) (W.faults sink.new) }
     ensures sink_steady { result.status ≢ 4 → W.faults sink.new ≡ W.faults sink.old }
 {
-    match outcome_and_text(alloc, script) {
+    match outcome_and_text(alloc, script, prunes) {
         Ok((outcome, written)) => tell(outcome, written.as_slice(), sink),
         Err(_) => Report {
             status: 5,
@@ -278,6 +284,7 @@ fn run_script<W: Sink>(alloc: Global, script: Script, sink: &mut W) -> Report
 
 /// Runs a script and writes the summary of its outcome.
 fn summarize_script<W: Sink>(alloc: Global, script: Script, sink: &mut W) -> Report
+    requires { CanRun script }
     ensures run { (result.status ≡ 5) × (sink.new ≡ sink.old) × IsNone result.outcome
         ⊎ Summarizes script result.status result.outcome (W.written sink.old) (W.written sink.new) }
     ensures write_fault { result.status ≡ 4 → Rose (W.faults sink.old) (W.faults sink.new) }
@@ -324,31 +331,52 @@ fn check_script<W: Sink>(alloc: Global, script: Script, sink: &mut W) -> Report
     }
 }
 
-/// The outcome of the machine's run of a script, and the names that it is printed with.
-fn named_outcome(alloc: Global, script: Script) -> Result<(Outcome, Names), AllocError>
+/// The outcome of a script that the engine runs, and the names that it is printed with.
+fn named_outcome(
+    alloc: Global,
+    script: Script,
+    prunes: bool,
+) -> Result<(Outcome, Names), AllocError>
+    requires { CanRun script }
     ensures { IfOk result (λ given. (given.0 ≡ comes_to script) × (given.1 ≡ names_at script)) }
 {
-    let (setting, names, schedule) = setting_of(alloc, script)?;
-    let machine = hy_machine::run(alloc, &setting, schedule.as_slice())?;
-    let outcome = hy_machine::outcome(alloc, &setting, &machine)?;
+    let Given {
+        setting,
+        kinds,
+        names,
+        schedule,
+    } = given_of(alloc, script)?;
+    let outcome = hy_world::run(
+        alloc,
+        setting,
+        kinds.as_slice(),
+        prunes,
+        schedule.as_slice(),
+    )?;
     Ok((outcome, names))
 }
 
-/// The outcome of the machine's run of a script, and its text.
-fn outcome_and_text(alloc: Global, script: Script) -> Result<(Outcome, Vec<u8>), AllocError>
+/// The outcome of a script that the engine runs, and its text.
+fn outcome_and_text(
+    alloc: Global,
+    script: Script,
+    prunes: bool,
+) -> Result<(Outcome, Vec<u8>), AllocError>
+    requires { CanRun script }
     ensures { IfOk result (λ given. (given.0 ≡ comes_to script) × (given.1.items ≡ text (names_at script) (comes_to script))) }
 {
-    let (outcome, names) = named_outcome(alloc, script)?;
+    let (outcome, names) = named_outcome(alloc, script, prunes)?;
     let mut written = Vec::new(alloc);
     render(&names, &outcome, &mut written)?;
     Ok((outcome, written))
 }
 
-/// The outcome of the machine's run of a script, and its summary.
+/// The outcome of a script that the engine runs, and its summary.
 fn outcome_and_summary(alloc: Global, script: Script) -> Result<(Outcome, Vec<u8>), AllocError>
+    requires { CanRun script }
     ensures { IfOk result (λ given. (given.0 ≡ comes_to script) × (given.1.items ≡ summary_of (comes_to script))) }
 {
-    let (outcome, _) = named_outcome(alloc, script)?;
+    let (outcome, _) = named_outcome(alloc, script, true)?;
     let mut written = Vec::new(alloc);
     summarize(&outcome, &mut written)?;
     Ok((outcome, written))

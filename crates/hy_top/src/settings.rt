@@ -1,17 +1,19 @@
-//! What the machine is given of a script.
+//! What the engine is given of a script.
 
 ghost use Rattle.std.specs.Prelude.{◌≡◌, ◌++◌, IfOk, map, drop};
 ghost use Rattle.hy_bind.specs.Shapes.{defined_shape, catalog_shapes};
 ghost use Rattle.hy_top.specs.Settings.{setting_at};
+ghost use Rattle.hy_typed.specs.Scripts.{catalog_kinds};
 ghost use Rattle.hy_top.specs.Program.{names_at};
 
 use hy_bound::{Shape, Shapes, Statements, Txn, Txns};
 use hy_machine::Setting;
 use hy_render::{Names, Texts};
 use hy_schedule::Schedule;
-use hy_schema::TableDef;
+use hy_schema::{Column, TableDef};
 use hy_script::{NamedTxns, Script};
 use hy_value::Seq;
+use hy_world::Kinds;
 use std::alloc::{AllocError, Global};
 
 /// The shape of a table. A width past 32 bits would be want of memory.
@@ -27,9 +29,25 @@ fn shape_of(def: &TableDef) -> Result<Shape, AllocError>
     }
 }
 
-/// The machine's setting of a script, the names that its outcome is printed with, and its schedule.
-pub fn setting_of(alloc: Global, script: Script) -> Result<(Setting, Names, Schedule), AllocError>
-    ensures { IfOk result (λ given. (given.0 ≡ setting_at script) × (given.1 ≡ names_at script) × (given.2 ≡ script.schedule)) }
+/// What the engine is given of a script.
+#[derive(Drop)]
+pub struct Given {
+    /// What doesn't change while it runs.
+    pub setting: Setting,
+    /// The types of the columns of each table.
+    pub kinds: Seq<Kinds>,
+    /// The names that its outcome is printed with.
+    pub names: Names,
+    /// Its schedule.
+    pub schedule: Schedule,
+}
+
+/// What the engine is given of a script.
+pub fn given_of(alloc: Global, script: Script) -> Result<Given, AllocError>
+    ensures setting { IfOk result (λ given. given.setting ≡ setting_at script) }
+    ensures kinds { IfOk result (λ given. given.kinds ≡ catalog_kinds script.catalog) }
+    ensures names { IfOk result (λ given. given.names ≡ names_at script) }
+    ensures schedule { IfOk result (λ given. given.schedule ≡ script.schedule) }
 {
     let Script {
         catalog,
@@ -39,6 +57,7 @@ pub fn setting_of(alloc: Global, script: Script) -> Result<(Setting, Names, Sche
         options,
     } = script;
     let shapes = shapes_of(alloc, catalog.tables())?;
+    let kinds = all_kinds(alloc, catalog.tables())?;
     let tables = table_names(alloc, catalog.tables())?;
     let names = session_names(alloc, sessions.as_slice())?;
     let programs = programs_of(alloc, sessions)?;
@@ -53,7 +72,34 @@ pub fn setting_of(alloc: Global, script: Script) -> Result<(Setting, Names, Sche
         tables,
         sessions: names,
     };
-    Ok((setting, names, schedule))
+    Ok(Given {
+        setting,
+        kinds,
+        names,
+        schedule,
+    })
+}
+
+/// The types of a table's columns.
+fn kinds_of(alloc: Global, columns: &[Column]) -> Result<Kinds, AllocError>
+    ensures { IfOk result (λ kinds. kinds ≡ map (λ column. column.kind) columns.now) }
+{
+    let mut kinds = Seq::new(alloc);
+    for column in columns {
+        kinds.push(column.kind)?;
+    }
+    Ok(kinds)
+}
+
+/// The types of the columns of each table.
+fn all_kinds(alloc: Global, tables: &[TableDef]) -> Result<Seq<Kinds>, AllocError>
+    ensures { IfOk result (λ kinds. kinds ≡ catalog_kinds tables.now) }
+{
+    let mut all = Seq::new(alloc);
+    for table in tables {
+        all.push(kinds_of(alloc, table.columns.as_slice())?)?;
+    }
+    Ok(all)
 }
 
 /// The shapes of tables.

@@ -1,5 +1,6 @@
-use Rattle.std.proofs.Common.{inl, inr}
+use Rattle.std.proofs.Common.{inl, inr, subst, sym}
 use Rattle.std.proofs.Math.Logic.{⊎_elim}
+use Rattle.hy_top.specs.Settings.{CanRun}
 use Rattle.hy_top.proofs.Answering.{made_answers, made_fits}
 use Rattle.hy_top.proofs.run_made.Goals as goal
 
@@ -14,3 +15,13 @@ returns-in-Ok-clause-makes g c =
     })
     (made_fits c.args.seed c.args.sessions c.args.txns (c.made_scripts_fit.ensures c.args.seed c.args.sessions c.args.txns c.requires.0 c.requires.1)) c.in-Ok.ensures
     (⊎_elim (λ p. inl (p.0, p.2)) (λ r. inr r) c.summarize_script.ensures.run)
+
+pub summarize_script-requires : goal.summarize_script-requires
+summarize_script-requires g c =
+    let seed = c.args.seed in
+    let sessions = c.args.sessions in
+    let txns = c.args.txns in
+    subst CanRun (sym c.in-Ok.ensures) (record {
+      runnable = made_fits seed sessions txns (c.made_scripts_fit.ensures seed sessions txns c.requires.0 c.requires.1);
+      typed = c.what_is_made_is_typed.ensures seed sessions txns c.requires.0 c.requires.1;
+    })

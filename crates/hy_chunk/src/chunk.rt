@@ -208,7 +208,7 @@ impl Chunk {
     {
         hy_undo::places_step();
         for place in 0..self.positions.len() {
-            self.positions.prune_at(place, cover);
+            self.positions.prune_records(place, cover);
         }
         self.positions.narrow();
     }

@@ -485,6 +485,19 @@ impl Positions {
         }
     }
 
+    /// Prunes a position where it may have records: elsewhere there is nothing to prune.
+    pub fn prune_records(&mut self, place: usize, cover: &Cover)
+        requires { place < length self.old.places }
+        ensures kinds { self.new.kinds ≡ self.old.kinds }
+        ensures key { self.new.key ≡ self.old.key }
+        ensures places { self.new.places ≡ slice_set self.old.places place (pruned_place cover.now (nth self.old.places place)) }
+        ensures room { self.old.room ≤ self.new.room }
+    {
+        if self.is_versioned(place) {
+            self.prune_at(place, cover);
+        }
+    }
+
     /// Whether a position may have records: else every viewer sees what is in place.
     pub fn is_versioned(&self, place: usize) -> bool
         requires { place < length self.now.places }

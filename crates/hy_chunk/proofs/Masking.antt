@@ -1,5 +1,5 @@
 -- Masks of comparisons: where a bit is clear nothing is wanted of the row in place.
-use Rattle.std.proofs.Common.{◌≡◌, ℕ, ℤ, zero, suc, ◌<◌, Bool, true, false, List, [], ◌∷◌, ◌++◌, ◌+◌, map, take, length, get_or, Option, None, Some, refl, sym, ap, ◌∙◌, arith, cond}
+use Rattle.std.proofs.Common.{◌≡◌, ℕ, ℤ, zero, suc, ◌<◌, ◌≤◌, Bool, true, false, List, [], ◌∷◌, ◌++◌, ◌+◌, map, take, length, get_or, Option, None, Some, refl, sym, ap, ◌∙◌, arith, subst, cond}
 use Rattle.std.specs.Prelude.{Contains, IfOk, IfSome, Result, Ok, Err, not, ◌&&◌, ◌||◌}
 use Rattle.std.specs.List.{flat_map, list_all}
 use Rattle.std.proofs.lemmas.Bool.{and_parts, both_ways, false_from_ne_true}
@@ -16,7 +16,9 @@ use Rattle.hy_bound.specs.Predicate.{column_of, compared, is_known, truth_of}
 use Rattle.hy_bound.specs.Projection.{projected}
 use Rattle.hy_bound.specs.Records.{conjuncts}
 use Rattle.hy_bound.specs.Truths.{conjuncts_truth}
-use Rattle.hy_column.specs.Compared.{compares_value}
+use Rattle.hy_value.specs.declared.Kind.{Kind}
+use Rattle.hy_value.specs.declared.Kind.TheVariants as kinds
+use Rattle.hy_column.specs.Compared.{column_compared, compares_value}
 use Rattle.hy_plan.specs.Reads.{is_read_of}
 use Rattle.hy_chain.specs.Chains.{Undo, seen}
 use Rattle.hy_undo.specs.Images.{Image, before}
@@ -32,21 +34,17 @@ use Rattle.hy_chunk.proofs.Places.{Fields, all, length_all, at_all}
 
 -- ---- rows and positions
 
-pub rows_in_place : (f : Fields) (g : List Value → Bool) → map g f.rows ≡ map (λ (p : Place). g p.version.row) (all f)
-rows_in_place f g =
-    ext_get_or false (map g f.rows) (map (λ (p : Place). g p.version.row) (all f))
-    (length-map f.rows g ∙ sym (length-map (all f) (λ (p : Place). g p.version.row) ∙ length_all f))
+pub rows_in_place : (f : Fields) → f.rows ≡ map (λ (p : Place). p.version.row) (all f)
+rows_in_place f =
+    ext_get_or [] f.rows (map (λ (p : Place). p.version.row) (all f)) (sym (length-map (all f) (λ (p : Place). p.version.row) ∙ length_all f))
     (λ j l.
-    let here : j < length f.rows = omega (arith, l, length-map f.rows g) in
-    let there : j < length (all f) = omega (arith, here, length_all f) in
-    mapped g f.rows j [] here
-    ∙ (ap (λ (p : Place). g p.version.row) (sym (at_all f j (blank_with []) here))
-    ∙ sym (mapped (λ (p : Place). g p.version.row) (all f) j (blank_with []) there)))
+    let there : j < length (all f) = omega (arith, l, length_all f) in
+    ap (λ (p : Place). p.version.row) (sym (at_all f j (blank_with []) l)) ∙ sym (row_at (all f) j there))
   where
-    mapped : {A : Type 0} (h : A → Bool) (xs : List A) (k : ℕ) (d : A) → k < length xs → get_or (map h xs) k false ≡ h (get_or xs k d)
-    mapped h [] k d l = absurd (omega arith)
-    mapped h (x ∷ xs) zero d l = refl
-    mapped h (x ∷ xs) (suc k) d l = mapped h xs k d (omega arith)
+    row_at : (places : List Place) (k : ℕ) → k < length places → get_or (map (λ (p : Place). p.version.row) places) k [] ≡ (nth places k).version.row
+    row_at [] k l = absurd (omega arith)
+    row_at (p ∷ places) zero l = refl
+    row_at (p ∷ places) (suc k) l = row_at places k (omega arith)
 
 -- ---- one comparison
 
@@ -55,11 +53,15 @@ compared_is op number Null = refl
 compared_is op number (Int n) = refl
 compared_is op number (Text t) = refl
 
-pub one_admits : (pred : Condition) (column : ℕ) (op : Cmp) (number : ℤ) (places : List Place) (mask : List Bool)
-    → pred ≡ Compare column op (Literal (Int number))
-    → mask ≡ map (λ (p : Place). compares_value op number (column_of p.version.row column)) places → Admits (pred ∷ []) places mask
+-- what is compared of the rows in place
+abbrev compared_at : Cmp → ℤ → ℕ → List Place → List Bool
+compared_at op number column places =
+    map (λ (row : List Value). compares_value op number (column_of row column)) (map (λ (p : Place). p.version.row) places)
+
+one_admits : (pred : Condition) (column : ℕ) (op : Cmp) (number : ℤ) (places : List Place) (mask : List Bool)
+    → pred ≡ Compare column op (Literal (Int number)) → mask ≡ compared_at op number column places → Admits (pred ∷ []) places mask
 one_admits pred column op number places mask is made = record {
-  many = ap length made ∙ length-map places (λ (p : Place). compares_value op number (column_of p.version.row column));
+  many = ap length made ∙ many places;
   clear = λ place l e. record {
     pred = pred;
     among = (zero, omega arith, refl);
@@ -69,12 +71,26 @@ one_admits pred column op number places mask is made = record {
   };
 }
   where
+    many : (ps : List Place) → length (compared_at op number column ps) ≡ length ps
+    many [] = refl
+    many (p ∷ ps) = let rest = many ps in omega (arith, rest)
+
     bit_at : (ps : List Place) (k : ℕ) → k < length ps
-        → get_or (map (λ (p : Place). compares_value op number (column_of p.version.row column)) ps) k false
-        ≡ compares_value op number (column_of (nth ps k).version.row column)
+        → get_or (compared_at op number column ps) k false ≡ compares_value op number (column_of (nth ps k).version.row column)
     bit_at [] k l = absurd (omega arith)
     bit_at (p ∷ ps) zero l = refl
     bit_at (p ∷ ps) (suc k) l = bit_at ps k (omega arith)
+
+-- so of a column of numbers; of one of texts no mask tells
+pub column_admits : (pred : Condition) (column : ℕ) (op : Cmp) (number : ℤ) (places : List Place) (kind : Kind) (found : Option (List Bool))
+    → pred ≡ Compare column op (Literal (Int number))
+    → found ≡ column_compared op number column (map (λ (p : Place). p.version.row) places) kind
+    → IfSome found (λ mask. Admits (pred ∷ []) places mask)
+column_admits pred column op number places kinds.Int found is told =
+    subst (λ (o : Option (List Bool)). IfSome o (λ mask. Admits (pred ∷ []) places mask)) (sym told)
+    (one_admits pred column op number places (compared_at op number column places) is refl)
+column_admits pred column op number places kinds.Str found is told =
+    subst (λ (o : Option (List Bool)). IfSome o (λ mask. Admits (pred ∷ []) places mask)) (sym told) tt
 
 -- ---- many
 
@@ -160,11 +176,17 @@ nothing_wanted columns pred keys place none bars viewer =
     ap (λ (chain : List (Undo Image)). kept_by columns (conditions_of pred keys) (cell_of (seen before viewer place.version chain))) none
     ∙ in_place_barred columns pred keys place bars
 
--- of an answer that may be there
-pub ok_weaker : {A E : Type 0} (r : Result (Option A) E) (P Q : A → Type 0) → ((x : A) → P x → Q x) → IfOk r (λ o. IfSome o P) → IfOk r (λ o. IfSome o Q)
+-- of an answer
+pub ok_weaker : {A E : Type 0} (r : Result A E) (P Q : A → Type 0) → ((x : A) → P x → Q x) → IfOk r P → IfOk r Q
 ok_weaker (Err e) P Q f h = tt
-ok_weaker (Ok None) P Q f h = tt
-ok_weaker (Ok (Some x)) P Q f h = f x h
+ok_weaker (Ok x) P Q f h = f x h
+
+-- the type of a column that isn't there
+pub past_end : (types : List Kind) (column : ℕ) (kind : Kind) → length types ≤ column → get_or types column kind ≡ kind
+past_end [] zero kind l = refl
+past_end [] (suc column) kind l = refl
+past_end (type ∷ types) zero kind l = absurd (omega (arith, l))
+past_end (type ∷ types) (suc column) kind l = past_end types column kind (omega (arith, l))
 
 pub is_false : (b : Bool) → not b ≡ true → b ≡ false
 is_false true e = absurd (both_ways false refl e)

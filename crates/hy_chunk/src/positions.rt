@@ -3,9 +3,9 @@
 ghost use Rattle.std.specs.Prelude.{◌≡◌, ◌+◌, ◌<◌, ◌≤◌, ◌&&◌, ◌||◌, ◌==◌, ◌^◌, nat_le, nat_lt, not as negated, IfOk};
 ghost use Rattle.std.specs.Prelude.{OnOk, OnErr, length, replicate, slice_set, vec_len, map, true, ℕ, slice_index_or, [], ◌∷◌};
 ghost use Rattle.std.specs.Prelude.{if◌then◌else◌};
-ghost use Rattle.std.specs.Prelude.{◌++◌, Contains, IfSome, false};
-ghost use Rattle.hy_bound.specs.Predicate.{column_of};
-ghost use Rattle.hy_column.specs.Compared.{compares_value};
+ghost use Rattle.std.specs.Prelude.{◌++◌, Contains, false};
+ghost use Rattle.hy_column.specs.Compared.{column_compared};
+ghost use Rattle.hy_value.specs.declared.Kind.{Kind};
 ghost use Rattle.std.specs.List.{AllByRecursion};
 ghost use Rattle.std.specs.List.Sorted.{IsStrictlyIncreasing};
 ghost use Rattle.hy_value.specs.declared.Value.{Value};
@@ -474,8 +474,8 @@ impl Positions {
         op: Cmp,
         right: i64,
     ) -> Result<Option<Mask>, AllocError>
-        ensures { IfOk result (λ found. IfSome found (λ mask. mask
-            ≡ map (λ place. compares_value op right (column_of place.version.row column)) self.now.places)) }
+        ensures { IfOk result (λ found. found ≡ column_compared op right column (map (λ place. place.version.row) self.now.places)
+            (slice_index_or self.now.kinds column Kind.Str)) }
     {
         let column = column as usize;
         if column < self.columns.width() {

@@ -1,7 +1,7 @@
 //! The columns of a chunk, seen as its rows.
 
-ghost use Rattle.std.specs.Prelude.{◌≡◌, ◌<◌, [], ℕ, List, IfOk, IfSome, length, map, replicate, slice_index_or, slice_set};
-ghost use Rattle.hy_column.specs.Compared.{compares_value};
+ghost use Rattle.std.specs.Prelude.{◌≡◌, ◌<◌, [], ℕ, List, IfOk, length, map, replicate, slice_index_or, slice_set};
+ghost use Rattle.hy_column.specs.Compared.{column_compared};
 ghost use Rattle.hy_column.specs.Cells.{FitsKind, first_value, number_value, text_value};
 ghost use Rattle.hy_value.specs.declared.Value.{Value};
 ghost use Rattle.hy_value.specs.declared.Kind.{Kind};
@@ -169,8 +169,7 @@ impl Columns {
         right: i64,
     ) -> Result<Option<Mask>, AllocError>
         requires { column < length self.now.kinds }
-        ensures { IfOk result (λ found. IfSome found (λ mask. mask
-            ≡ map (λ row. compares_value op right (slice_index_or row column Value.Null)) self.now.rows)) }
+        ensures { IfOk result (λ found. found ≡ column_compared op right column self.now.rows (slice_index_or self.now.kinds column Kind.Str)) }
     {
         match &self.columns[column] {
             Column::Int(numbers) => Ok(Some(numbers.compare(alloc, op, right)?)),

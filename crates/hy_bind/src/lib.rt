@@ -41,16 +41,42 @@ pub fn bind(
     ensures accepts { OnOk result (bind_fault script.now catalog.now (statement_of ast.now) ≡ None) }
     ensures refuses { IfErr result (λ error. Fails error (bind_fault script.now catalog.now (statement_of ast.now))) }
 {
-    let tables = tables::tables(alloc, ast)?;
-    let Some(numbers) = tables::numbers(alloc, script, catalog, tables.as_slice())? else {
+    let Some(table) = tables::only(ast) else {
+        return joined(alloc, script, catalog, ast);
+    };
+    let Some(number) = catalog.find(text_in(script, table)) else {
         return Err(BindError::Refused(BindFault::UnknownTable));
     };
     let scope = Scope {
         script,
         catalog,
-        tables: numbers.as_slice(),
+        tables: &[number],
     };
     statement(alloc, &scope, ast)
+}
+
+/// A statement of any number of tables.
+fn joined(
+    alloc: Global,
+    script: &[u8],
+    catalog: &Catalog,
+    ast: &Statement,
+) -> Result<Bound, BindError>
+    requires { NamesTables (statement_of ast.now) }
+    ensures { Binds result (bind_fault script.now catalog.now (statement_of ast.now)) (bound_of script.now catalog.now (statement_of ast.now)) }
+{
+    let tables = tables::tables(alloc, ast)?;
+    match tables::numbers(alloc, script, catalog, tables.as_slice())? {
+        Some(numbers) => {
+            let scope = Scope {
+                script,
+                catalog,
+                tables: numbers.as_slice(),
+            };
+            statement(alloc, &scope, ast)
+        }
+        None => Err(BindError::Refused(BindFault::UnknownTable)),
+    }
 }
 
 /// A statement whose tables are there.

@@ -1,6 +1,6 @@
 //! The tables that a statement names.
 
-ghost use Rattle.std.specs.Prelude.{◌≡◌, [], ◌∷◌, Some, None, map, IfOk};
+ghost use Rattle.std.specs.Prelude.{◌≡◌, [], ◌∷◌, Some, None, map, IfOk, IfSome};
 ghost use Rattle.std.specs.Option.{option_map};
 ghost use Rattle.hy_ast.specs.Trees.{statement_of, selection_of};
 ghost use Rattle.hy_bind.specs.Literals.{text_of_span};
@@ -12,6 +12,32 @@ use hy_ast::{Join, Selection, Statement};
 use hy_schema::{Catalog, Names};
 use hy_token::Span;
 use std::alloc::{AllocError, Global};
+
+/// The span of the table of a statement that names no other, as most do.
+pub fn only(ast: &Statement) -> Option<Span>
+    ensures { IfSome result (λ table. tables_of (statement_of ast.now) ≡ table ∷ []) }
+{
+    match ast {
+        Statement::Insert { table, .. }
+        | Statement::Update { table, .. }
+        | Statement::Delete { table, .. } => Some(*table),
+        Statement::Select(query) => only_of(query),
+        _ => None,
+    }
+}
+
+/// The span of the table of a SELECT that names no other.
+fn only_of(query: &Selection) -> Option<Span>
+    ensures { IfSome result (λ table. tables_of (tree.Select (selection_of query.now)) ≡ table ∷ []) }
+{
+    match query {
+        Selection::Rows { table, joins, .. } => match joins.as_slice() {
+            [] => Some(*table),
+            _ => None,
+        },
+        Selection::Count { table, .. } | Selection::Groups { table, .. } => Some(*table),
+    }
+}
 
 /// The spans of the tables that a statement names, in order.
 pub fn tables(alloc: Global, ast: &Statement) -> Result<Vec<Span>, AllocError>

@@ -1,7 +1,7 @@
 -- The pieces of a statement, gathered one by one.
-use Rattle.std.proofs.Common.{◌≡◌, ℕ, suc, ◌-◌, ◌+◌, ◌<◌, ◌≤◌, true, false, List, [], ◌∷◌, ◌++◌, Result, Ok, Err, refl, sym, ap, ◌∙◌, append_assoc, arith}
+use Rattle.std.proofs.Common.{◌≡◌, ℕ, zero, suc, ◌-◌, ◌+◌, ◌<◌, ◌≤◌, true, false, List, [], ◌∷◌, ◌++◌, Result, Ok, Err, refl, sym, ap, ◌∙◌, append_assoc, arith}
 use Rattle.std.proofs.lemmas.List.{append-nil}
-use Rattle.hy_token.specs.Token.{token_at}
+use Rattle.hy_token.specs.Token.{token_at, LiesWithin}
 use Rattle.hy_token.specs.declared.Bad.{Bad}
 use Rattle.hy_token.specs.declared.Sign.TheVariants.{Semicolon}
 use Rattle.hy_token.specs.declared.Span.{Span}
@@ -9,12 +9,28 @@ use Rattle.hy_token.specs.declared.Token.{Token}
 use Rattle.hy_token.specs.declared.Token.TheVariants.{Sign, End}
 use Rattle.hy_parse.specs.declared.Piece.{Piece}
 use Rattle.hy_parse.specs.declared.Ending.TheVariants.{Closed, Cut, Bad as BadEnding}
-use Rattle.hy_parse.specs.Pieces.{Pieces, piece_of, ended, preceded, continued, pieces_within}
+use Rattle.std.specs.Prelude.{length, IfOk}
+use Rattle.hy_parse.specs.Pieces.{Pieces, piece_of, ended, preceded, continued, pieces_within, most_pieces, pieces_of}
 use Rattle.hy_parse.specs.Reading.{same}
 
 -- pieces behind others
 abbrev pub behind : List Piece → Pieces → Pieces
 behind front others = record { pieces = front ++ others.pieces; ending = others.ending }
+
+-- the pieces from a token on that was found, at most this many
+abbrev pub gathered : ℕ → List ℕ → Result (Token × Span) Bad → Pieces
+gathered zero bytes found = ended found
+gathered (suc most) bytes found = continued found (λ next. pieces_within most bytes next)
+
+gathered_at : (most : ℕ) (bytes : List ℕ) (at : ℕ) → gathered most bytes (token_at bytes at) ≡ pieces_within most bytes at
+unfolding pieces_within
+gathered_at zero bytes at = refl
+gathered_at (suc most) bytes at = refl
+
+-- a token that was found ends in the script
+pub ends_within : (len at : ℕ) (found : Result (Token × Span) Bad) → IfOk found (λ f. LiesWithin len at f.1) → IfOk found (λ f. f.1.end ≤ len)
+ends_within len at (Ok found) lies = lies.within
+ends_within len at (Err bad) lies = tt
 
 -- ---- one step
 
@@ -34,33 +50,39 @@ is_within _ span others no_end no_last = refl
 
 -- ---- a turn of the loop
 
+pub at_start : (bytes : List ℕ) (at most : ℕ) (found : Result (Token × Span) Bad) (front : List Piece) → found ≡ token_at bytes at → most ≡ most_pieces (length bytes) found → front ≡ []
+    → behind front (gathered (most - 0) bytes found) ≡ pieces_of bytes at
+at_start bytes at most found front is limit none =
+    let same : most - 0 ≡ most = omega arith in
+    let most_is : most - 0 ≡ most_pieces (length bytes) (token_at bytes at) = same ∙ limit ∙ ap (most_pieces (length bytes)) is in
+    rw (none, most_is, is) (gathered_at (most_pieces (length bytes) (token_at bytes at)) bytes at)
+
 module _ (bytes : List ℕ) (front : List Piece) (total : Pieces) where
-  step : (most i at : ℕ) → i < most → behind front (pieces_within (most - i) bytes at) ≡ total → behind front (continued (token_at bytes at) (λ next. pieces_within (most - (i + 1)) bytes next)) ≡ total
-  unfolding pieces_within
-  step most i at lt so_far = let k : most - i ≡ suc (most - (i + 1)) = omega arith in rw k at so_far
+  step : (most i : ℕ) (found : Result (Token × Span) Bad) → i < most → behind front (gathered (most - i) bytes found) ≡ total → behind front (continued found (λ next. pieces_within (most - (i + 1)) bytes next)) ≡ total
+  step most i found lt so_far = let k : most - i ≡ suc (most - (i + 1)) = omega arith in rw k at so_far
 
   -- what is known of the whole where no piece follows those in front
   whole : (r : Result (Token × Span) Bad) → behind front (ended r) ≡ total → (front ≡ total.pieces) × ((ended r).ending ≡ total.ending)
   whole (Ok found) is = (sym (append-nil front) ∙ ap (λ (p : Pieces). p.pieces) is, ap (λ (p : Pieces). p.ending) is)
   whole (Err bad) is = (sym (append-nil front) ∙ ap (λ (p : Pieces). p.pieces) is, ap (λ (p : Pieces). p.ending) is)
 
-  pub at_bad : (most i at : ℕ) (bad : Bad) → i < most → Err bad ≡ token_at bytes at → behind front (pieces_within (most - i) bytes at) ≡ total → (front ≡ total.pieces) × (BadEnding bad.at ≡ total.ending)
-  at_bad most i at bad lt is so_far = whole (Err bad) (rw (← is) at (step most i at lt so_far))
+  pub at_bad : (most i : ℕ) (found : Result (Token × Span) Bad) (bad : Bad) → i < most → found ≡ Err bad → behind front (gathered (most - i) bytes found) ≡ total → (front ≡ total.pieces) × (BadEnding bad.at ≡ total.ending)
+  at_bad most i found bad lt is so_far = whole (Err bad) (rw is at (step most i found lt so_far))
 
-  pub at_end : (most i at : ℕ) (token : Token) (span : Span) → i < most → Ok (token, span) ≡ token_at bytes at → true ≡ same End token → behind front (pieces_within (most - i) bytes at) ≡ total → (front ≡ total.pieces) × (Cut span.start ≡ total.ending)
-  at_end most i at token span lt is last so_far = whole (Ok (token, span)) (rw (is_end token span _ (sym last)) at (rw (← is) at (step most i at lt so_far)))
+  pub at_end : (most i : ℕ) (found : Result (Token × Span) Bad) (token : Token) (span : Span) → i < most → found ≡ Ok (token, span) → true ≡ same End token → behind front (gathered (most - i) bytes found) ≡ total → (front ≡ total.pieces) × (Cut span.start ≡ total.ending)
+  at_end most i found token span lt is last so_far = whole (Ok (token, span)) (rw (is_end token span _ (sym last)) at (rw is at (step most i found lt so_far)))
 
-  pub at_last : (most i at : ℕ) (token : Token) (span : Span) (new : List Piece) → i < most → Ok (token, span) ≡ token_at bytes at → new ≡ front ++ piece_of token span ∷ [] → true ≡ same (Sign Semicolon) token → behind front (pieces_within (most - i) bytes at) ≡ total → (new ≡ total.pieces) × (Closed span.end ≡ total.ending)
-  at_last most i at token span new lt is pushed last so_far =
-      let known = rw (is_last token span _ (sym last)) at (rw (← is) at (step most i at lt so_far)) in
+  pub at_last : (most i : ℕ) (found : Result (Token × Span) Bad) (token : Token) (span : Span) (new : List Piece) → i < most → found ≡ Ok (token, span) → new ≡ front ++ piece_of token span ∷ [] → true ≡ same (Sign Semicolon) token
+      → behind front (gathered (most - i) bytes found) ≡ total → (new ≡ total.pieces) × (Closed span.end ≡ total.ending)
+  at_last most i found token span new lt is pushed last so_far =
+      let known = rw (is_last token span _ (sym last)) at (rw is at (step most i found lt so_far)) in
       (pushed ∙ ap (λ (p : Pieces). p.pieces) known, ap (λ (p : Pieces). p.ending) known)
 
-  pub at_piece : (most i at : ℕ) (token : Token) (span : Span) (new : List Piece) → i < most → Ok (token, span) ≡ token_at bytes at → new ≡ front ++ piece_of token span ∷ [] → false ≡ same End token → false ≡ same (Sign Semicolon) token
-      → behind front (pieces_within (most - i) bytes at) ≡ total → behind new (pieces_within (most - (i + 1)) bytes span.end) ≡ total
-  at_piece most i at token span new lt is pushed no_end no_last so_far =
-      let known = rw (is_within token span _ (sym no_end) (sym no_last)) at (rw (← is) at (step most i at lt so_far)) in
-      rw (pushed, append_assoc) known
+  pub at_piece : (most i : ℕ) (found next : Result (Token × Span) Bad) (token : Token) (span : Span) (new : List Piece) → i < most → found ≡ Ok (token, span) → new ≡ front ++ piece_of token span ∷ [] → false ≡ same End token → false ≡ same (Sign Semicolon) token
+      → next ≡ token_at bytes span.end → behind front (gathered (most - i) bytes found) ≡ total → behind new (gathered (most - (i + 1)) bytes next) ≡ total
+  at_piece most i found next token span new lt is pushed no_end no_last is_next so_far =
+      let known = rw (is_within token span _ (sym no_end) (sym no_last)) at (rw is at (step most i found lt so_far)) in
+      rw (is_next, gathered_at (most - (i + 1)) bytes span.end, pushed, append_assoc) known
 
-  pub at_most : (most i at : ℕ) → most ≤ i → behind front (pieces_within (most - i) bytes at) ≡ total → (front ≡ total.pieces) × ((ended (token_at bytes at)).ending ≡ total.ending)
-  unfolding pieces_within
-  at_most most i at le so_far = let k : most - i ≡ 0 = omega arith in whole (token_at bytes at) (rw k at so_far)
+  pub at_most : (most i : ℕ) (found : Result (Token × Span) Bad) → most ≤ i → behind front (gathered (most - i) bytes found) ≡ total → (front ≡ total.pieces) × ((ended found).ending ≡ total.ending)
+  at_most most i found le so_far = let k : most - i ≡ 0 = omega arith in whole found (rw k at so_far)

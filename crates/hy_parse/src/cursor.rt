@@ -38,9 +38,8 @@ pub fn is_same(a: Token, b: Token) -> bool
     ensures { result ≡ same a b }
 {
     match (a, b) {
-        // The spelling of a reserved word or a sign is its own alone.
-        (Token::Reserved(a), Token::Reserved(b)) => a.spelling() == b.spelling(),
-        (Token::Sign(a), Token::Sign(b)) => a.spelling() == b.spelling(),
+        (Token::Reserved(a), Token::Reserved(b)) => a == b,
+        (Token::Sign(a), Token::Sign(b)) => a == b,
         (Token::Name, Token::Name) => true,
         (Token::Integer, Token::Integer) => true,
         (Token::Text, Token::Text) => true,

@@ -7,28 +7,26 @@ ghost use Rattle.hy_parse.specs.Pieces.{most_pieces, ended, pieces_of};
 use crate::cursor::is_same;
 use crate::{Ending, Piece};
 use hy_limits::MOST_TOKENS;
-use hy_token::{Keyword, Sign, Token, next};
+use hy_token::{Bad, Keyword, Sign, Span, Token, next};
 use std::alloc::AllocError;
 
-/// The most pieces that the statement may have that begins at the first token from `at` on. No script
+/// The most pieces that a statement may have in a script of this length, by its first token. No script
 /// has more tokens than bytes.
 #[tactic(auto, unfolding(crate::specs::Pieces::most_pieces))]
-fn most_pieces(bytes: &[u8], at: usize) -> usize
-    requires { at ≤ length bytes.now }
-    ensures { result ≡ most_pieces (length bytes.now) (token_at bytes.now at) }
+fn most_pieces(len: usize, first: Result<(Token, Span), Bad>) -> usize
+    ensures { result ≡ most_pieces len first }
 {
-    match next(bytes, at) {
-        Ok((Token::Reserved(Keyword::Schedule), _)) => bytes.len(),
+    match first {
+        Ok((Token::Reserved(Keyword::Schedule), _)) => len,
         _ => MOST_TOKENS,
     }
 }
 
-/// What follows where no piece may.
-fn no_more(bytes: &[u8], at: usize) -> Ending
-    requires { at ≤ length bytes.now }
-    ensures { result ≡ (ended (token_at bytes.now at)).ending }
+/// What follows where no piece may, by what stands there.
+fn no_more(found: Result<(Token, Span), Bad>) -> Ending
+    ensures { result ≡ (ended found).ending }
 {
-    match next(bytes, at) {
+    match found {
         Ok((_, span)) => Ending::Cut { at: span.start },
         Err(bad) => Ending::Bad { at: bad.at },
     }
@@ -41,9 +39,9 @@ pub fn pieces(bytes: &[u8], at: usize, pieces: &mut Vec<Piece>) -> Result<Ending
     ensures { IfOk result (λ ending. (pieces.new.items ≡ (pieces_of bytes.now at).pieces) × (ending ≡ (pieces_of bytes.now at).ending)) }
 {
     pieces.clear();
-    let mut at = at;
-    for _ in 0..most_pieces(bytes, at) {
-        let (token, span) = match next(bytes, at) {
+    let mut found = next(bytes, at);
+    for _ in 0..most_pieces(bytes.len(), found) {
+        let (token, span) = match found {
             Ok(found) => found,
             Err(bad) => return Ok(Ending::Bad { at: bad.at }),
         };
@@ -54,7 +52,7 @@ pub fn pieces(bytes: &[u8], at: usize, pieces: &mut Vec<Piece>) -> Result<Ending
         if is_same(Token::Sign(Sign::Semicolon), token) {
             return Ok(Ending::Closed { at: span.end });
         }
-        at = span.end;
+        found = next(bytes, span.end);
     }
-    Ok(no_more(bytes, at))
+    Ok(no_more(found))
 }

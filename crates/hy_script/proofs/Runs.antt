@@ -1,6 +1,5 @@
 -- Reading comes to one answer.
-use Rattle.std.specs.Prelude.{is_err, MatchResult}
-use Rattle.std.proofs.Common.{◌≡◌, Bool, true, false, ℕ, zero, suc, ◌<◌, ◌≤◌, List, Some, Result, Ok, Err, length, refl, sym, subst, ap, ◌∙◌, arith}
+use Rattle.std.proofs.Common.{◌≡◌, ℕ, zero, suc, ◌<◌, ◌≤◌, List, Some, Result, Ok, Err, length, refl, sym, subst, ap, ◌∙◌, arith}
 use Rattle.std.proofs.lemmas.Option.{same_Some}
 use Rattle.hy_script.specs.declared.Options.{Options}
 use Rattle.hy_script.specs.declared.Script.{Script}
@@ -92,12 +91,3 @@ pub as_bytes : (bytes : List ℕ) (options : Options) (result : Result Script Re
 as_bytes bytes options (Ok script) short good said = statements (Ok script) short good said
 as_bytes bytes options (Err (errors.Refused refusal)) short good said = statements (Err refusal) short good said
 as_bytes bytes options (Err errors.OutOfMemory) short good said = tt
-
--- what was found to be a text is one, and what was not is none
-pub is_text : {T E : Type 0} (bytes : List ℕ) (r : Result T E) (b : Bool) (P : T → Type 0) (Q : E → Type 0) → MatchResult r (λ t. P t × IsUtf8 bytes) Q → b ≡ is_err r → b ≡ false → IsUtf8 bytes
-is_text bytes (Ok t) b P Q cases is not_err = cases.1
-is_text bytes (Err e) b P Q cases is not_err = absurd cc
-
-pub is_no_text : {T E : Type 0} (bytes : List ℕ) (r : Result T E) (b : Bool) (P : T → Type 0) (Q : E → Type 0) → MatchResult r P (λ e. (IsUtf8 bytes → ⊥) × Q e) → b ≡ is_err r → b ≡ true → IsUtf8 bytes → ⊥
-is_no_text bytes (Ok t) b P Q cases is err good = absurd cc
-is_no_text bytes (Err e) b P Q cases is err good = cases.0 good

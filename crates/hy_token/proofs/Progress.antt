@@ -84,7 +84,7 @@ text_takes b bs (Some n) within = (omega arith, omega (arith, within))
 first_text-Measured : (b : ℕ) (bs : List ℕ) → Measured (b ∷ bs) (first_text (b ∷ bs))
 first_text-Measured b bs = text_takes b bs (text_rest_len bs) (text_rest_len-le-length bs)
 
-find_passes : {X : Type 0} (p : X → Bool) (xs : List X) → IfSome (find p xs) (λ x. p x ≡ true)
+pub find_passes : {X : Type 0} (p : X → Bool) (xs : List X) → IfSome (find p xs) (λ x. p x ≡ true)
 find_passes p [] = tt
 find_passes p (x ∷ xs) = either (λ o. IfSome o (λ y. p y ≡ true)) (p x) (Some x) (find p xs) (λ h. h) (λ _. find_passes p xs)
 

@@ -1,55 +1,61 @@
 // The reserved words and their spelling.
 
-ghost use Rattle.std.specs.Prelude.{◌≡◌};
+ghost use Rattle.std.specs.Prelude.{◌≡◌, find};
 ghost use Rattle.hy_token.specs.Keyword.{word_spelling, same_but_case, keyword_of};
+ghost use Rattle.hy_token.specs.Letters.{beginning_with};
 
 use crate::Keyword;
 
-const KEYWORDS: [Keyword; 37] = [
-    Keyword::And,
-    Keyword::Begin,
-    Keyword::By,
-    Keyword::Commit,
-    Keyword::Count,
-    Keyword::Create,
-    Keyword::Delete,
-    Keyword::End,
-    Keyword::From,
-    Keyword::Group,
-    Keyword::Insert,
-    Keyword::Int,
-    Keyword::Into,
-    Keyword::Is,
-    Keyword::Join,
-    Keyword::Key,
-    Keyword::Not,
-    Keyword::Null,
-    Keyword::On,
-    Keyword::Only,
-    Keyword::Or,
-    Keyword::Primary,
-    Keyword::Read,
-    Keyword::Release,
-    Keyword::Rollback,
-    Keyword::Savepoint,
-    Keyword::Schedule,
-    Keyword::Select,
-    Keyword::Session,
-    Keyword::Set,
-    Keyword::Sum,
-    Keyword::Table,
-    Keyword::Text,
-    Keyword::To,
-    Keyword::Update,
-    Keyword::Values,
-    Keyword::Where,
-];
+/// The reserved words that begin with a letter, given in lower case.
+fn beginning_with(letter: u8) -> &'static [Keyword]
+    ensures { result.now ≡ beginning_with letter }
+{
+    match letter {
+        b'a' => &[Keyword::And],
+        b'b' => &[Keyword::Begin, Keyword::By],
+        b'c' => &[Keyword::Commit, Keyword::Count, Keyword::Create],
+        b'd' => &[Keyword::Delete],
+        b'e' => &[Keyword::End],
+        b'f' => &[Keyword::From],
+        b'g' => &[Keyword::Group],
+        b'i' => &[Keyword::Insert, Keyword::Int, Keyword::Into, Keyword::Is],
+        b'j' => &[Keyword::Join],
+        b'k' => &[Keyword::Key],
+        b'n' => &[Keyword::Not, Keyword::Null],
+        b'o' => &[Keyword::On, Keyword::Only, Keyword::Or],
+        b'p' => &[Keyword::Primary],
+        b'r' => &[Keyword::Read, Keyword::Release, Keyword::Rollback],
+        b's' => &[
+            Keyword::Savepoint,
+            Keyword::Schedule,
+            Keyword::Select,
+            Keyword::Session,
+            Keyword::Set,
+            Keyword::Sum,
+        ],
+        b't' => &[Keyword::Table, Keyword::Text, Keyword::To],
+        b'u' => &[Keyword::Update],
+        b'v' => &[Keyword::Values],
+        b'w' => &[Keyword::Where],
+        _ => &[],
+    }
+}
 
 // Whether two words are the same but for the case of ASCII letters.
 fn is_same_but_case(a: &[u8], b: &[u8]) -> bool
     ensures { result ≡ same_but_case a.now b.now }
 {
     a.eq_ignore_ascii_case(b)
+}
+
+/// The first of these that `word` is, in any ASCII case.
+fn spelled(keywords: &[Keyword], word: &[u8]) -> Option<Keyword>
+    ensures { result ≡ find (λ k. same_but_case (word_spelling k) word.now) keywords.now }
+{
+    keywords
+        .iter()
+        .copied()
+        .find(|k| is_same_but_case(k.spelling().as_bytes(), word))
 }
 
 impl Keyword {
@@ -99,13 +105,10 @@ impl Keyword {
     }
 
     /// The reserved word that `word` is, in any ASCII case.
-    #[tactic(auto, unfolding(crate::specs::Keyword::keyword_of))]
     pub fn from_word(word: &[u8]) -> Option<Keyword>
         ensures { result ≡ keyword_of word.now }
     {
-        KEYWORDS
-            .iter()
-            .copied()
-            .find(|k| is_same_but_case(k.spelling().as_bytes(), word))
+        let first = word.first()?;
+        spelled(beginning_with(first.to_ascii_lowercase()), word)
     }
 }

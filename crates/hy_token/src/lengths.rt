@@ -69,7 +69,7 @@ fn piece_len(bytes: &[u8]) -> usize
     };
     if is_space(first) {
         1
-    } else if bytes.starts_with(b"--") {
+    } else if first == b'-' && bytes.starts_with(b"--") {
         line_len(bytes)
     } else {
         0

@@ -1,28 +1,9 @@
 // The signs and their spelling.
 
-ghost use Rattle.std.specs.Prelude.{◌≡◌};
+ghost use Rattle.std.specs.Prelude.{◌≡◌, [], ◌∷◌};
 ghost use Rattle.hy_token.specs.Sign.{sign_spelling, sign_of};
 
 use crate::Sign;
-
-// Those of two bytes come first, so that the longest is found.
-const SIGNS: [Sign; 15] = [
-    Sign::NotEqual,
-    Sign::LessEqual,
-    Sign::GreaterEqual,
-    Sign::LeftParen,
-    Sign::RightParen,
-    Sign::Comma,
-    Sign::Semicolon,
-    Sign::Dot,
-    Sign::Star,
-    Sign::Plus,
-    Sign::Minus,
-    Sign::Bang,
-    Sign::Equal,
-    Sign::Less,
-    Sign::Greater,
-];
 
 impl Sign {
     /// How the sign is written.
@@ -49,13 +30,48 @@ impl Sign {
     }
 
     /// The longest sign that stands first.
-    #[tactic(auto, unfolding(crate::specs::Sign::sign_of))]
     pub fn first(bytes: &[u8]) -> Option<Sign>
         ensures { result ≡ sign_of bytes.now }
     {
-        SIGNS
-            .iter()
-            .copied()
-            .find(|sign| bytes.starts_with(sign.spelling().as_bytes()))
+        match bytes {
+            [] => None,
+            [byte] => Sign::of_byte(*byte),
+            [byte, next, ..] => Sign::of_two(*byte, *next),
+        }
+    }
+
+    /// The sign of one byte.
+    #[tactic(auto, unfolding(crate::specs::Sign::sign_of))]
+    fn of_byte(byte: u8) -> Option<Sign>
+        ensures { result ≡ sign_of (byte ∷ []) }
+    {
+        match byte {
+            b'(' => Some(Sign::LeftParen),
+            b')' => Some(Sign::RightParen),
+            b',' => Some(Sign::Comma),
+            b';' => Some(Sign::Semicolon),
+            b'.' => Some(Sign::Dot),
+            b'*' => Some(Sign::Star),
+            b'+' => Some(Sign::Plus),
+            b'-' => Some(Sign::Minus),
+            b'!' => Some(Sign::Bang),
+            b'=' => Some(Sign::Equal),
+            b'<' => Some(Sign::Less),
+            b'>' => Some(Sign::Greater),
+            _ => None,
+        }
+    }
+
+    /// The longest sign that two bytes begin with.
+    #[tactic(auto, unfolding(crate::specs::Sign::sign_of))]
+    fn of_two(byte: u8, next: u8) -> Option<Sign>
+        ensures { result ≡ sign_of (byte ∷ next ∷ []) }
+    {
+        match (byte, next) {
+            (b'<', b'>') => Some(Sign::NotEqual),
+            (b'<', b'=') => Some(Sign::LessEqual),
+            (b'>', b'=') => Some(Sign::GreaterEqual),
+            _ => Sign::of_byte(byte),
+        }
     }
 }

@@ -1,23 +1,29 @@
 use Rattle.std.proofs.Common.{◌∙◌}
-use Rattle.hy_parse.proofs.Gathering.{at_bad, at_end, at_last, at_piece, at_most}
+use Rattle.hy_parse.proofs.Gathering.{at_start, at_bad, at_end, at_last, at_piece, at_most, ends_within}
 use Rattle.hy_parse.proofs.pieces.pieces.Goals as goal
 
+pub loop-init : goal.loop-init
+loop-init c = record {
+  in_range = ends_within _ _ _ c.next-found.ensures.span;
+  so_far = at_start c.args.bytes.now c.args.at _ c.next-found.result c.clear.new.self.items c.next-found.ensures.value c.most_pieces-end.ensures c.clear.ensures.items;
+}
+
 pub returns-in-Err : goal.returns-in-Err
-returns-in-Err c = at_bad c.args.bytes.now c.loop.pieces.items _ _ c.loop.counter c.loop.at c.in-Err.bad c.loop-test.true c.in-Err.ensures.value c.loop.invariant.so_far
+returns-in-Err c = at_bad c.args.bytes.now c.loop.pieces.items _ _ c.loop.counter c.loop.found c.in-Err.bad c.loop-test.true c.in-Err.is c.loop.invariant.so_far
 
 pub returns-then-is_same : goal.returns-then-is_same
-returns-then-is_same c = at_end c.args.bytes.now c.loop.pieces.items _ _ c.loop.counter c.loop.at c.in-Ok.found.0 c.in-Ok.found.1 c.loop-test.true c.in-Ok.ensures.value c.if-is_same.ensures c.loop.invariant.so_far
+returns-then-is_same c = at_end c.args.bytes.now c.loop.pieces.items _ _ c.loop.counter c.loop.found c.in-Ok.found.0 c.in-Ok.found.1 c.loop-test.true c.in-Ok.is c.if-is_same.ensures c.loop.invariant.so_far
 
 pub returns-then-is_same-2 : goal.returns-then-is_same-2
-returns-then-is_same-2 c = at_last c.args.bytes.now c.loop.pieces.items _ _ c.loop.counter c.loop.at c.in-Ok.found.0 c.in-Ok.found.1 c.push.new.self.items c.loop-test.true c.in-Ok.ensures.value c.in_ok-push.ensures.items c.if-is_same-2.ensures c.loop.invariant.so_far
+returns-then-is_same-2 c = at_last c.args.bytes.now c.loop.pieces.items _ _ c.loop.counter c.loop.found c.in-Ok.found.0 c.in-Ok.found.1 c.push.new.self.items c.loop-test.true c.in-Ok.is c.in_ok-push.ensures.items c.if-is_same-2.ensures c.loop.invariant.so_far
 
 pub loop-preserved : goal.loop-preserved
 loop-preserved c = record {
-  in_range = c.in-Ok.ensures.span.within;
-  so_far = at_piece c.args.bytes.now c.loop.pieces.items _ _ c.loop.counter c.loop.at c.in-Ok.found.0 c.in-Ok.found.1 c.push.new.self.items c.loop-test.true c.in-Ok.ensures.value c.in_ok-push.ensures.items c.if-is_same.ensures c.if-is_same-2.ensures c.loop.invariant.so_far;
+  in_range = ends_within _ _ _ c.next-found-in-loop.ensures.span;
+  so_far = at_piece c.args.bytes.now c.loop.pieces.items _ _ c.loop.counter c.loop.found c.next-found-in-loop.result c.in-Ok.found.0 c.in-Ok.found.1 c.push.new.self.items c.loop-test.true c.in-Ok.is c.in_ok-push.ensures.items c.if-is_same.ensures c.if-is_same-2.ensures c.next-found-in-loop.ensures.value c.loop.invariant.so_far;
 }
 
 pub returns : goal.returns
 returns c =
-    let known = at_most c.args.bytes.now c.loop.pieces.items _ _ c.loop.counter c.loop.at c.loop-test.false c.loop.invariant.so_far in
+    let known = at_most c.args.bytes.now c.loop.pieces.items _ _ c.loop.counter c.loop.found c.loop-test.false c.loop.invariant.so_far in
     (known.0, c.no_more.ensures ∙ known.1)

@@ -3,13 +3,15 @@
 ghost use Rattle.std.specs.Prelude.{◌≡◌, ◌<◌, [], ℕ, List, IfOk, length, map, replicate, slice_index_or, slice_set};
 ghost use Rattle.hy_column.specs.Compared.{column_compared};
 ghost use Rattle.hy_column.specs.Cells.{FitsKind, first_value, number_value, text_value};
+ghost use Rattle.std.specs.Option.{option_copied};
+ghost use Rattle.hy_value.specs.Refs.{referred};
 ghost use Rattle.hy_value.specs.declared.Value.{Value};
 ghost use Rattle.hy_value.specs.declared.Kind.{Kind};
 
 use crate::numbers::IntColumn;
 use crate::texts::TextColumn;
 use hy_kernel::Mask;
-use hy_value::{Cmp, Kind, Row, Text, Value};
+use hy_value::{Cmp, Kind, Row, Text, Value, ValueRef};
 use std::alloc::{AllocError, Global};
 use std::marker::Model;
 
@@ -33,15 +35,23 @@ impl Column {
         }
     }
 
+    /// The value at a place, where it stands.
+    fn refer(&self, place: usize) -> ValueRef<'_>
+        requires { place < places self.now }
+        ensures { referred result ≡ cell self.now place }
+    {
+        match self {
+            Column::Int(numbers) => number_at(numbers.get(place)),
+            Column::Text(texts) => text_at(texts.look(place)),
+        }
+    }
+
     /// The value at a place. It takes no memory.
     fn value(&self, place: usize) -> Value
         requires { place < places self.now }
         ensures { result ≡ cell self.now place }
     {
-        match self {
-            Column::Int(numbers) => number_or_null(numbers.get(place)),
-            Column::Text(texts) => text_or_null(texts.get(place)),
-        }
+        self.refer(place).to_value()
     }
 
     /// Puts a value of the column's type, or NULL, at a place, and gives the old one back. It takes no memory.
@@ -73,6 +83,26 @@ fn number_or_null(number: Option<i64>) -> Value
     match number {
         None => Value::Null,
         Some(number) => Value::Int(number),
+    }
+}
+
+/// A number as a value, None as NULL.
+fn number_at(number: Option<i64>) -> ValueRef<'static>
+    ensures { referred result ≡ number_value number }
+{
+    match number {
+        None => ValueRef::Null,
+        Some(number) => ValueRef::Int(number),
+    }
+}
+
+/// A text as a value, None as NULL.
+fn text_at(text: Option<&Text>) -> ValueRef<'_>
+    ensures { referred result ≡ text_value (option_copied text.entry) }
+{
+    match text {
+        None => ValueRef::Null,
+        Some(text) => ValueRef::Text(text),
     }
 }
 
@@ -133,6 +163,15 @@ impl Columns {
         ensures { result ≡ slice_index_or (slice_index_or self.now.rows place []) column result }
     {
         self.columns[column].value(place)
+    }
+
+    /// The value of a column at a place, where it stands.
+    pub fn refer(&self, place: usize, column: usize) -> ValueRef<'_>
+        requires within { place < length self.now.rows }
+        requires column { column < length self.now.kinds }
+        ensures { referred result ≡ slice_index_or (slice_index_or self.now.rows place []) column (referred result) }
+    {
+        self.columns[column].refer(place)
     }
 
     /// Makes a row of that width the one at a place. It takes no memory.

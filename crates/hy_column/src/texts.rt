@@ -1,5 +1,6 @@
 //! Columns of texts.
 
+ghost use Rattle.std.specs.Option.{option_copied};
 ghost use Rattle.std.specs.Prelude.{◌≡◌, ◌<◌, [], Some, None, IfOk, length, replicate, option_map, slice_index_or, slice_set};
 
 use hy_value::Text;
@@ -33,15 +34,12 @@ impl TextColumn {
         Ok(TextColumn { values })
     }
 
-    /// A copy of the text at a place, None for NULL. It takes no memory.
-    pub fn get(&self, place: usize) -> Option<Text>
+    /// The text at a place, None for NULL.
+    pub fn look(&self, place: usize) -> Option<&Text>
         requires { place < length self.now }
-        ensures { result ≡ slice_index_or self.now place None }
+        ensures { option_copied result ≡ slice_index_or self.now place None }
     {
-        match &self.values[place] {
-            None => None,
-            Some(text) => Some(text.copy()),
-        }
+        self.values[place].as_ref()
     }
 
     /// Puts a text or NULL at a place, and gives the old one back.

@@ -47,13 +47,13 @@ fn numbers_and_texts_are_replaced(rt: HostRuntime) -> Result<(), Fail> {
 fn texts_begin_empty(rt: HostRuntime) -> Result<(), Fail> {
     let alloc = rt.alloc();
     let mut texts = TextColumn::new(alloc, 4)?;
-    let Some(first) = texts.get(3) else {
+    let Some(first) = texts.look(3) else {
         return Err(Fail::from("it is no NULL"));
     };
     assert!(rt; first.as_bytes().is_empty());
     let ann = Text::new(alloc, "ann")?;
     assert!(rt; texts.replace(3, Some(ann)).is_some());
-    let Some(last) = texts.get(3) else {
+    let Some(last) = texts.look(3) else {
         return Err(Fail::from("it is no NULL"));
     };
     assert_eq!(rt; last.as_bytes(), b"ann".as_slice());

@@ -7,4 +7,6 @@ pub mod OwnParts
 pub mod Spreads
 pub mod Numbers
 pub mod Cells
+pub mod Firsts
+pub mod Picked
 pub mod Results

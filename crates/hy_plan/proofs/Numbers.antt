@@ -29,7 +29,7 @@ take-numbered (suc n) (m ∷ ms) [] = refl
 take-numbered (suc n) (m ∷ ms) (b ∷ bs) = ap (λ (vs : List Value). number_or_null b m ∷ vs) (take-numbered n ms bs)
 
 -- one more
-numbered-append : (numbers : List ℤ) (nulls : List Bool) (number : ℤ) (is_null : Bool) → length nulls ≡ length numbers
+pub numbered-append : (numbers : List ℤ) (nulls : List Bool) (number : ℤ) (is_null : Bool) → length nulls ≡ length numbers
     → numbered (numbers ++ number ∷ []) (nulls ++ is_null ∷ []) ≡ numbered numbers nulls ++ number_or_null is_null number ∷ []
 numbered-append [] [] number is_null even = refl
 numbered-append [] (b ∷ bs) number is_null even = absurd (omega (arith, even))

@@ -11,3 +11,4 @@ pub mod Split
 pub mod OfOneTable
 pub mod Numbers
 pub mod Cells
+pub mod Placed

@@ -1,9 +1,13 @@
 //! The values of a column.
 
-ghost use Rattle.std.specs.Prelude.{◌≡◌, ◌<◌, ◌++◌, [], ◌∷◌, OnOk, OnErr, length, take};
+ghost use Rattle.std.specs.Prelude.{◌≡◌, ℕ, ◌<◌, ◌≤◌, ◌++◌, [], ◌∷◌, All, IfOk, OnOk, OnErr, length, slice_index_or, take};
 ghost use Rattle.hy_bound.specs.Predicate.{column_of};
+ghost use Rattle.hy_value.specs.Refs.{referred};
+ghost use Rattle.hy_plan.specs.Numbers.{numbered};
+ghost use Rattle.hy_plan.specs.Placed.{values_picked};
 
-use hy_value::Value;
+use crate::gathered::PlacedRows;
+use hy_value::{Value, ValueRef};
 use std::alloc::{AllocError, Global};
 use std::marker::Model;
 
@@ -40,27 +44,85 @@ impl Column {
         }
     }
 
-    /// A copy of the value of a row.
-    pub fn value(&self, index: usize) -> Value
+    /// The value of a row, where it stands.
+    pub fn refer(&self, index: usize) -> ValueRef<'_>
         requires { index < length self.now }
-        ensures { result ≡ column_of self.now index }
+        ensures { referred result ≡ column_of self.now index }
     {
         if index >= self.numbers.len() {
-            self.others[index - self.numbers.len()].copy()
+            self.others[index - self.numbers.len()].refer()
         } else if self.nulls[index] {
-            Value::Null
+            ValueRef::Null
         } else {
-            Value::Int(self.numbers[index])
+            ValueRef::Int(self.numbers[index])
         }
     }
 
     /// Puts a value behind the first ones. Without memory only these stay.
-    pub fn put(&mut self, len: usize, value: &Value) -> Result<(), AllocError>
-        ensures ok { OnOk result (self.new ≡ take len self.old ++ value.now ∷ []) }
+    pub fn put(&mut self, len: usize, value: ValueRef) -> Result<(), AllocError>
+        ensures ok { OnOk result (self.new ≡ take len self.old ++ referred value.entry ∷ []) }
         ensures err { OnErr result (self.new ≡ take len self.old) }
     {
         self.truncate(len);
         self.push(value)
+    }
+
+    /// Puts the values in a column of the rows at some places behind the first ones. Without memory only these stay for
+    /// certain.
+    pub fn put_placed<S: PlacedRows>(
+        &mut self,
+        len: usize,
+        source: &S,
+        places: &[u32],
+        column: u32,
+    ) -> Result<(), AllocError>
+        requires reach { len ≤ length self.old }
+        requires places { All (λ place. place < length (S.rows source.now)) places.now }
+        requires column { (place : ℕ) → place < length (S.rows source.now)
+            → column < length (slice_index_or (S.rows source.now) place []) }
+        ensures ok { OnOk result (self.new ≡ take len self.old ++ values_picked (S.rows source.now) places.now column) }
+        ensures err { OnErr result (take len self.new ≡ take len self.old) }
+    {
+        self.truncate(len);
+        let count = self.add_numbers(source, places, column)?;
+        self.add_values(source, &places[count..], column)
+    }
+
+    /// Adds the values in a column of the rows at the first places, up to the first text, unless there are others: how many.
+    /// Without memory nothing changes.
+    fn add_numbers<S: PlacedRows>(
+        &mut self,
+        source: &S,
+        places: &[u32],
+        column: u32,
+    ) -> Result<usize, AllocError>
+        requires places { All (λ place. place < length (S.rows source.now)) places.now }
+        requires column { (place : ℕ) → place < length (S.rows source.now)
+            → column < length (slice_index_or (S.rows source.now) place []) }
+        ensures few { IfOk result (λ count. count ≤ length places.now) }
+        ensures ok { IfOk result (λ count. self.new ≡ self.old ++ values_picked (S.rows source.now) (take count places.now) column) }
+        ensures err { OnErr result (self.new ≡ self.old) }
+    {
+        if !self.others.is_empty() {
+            return Ok(0);
+        }
+        push_numbers(&mut self.numbers, &mut self.nulls, source, places, column)
+    }
+
+    /// Adds the values in a column of the rows at some places. Without memory nothing changes.
+    fn add_values<S: PlacedRows>(
+        &mut self,
+        source: &S,
+        places: &[u32],
+        column: u32,
+    ) -> Result<(), AllocError>
+        requires places { All (λ place. place < length (S.rows source.now)) places.now }
+        requires column { (place : ℕ) → place < length (S.rows source.now)
+            → column < length (slice_index_or (S.rows source.now) place []) }
+        ensures ok { OnOk result (self.new ≡ self.old ++ values_picked (S.rows source.now) places.now column) }
+        ensures err { OnErr result (self.new ≡ self.old) }
+    {
+        push_values(&mut self.others, source, places, column)
     }
 
     /// Keeps the first values.
@@ -73,19 +135,19 @@ impl Column {
     }
 
     /// Adds a value. Without memory nothing changes.
-    fn push(&mut self, value: &Value) -> Result<(), AllocError>
-        ensures ok { OnOk result (self.new ≡ self.old ++ value.now ∷ []) }
+    fn push(&mut self, value: ValueRef) -> Result<(), AllocError>
+        ensures ok { OnOk result (self.new ≡ self.old ++ referred value.entry ∷ []) }
         ensures err { OnErr result (self.new ≡ self.old) }
     {
         match value {
-            Value::Int(number) if self.others.is_empty() => {
-                push_number(&mut self.numbers, &mut self.nulls, *number, false)
+            ValueRef::Int(number) if self.others.is_empty() => {
+                push_number(&mut self.numbers, &mut self.nulls, number, false)
             }
-            Value::Null if self.others.is_empty() => {
+            ValueRef::Null if self.others.is_empty() => {
                 push_number(&mut self.numbers, &mut self.nulls, 0, true)
             }
             _ => {
-                self.others.push(value.copy())?;
+                self.others.push(value.to_value())?;
                 Ok(())
             }
         }
@@ -107,5 +169,58 @@ fn push_number(
     nulls.reserve(1)?;
     numbers.push(number)?;
     nulls.push_reserved(is_null);
+    Ok(())
+}
+
+/// Adds to numbers, and to which of them stand for NULL, the values in a column of the rows at the first places, up to the
+/// first text: how many. Without memory nothing changes.
+fn push_numbers<S: PlacedRows>(
+    numbers: &mut Vec<i64>,
+    nulls: &mut Vec<bool>,
+    source: &S,
+    places: &[u32],
+    column: u32,
+) -> Result<usize, AllocError>
+    requires even { length nulls.old.items ≡ length numbers.old.items }
+    requires places { All (λ place. place < length (S.rows source.now)) places.now }
+    requires column { (place : ℕ) → place < length (S.rows source.now)
+        → column < length (slice_index_or (S.rows source.now) place []) }
+    ensures even { length nulls.new.items ≡ length numbers.new.items }
+    ensures few { IfOk result (λ count. count ≤ length places.now) }
+    ensures ok { IfOk result (λ count. numbered numbers.new.items nulls.new.items
+        ≡ numbered numbers.old.items nulls.old.items ++ values_picked (S.rows source.now) (take count places.now) column) }
+    ensures err { OnErr result (numbered numbers.new.items nulls.new.items ≡ numbered numbers.old.items nulls.old.items) }
+{
+    numbers.reserve(places.len())?;
+    nulls.reserve(places.len())?;
+    for (index, place) in places.iter().enumerate() {
+        let (number, is_null) = match source.refer(*place as usize, column as usize) {
+            ValueRef::Int(number) => (number, false),
+            ValueRef::Null => (0, true),
+            ValueRef::Text(_) => return Ok(index),
+        };
+        numbers.push_reserved(number);
+        nulls.push_reserved(is_null);
+    }
+    Ok(places.len())
+}
+
+/// Adds the values in a column of the rows at some places. Without memory nothing changes.
+fn push_values<S: PlacedRows>(
+    values: &mut Vec<Value>,
+    source: &S,
+    places: &[u32],
+    column: u32,
+) -> Result<(), AllocError>
+    requires places { All (λ place. place < length (S.rows source.now)) places.now }
+    requires column { (place : ℕ) → place < length (S.rows source.now)
+        → column < length (slice_index_or (S.rows source.now) place []) }
+    ensures ok { OnOk result (values.new.items ≡ values.old.items ++ values_picked (S.rows source.now) places.now column) }
+    ensures err { OnErr result (values.new.items ≡ values.old.items) }
+{
+    values.reserve(places.len())?;
+    for place in places {
+        values.push_reserved(source.refer(*place as usize, column as usize).to_value());
+    }
     Ok(())
 }

@@ -1,14 +1,30 @@
 //! Rows gathered of a table, kept by column.
 
-ghost use Rattle.std.specs.Prelude.{◌≡◌, ◌<◌, ◌++◌, [], ◌∷◌, IfOk, OnOk, OnErr, length, slice_index_or};
+ghost use Rattle.std.specs.Prelude.{◌≡◌, ℕ, ◌<◌, ◌++◌, [], ◌∷◌, All, IfOk, OnOk, OnErr, length, map, slice_index_or, take};
+ghost use Rattle.hy_value.specs.Refs.{referred};
+ghost use Rattle.hy_plan.specs.Placed.{row_picked, values_picked};
 ghost use Rattle.hy_bound.specs.Predicate.{column_of};
 ghost use Rattle.hy_bound.specs.Projection.{spread};
-ghost use Rattle.hy_plan.specs.Cells.{ReachTo, with_cells, firsts};
+ghost use Rattle.hy_plan.specs.Cells.{ReachTo, with_values, cells_of, firsts};
 
 use crate::column::Column;
-use hy_value::{ColMask, Row, Value};
+use hy_value::{ColMask, Row, Value, ValueRef};
 use std::alloc::{AllocError, Global};
 use std::marker::Model;
+
+/// Rows by place, whose values are looked at one by one.
+pub trait PlacedRows {
+    ghost use Rattle.std.specs.Prelude.{List};
+    ghost use Rattle.hy_value.specs.declared.Value.{Value};
+
+    ghost rows: { Self → List (List Value) };
+
+    /// The value in a column of the row at a place, where it stands.
+    fn refer(&self, place: usize, column: usize) -> ValueRef<'_>
+        requires place { place < length (rows self.now) }
+        requires column { column < length (slice_index_or (rows self.now) place []) }
+        ensures { referred result ≡ column_of (slice_index_or (rows self.now) place []) column };
+}
 
 /// Rows of so many values each, kept by column. Contracts see them as the list of the rows.
 #[derive(Drop)]
@@ -68,13 +84,47 @@ impl Gathered {
         Ok(())
     }
 
-    /// A copy of a row's value in a column.
-    pub fn value(&self, index: usize, column: usize) -> Value
+    /// A row's value in a column, where it stands.
+    pub fn refer(&self, index: usize, column: usize) -> ValueRef<'_>
         requires index { index < length self.now.rows }
         requires column { column < self.now.width }
-        ensures { result ≡ column_of (slice_index_or self.now.rows index []) column }
+        ensures { referred result ≡ column_of (slice_index_or self.now.rows index []) column }
     {
-        self.columns[column].value(index)
+        self.columns[column].refer(index)
+    }
+
+    /// Keeps the first rows.
+    #[tactic(auto, using(crate::proofs::Firsts::reach_less))]
+    pub fn truncate(&mut self, len: usize)
+        ensures { self.new ≡ record { width = self.old.width; rows = take len self.old.rows } }
+    {
+        if len < self.len {
+            self.len = len;
+        }
+    }
+
+    /// Adds the rows at some places of others: of each the values in some columns, in this order. Without memory nothing
+    /// changes.
+    pub fn add_placed<S: PlacedRows>(
+        &mut self,
+        source: &S,
+        places: &[u32],
+        columns: &[u32],
+    ) -> Result<(), AllocError>
+        requires places { All (λ place. place < length (S.rows source.now)) places.now }
+        requires columns { (place : ℕ) → place < length (S.rows source.now)
+            → All (λ column. column < length (slice_index_or (S.rows source.now) place [])) columns.now }
+        requires width { length columns.now ≡ self.old.width }
+        ensures ok { OnOk result (self.new ≡ record {
+          width = self.old.width;
+          rows = self.old.rows ++ map (row_picked (S.rows source.now) columns.now) places.now;
+        }) }
+        ensures err { OnErr result (self.new ≡ self.old) }
+    {
+        let len = self.len.checked_add(places.len()).ok_or(AllocError)?;
+        put_placed(&mut self.columns, self.len, source, places, columns)?;
+        self.len = len;
+        Ok(())
     }
 
     /// Puts a row behind other values, as a row of so many columns: those of a set have its values in their
@@ -92,7 +142,7 @@ impl Gathered {
         let mut used = 0;
         for column in 0..width {
             if used < self.columns.len() && columns.has(column) {
-                joined.push(self.columns[used].value(index))?;
+                joined.push(self.columns[used].refer(index).to_value())?;
                 used += 1;
             } else {
                 joined.push(Value::Null)?;
@@ -106,11 +156,35 @@ impl Gathered {
 fn put_row(columns: &mut Vec<Column>, len: usize, row: &[Value]) -> Result<(), AllocError>
     requires width { length row.now ≡ length columns.old.items }
     requires reach { ReachTo len columns.old.items }
-    ensures ok { OnOk result (columns.new.items ≡ with_cells len row.now columns.old.items) }
+    ensures ok { OnOk result (columns.new.items ≡ with_values len (cells_of row.now) columns.old.items) }
     ensures err { OnErr result (firsts len columns.new.items ≡ firsts len columns.old.items) }
 {
     for (index, value) in row.iter().enumerate() {
-        columns[index].put(len, value)?;
+        columns[index].put(len, value.refer())?;
+    }
+    Ok(())
+}
+
+/// Puts the values in some columns of the rows at some places behind the first ones of each column. Without memory only
+/// these stay for certain.
+fn put_placed<S: PlacedRows>(
+    columns: &mut Vec<Column>,
+    len: usize,
+    source: &S,
+    places: &[u32],
+    wanted: &[u32],
+) -> Result<(), AllocError>
+    requires width { length wanted.now ≡ length columns.old.items }
+    requires reach { ReachTo len columns.old.items }
+    requires places { All (λ place. place < length (S.rows source.now)) places.now }
+    requires columns { (place : ℕ) → place < length (S.rows source.now)
+        → All (λ column. column < length (slice_index_or (S.rows source.now) place [])) wanted.now }
+    ensures ok { OnOk result (columns.new.items
+        ≡ with_values len (map (values_picked (S.rows source.now) places.now) wanted.now) columns.old.items) }
+    ensures err { OnErr result (firsts len columns.new.items ≡ firsts len columns.old.items) }
+{
+    for (index, column) in wanted.iter().enumerate() {
+        columns[index].put_placed(len, source, places, *column)?;
     }
     Ok(())
 }

@@ -17,6 +17,7 @@ use hy_bound::{Grouped, Replies, Reply, Rows};
 use hy_change::{Change, Changes};
 use hy_stamp::Label;
 use hy_value::{Row, Seq, Text, print, print_row};
+use itoa::Buffer;
 pub use laws::text_tells_the_outcome;
 use std::alloc::AllocError;
 pub use summary::summarize;
@@ -167,8 +168,8 @@ fn print_number(number: u64, out: &mut Vec<u8>) -> Result<(), AllocError>
     ensures ok { OnOk result (out.new.items ≡ out.old.items ++ decimal number) }
     ensures begun { BeginsWith out.old.items out.new.items }
 {
-    let digits = number.to_string(*out.allocator())?;
-    put(digits.as_bytes(), out)
+    let mut digits = Buffer::new();
+    put(digits.format(number).as_bytes(), out)
 }
 
 /// Appends a whole line.
@@ -321,8 +322,8 @@ fn end_with_total(total: i128, out: &mut Vec<u8>) -> Result<(), AllocError>
     ensures ok { OnOk result (out.new.items ≡ out.old.items ++ line (signed_decimal total)) }
     ensures begun { BeginsWith out.old.items out.new.items }
 {
-    let digits = total.to_string(*out.allocator())?;
-    print_line(digits.as_bytes(), out)
+    let mut digits = Buffer::new();
+    print_line(digits.format(total).as_bytes(), out)
 }
 
 /// Appends the line of a group.

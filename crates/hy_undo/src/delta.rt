@@ -7,14 +7,13 @@ use crate::merging::{put_back_at, take_newer, take_older};
 use crate::version::Version;
 use hy_chain::Image;
 use hy_value::Value;
-use smallvec::SmallVec;
 use std::alloc::{AllocError, Global};
 use std::marker::Model;
 
 /// For each column the value that stood there before a write, if it was noted, and whether the row was live.
 #[derive(Drop)]
 pub struct Delta {
-    olds: SmallVec<Option<Value>, 4>,
+    olds: Vec<Option<Value>>,
     was_live: bool,
 }
 
@@ -34,7 +33,7 @@ impl Delta {
         ensures values { IfOk result (λ delta. delta.values ≡ replicate columns None) }
         ensures live { IfOk result (λ delta. delta.live ≡ false) }
     {
-        let mut olds = SmallVec::new(alloc);
+        let mut olds = Vec::with_capacity(alloc, columns)?;
         for _column in 0..columns {
             olds.push(None)?;
         }

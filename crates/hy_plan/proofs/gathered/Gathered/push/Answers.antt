@@ -1,5 +1,8 @@
-use Rattle.std.proofs.Common.{arith, ◌∙◌}
-use Rattle.hy_plan.proofs.Cells.{reach_alike, seen_alike, seen_more, reach_next}
+use Rattle.std.proofs.Common.{◌≡◌, List, [], ◌∷◌, ◌++◌, length, arith, ap, ◌∙◌}
+use Rattle.std.proofs.lemmas.List.{length-map}
+use Rattle.hy_value.specs.declared.Value.{Value}
+use Rattle.hy_plan.specs.Cells.{GatheredRows, cells_of}
+use Rattle.hy_plan.proofs.Cells.{reach_alike, seen_alike, seen_more, reach_next, reach_one, one_row}
 use Rattle.hy_plan.proofs.Results.{on_err_always}
 use Rattle.hy_plan.proofs.gathered.Gathered.push.Goals as goal
 
@@ -13,8 +16,14 @@ returns-in_err-put_row-clause-err c =
 
 pub invariant_of-self-2 : goal.invariant_of-self-2
 invariant_of-self-2 c =
-    reach_next c.self.inside.len c.in_ok-len.len c.args.row.now c.self.inside.columns.items c.put_row.new.columns.items c.args.self.now (grind (arith, c.checked_add.ensures, c.in_ok-len.ensures)) c.in_ok-put_row.ensures.ok c.self.view_is c.requires c.self.invariant
+    let row = c.args.row.now in
+    let even : length (cells_of row) ≡ c.args.self.now.width = length-map row (λ value. value ∷ []) ∙ c.requires in
+    reach_next c.self.inside.len 1 c.in_ok-len.len (cells_of row) c.self.inside.columns.items c.put_row.new.columns.items c.args.self.now (grind (arith, c.checked_add.ensures, c.in_ok-len.ensures)) c.in_ok-put_row.ensures.ok c.self.view_is even c.self.invariant (reach_one row)
 
 pub returns-clause-ok : goal.returns-clause-ok
 returns-clause-ok c =
-    seen_more c.self.inside.len c.in_ok-len.len c.args.row.now c.self.inside.columns.items c.put_row.new.columns.items c.args.self.now (grind (arith, c.checked_add.ensures, c.in_ok-len.ensures)) c.in_ok-put_row.ensures.ok c.self.view_is c.requires c.self.invariant
+    let row = c.args.row.now in
+    let even : length (cells_of row) ≡ c.args.self.now.width = length-map row (λ value. value ∷ []) ∙ c.requires in
+    let with_rows : List (List Value) → GatheredRows = λ rows. record { width = c.args.self.now.width; rows = c.args.self.now.rows ++ rows } in
+    seen_more c.self.inside.len 1 c.in_ok-len.len (cells_of row) c.self.inside.columns.items c.put_row.new.columns.items c.args.self.now (grind (arith, c.checked_add.ensures, c.in_ok-len.ensures)) c.in_ok-put_row.ensures.ok c.self.view_is even c.self.invariant
+    ∙ ap with_rows (one_row row)

@@ -6,8 +6,8 @@ use Rattle.hy_plan.proofs.Spreads.{spread_value, spread_outside, spread_nothing,
 use Rattle.hy_plan.proofs.gathered.Gathered.push_spread.Goals as goal
 use Rattle.hy_plan.proofs.gathered.Gathered.push_spread.Goals.{then-used-len+then-has+in_ok-push, else-used-len+in_ok-push-2, else-used-len-via-then-used-len+else-has, else-used-len-via-else-used-len}
 
-pub value-requires : goal.value-requires
-value-requires c =
+pub refer-requires : goal.refer-requires
+refer-requires c =
     let within : c.loop-column.used < length c.self.inside.columns.items = omega (arith, c.if-used-len.true, c.len.ensures) in
     omega (
       arith,
@@ -24,9 +24,9 @@ loop-column-preserved c =
     let whole = c.args.joined.now ++ spread c.args.columns c.args.width row in
     elim c.if-used-len.branch [
       | then-used-len+then-has+in_ok-push w ↦
-          rw (w.joined-is, w.used-is) (spread_value c.args.columns c.loop-column.column c.args.width c.loop-column.used w.value.result row c.loop-column.joined w.push.new.self whole
+          rw (w.joined-is, w.used-is) (spread_value c.args.columns c.loop-column.column c.args.width c.loop-column.used w.to_value.result row c.loop-column.joined w.push.new.self whole
           c.loop-column-test.true (omega (arith, w.if-used-len.true, c.len.ensures, columns)) (cc (w.has.ensures, w.if-has.true))
-          (w.value.ensures ∙ cell_in_row c.self.inside.columns.items c.args.index c.loop-column.used w.index.result.now w.value.result (omega (arith, w.if-used-len.true, c.len.ensures)) w.index.ensures) w.in_ok-push.ensures.ok c.loop-column.invariant)
+          (w.to_value.ensures ∙ (w.refer.ensures ∙ cell_in_row c.self.inside.columns.items c.args.index c.loop-column.used w.index.result.now w.to_value.result (omega (arith, w.if-used-len.true, c.len.ensures)) w.index.ensures)) w.in_ok-push.ensures.ok c.loop-column.invariant)
       | else-used-len+in_ok-push-2 w ↦ elim w.else-used-len.branch [
         | else-used-len-via-then-used-len+else-has w' ↦
             rw (w.joined-is, w.used-is) (spread_outside c.args.columns c.loop-column.column c.args.width (drop c.loop-column.used row) c.loop-column.joined w.push-else-used-len.new.self whole

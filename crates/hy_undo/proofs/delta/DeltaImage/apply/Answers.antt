@@ -11,7 +11,7 @@ returns c =
     let olds = c.self.inside.olds.items in
     let first = c.args.base.now.row in
     let few : length olds ≤ c.loop-column.column ⊎ length first ≤ c.loop-column.column =
-    grind (arith, c.min-count.ensures, c.len.ensures.value, c.len-2.ensures, c.loop-column-test.false) in
+    grind (arith, c.min-count.ensures, c.len.ensures, c.len-2.ensures, c.loop-column-test.false) in
     let row : c.loop-column.base.row ≡ put_back first olds = same_lists c.loop-column.base.row (put_back first olds) (c.loop-column.invariant.size ∙ sym (length-put_back first olds))
     (λ k d l.
     let size = c.loop-column.invariant.size in
@@ -27,8 +27,8 @@ returns c =
 pub loop-column-preserved : goal.loop-column-preserved
 loop-column-preserved c =
     let olds = c.self.inside.olds.items in
-    let within : c.loop-column.column < length olds = grind (arith, c.min-count.ensures, c.len.ensures.value, c.loop-column-test.true) in
+    let within : c.loop-column.column < length olds = grind (arith, c.min-count.ensures, c.len.ensures, c.loop-column-test.true) in
     let size = c.loop-column.invariant.size in
     let there : c.loop-column.column < length c.loop-column.base.row = grind (arith, c.min-count.ensures, c.len-2.ensures, c.loop-column-test.true, size) in
     put_more olds c.args.base.now.row c.loop-column.base.row c.put_back_at.new.row c.loop-column.column c.index-as_slice-column.result c.loop-column.invariant within there
-    (c.index-as_slice-column.is ∙ ap (λ (xs : List (Option Value)). get_or xs c.loop-column.column c.index-as_slice-column.result) c.as_slice.ensures) c.put_back_at.ensures
+    (c.index-as_slice-column.is ∙ ap (λ (xs : List (Option Value)). get_or xs c.loop-column.column c.index-as_slice-column.result) c.as_slice.ensures.value) c.put_back_at.ensures

@@ -3,7 +3,7 @@ use Rattle.hy_value.specs.declared.Value.TheVariants.{Int}
 use Rattle.hy_bound.specs.Predicate.{column_of}
 use Rattle.hy_plan.specs.Numbers.{number_or_null}
 use Rattle.hy_plan.proofs.Numbers.{among_numbers, among_others, length-column}
-use Rattle.hy_plan.proofs.column.Column.value.Goals as goal
+use Rattle.hy_plan.proofs.column.Column.refer.Goals as goal
 
 pub index-requires : goal.index-requires
 index-requires c =
@@ -11,7 +11,7 @@ index-requires c =
 
 pub returns-then-index-len : goal.returns-then-index-len
 returns-then-index-len c =
-    c.copy.ensures
+    c.refer.ensures
     ∙ (among_others c.self.inside.numbers.items c.self.inside.nulls.items c.self.inside.others.items c.args.index _ c.index.result.now c.self.invariant
     (omega (arith, c.if-index-len.true, c.len.ensures)) (omega (arith, c.len-then-index-len.ensures)) (omega (arith, c.requires, c.if-index-len.true, c.len-then-index-len.ensures, c.len.ensures, length-column c.self.inside.numbers.items c.self.inside.nulls.items c.self.inside.others.items c.self.invariant, ap length c.self.view_is)) c.index.ensures
     ∙ ap (λ values. column_of values c.args.index) c.self.view_is)

@@ -1,30 +1,26 @@
 -- Conditions that are true only of rows with some key.
 use Rattle.std.proofs.Common.{◌≡◌, ℕ, zero, suc, ◌<◌, ◌≤◌, Bool, true, false, List, [], ◌∷◌}
-use Rattle.std.proofs.Common.{length, get_or, map, Option, None, Some, refl, sym, ap, ◌∙◌, cond, subst, arith}
+use Rattle.std.proofs.Common.{length, Option, None, Some, refl, sym, ap, ◌∙◌, cond, subst, arith}
 use Rattle.std.specs.Prelude.{Contains, IfSome, OnOk, Result, Ok, Err, ◌||◌, ◌&&◌, ◌==◌, nat_le}
-use Rattle.std.specs.List.{list_all, list_any}
+use Rattle.std.specs.List.{list_any}
 use Rattle.std.proofs.lemmas.Bool.{and_parts, both_ways, eqb-true, false_from_ne_true, leb-true}
 use Rattle.hy_value.specs.declared.Value.{Value}
 use Rattle.hy_value.specs.declared.ColMask.{ColMask}
 use Rattle.hy_stamp.specs.declared.Viewer.{Viewer}
-use Rattle.hy_bound.specs.Condition.{Condition, Compare}
+use Rattle.hy_bound.specs.Condition.{And, Condition, Compare}
 use Rattle.hy_bound.specs.declared.predicate.Side.{Side}
 use Rattle.hy_bound.specs.declared.predicate.Side.TheVariants.{Literal}
 use Rattle.hy_value.specs.declared.Cmp.TheVariants.{Eq}
-use Rattle.hy_bound.specs.Predicate.{column_of, truth_of}
+use Rattle.hy_bound.specs.Predicate.{both_of, column_of, is_known, sense_of, truth_of}
 use Rattle.hy_bound.specs.Projection.{projected}
-use Rattle.hy_bound.specs.Records.{conjuncts}
-use Rattle.hy_bound.specs.Truths.{conjuncts_truth}
 use Rattle.hy_plan.specs.Reads.{by_key_of, is_read_of, key_is_value, most_keys}
 use Rattle.hy_undo.specs.Places.{Place, Cell, sees}
 use Rattle.hy_chunk.specs.Fields.{nth}
-use Rattle.hy_chunk.specs.Gathering.{Asks, AsksOneOf, conditions_of, kept_by}
+use Rattle.hy_chunk.specs.Gathering.{Asks, AsksKey, AsksOneOf, conditions_of, kept_by}
 use Rattle.hy_chunk.specs.declared.gathering.Keys.{Keys}
 use Rattle.hy_chunk.specs.Keyed.{AreFound}
 use Rattle.hy_chunk.proofs.Gathers.{few_looked_up, not_looked_up}
-use Rattle.hy_chunk.proofs.Found.{mapped_at}
 use Rattle.hy_chunk.proofs.Lookups.{key_value}
-use Rattle.std.proofs.lemmas.List.{length-map}
 
 -- a row with one of the keys
 one_by : (column : ℕ) (row : List Value) (value : Value) (values : List Value) (b : Bool) → truth_of (key_is_value column value) row ≡ b
@@ -46,19 +42,27 @@ few_ask pred column values few row e = by (truth_of pred row) refl
     by true is = one_of column row values (few_looked_up pred column row values is few ∙ e)
     by false isnt = absurd (both_ways (is_read_of (by_key_of pred column values) row) (sym (not_looked_up pred column row values isnt)) e)
 
--- what one of the conditions that AND joins asks, all of them ask
-conjunct_true : (conditions : List Condition) (row : List Value) (k : ℕ) (c : Condition) → list_all (λ d. truth_of d row) conditions ≡ true
-    → k < length conditions
-    → c ≡ get_or conditions k c → truth_of c row ≡ true
-conjunct_true [] row k c e l is = absurd (omega arith)
-conjunct_true (d ∷ conditions) row zero c e l is =
-    ap (λ (x : Condition). truth_of x row) is ∙ (and_parts (truth_of d row) (list_all (λ x. truth_of x row) conditions) e).0
-conjunct_true (d ∷ conditions) row (suc k) c e l is =
-    conjunct_true conditions row k c (and_parts (truth_of d row) (list_all (λ x. truth_of x row) conditions) e).1 (omega arith) is
+-- what one of the conditions that AND joins asks, both ask
+both_true : (o other : Option Bool) → is_known (both_of o other) ≡ true → (is_known o ≡ true) × (is_known other ≡ true)
+both_true (Some true) other e = (refl, e)
+both_true (Some false) other e = absurd (both_ways false refl e)
+both_true None None e = absurd (both_ways false refl e)
+both_true None (Some true) e = absurd (both_ways false refl e)
+both_true None (Some false) e = absurd (both_ways false refl e)
 
-pub conjunct_asks : (pred c : Condition) (k column : ℕ) (value : Value) → k < length (conjuncts pred) → c ≡ get_or (conjuncts pred) k c
-    → Asks c column value → Asks pred column value
-conjunct_asks pred c k column value l is asks row e = asks row (conjunct_true (conjuncts pred) row k c (conjuncts_truth pred row ∙ e) l is)
+pub left_asks : (pred left right : Condition) (column : ℕ) (value : Value) → And left right ≡ pred → Asks left column value → Asks pred column value
+left_asks pred left right column value is asks =
+    subst (λ (p : Condition). Asks p column value) is (λ row e. asks row (both_true (sense_of left row) (sense_of right row) e).0)
+
+pub right_asks : (pred left right : Condition) (column : ℕ) (value : Value) → And left right ≡ pred → Asks right column value → Asks pred column value
+right_asks pred left right column value is asks =
+    subst (λ (p : Condition). Asks p column value) is (λ row e. asks row (both_true (sense_of left row) (sense_of right row) e).1)
+
+-- of the key
+pub key_asks : (pred : Condition) (key : Option ℕ) (column : ℕ) (asked : Option Value) → key ≡ Some column
+    → IfSome asked (λ value. Asks pred column value) → AsksKey pred key asked
+key_asks pred key column None is asks = subst (λ (k : Option ℕ). AsksKey pred k None) (sym is) tt
+key_asks pred key column (Some value) is asks = subst (λ (k : Option ℕ). AsksKey pred k (Some value)) (sym is) asks
 
 -- where a value is asked, one of some conditions asks it
 pub read_is_true : (pred : Condition) (key : ℕ) (values : List Value) (row : List Value) → is_read_of (by_key_of pred key values) row ≡ true
@@ -104,14 +108,6 @@ keys_ask pred keys column e =
     let both = and_parts (keys.column == column) (nat_le (length keys.values.now) most_keys) e in
     subst (λ (k : ℕ). AsksOneOf (by_key_of pred keys.column keys.values.now) k keys.values.now) (eqb-true keys.column column both.0)
     (few_ask pred keys.column keys.values.now (leb-true (length keys.values.now) most_keys both.1))
-
--- what one of the conditions that AND joins asks, by what it is kept in
-pub part_asks : {B : Type 0} (now : B → Condition) (parts : List B) (k : ℕ) (part : B) (column : ℕ) (value : Value) → k < length parts
-    → part ≡ get_or parts k part
-    → Asks (now part) column value → (pred : Condition) → conjuncts pred ≡ map now parts → Asks pred column value
-part_asks now parts k part column value l is asks pred e =
-    conjunct_asks pred (now part) k column value (omega (arith, l, ap (λ (cs : List Condition). length cs) e, length-map parts now))
-    (sym (ap (λ (cs : List Condition). get_or cs k (now part)) e ∙ (mapped_at now parts k part ∙ ap now (sym is)))) asks
 
 -- of an answer that is there or not
 pub some_weaker : {A : Type 0} (o : Option A) (P Q : A → Type 0) → ((x : A) → P x → Q x) → IfSome o P → IfSome o Q

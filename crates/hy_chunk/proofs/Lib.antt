@@ -25,3 +25,4 @@ pub mod Chosen
 pub mod Asking
 pub mod FoundEach
 pub mod Masking
+pub mod Placing

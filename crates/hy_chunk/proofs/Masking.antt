@@ -1,9 +1,10 @@
 -- Masks of comparisons: where a bit is clear nothing is wanted of the row in place.
-use Rattle.std.proofs.Common.{◌≡◌, ℕ, ℤ, zero, suc, ◌<◌, ◌≤◌, Bool, true, false, List, [], ◌∷◌, ◌++◌, ◌+◌, map, take, length, get_or, Option, None, Some, refl, sym, ap, ◌∙◌, arith, subst, cond}
+use Rattle.std.proofs.Common.{◌≡◌, ℕ, ℤ, zero, suc, ◌<◌, ◌≤◌, Bool, true, false, List, [], ◌∷◌, ◌+◌, map, take, length, get_or, replicate, Option, None, Some, refl, sym, ap, ◌∙◌, arith, subst, cond}
 use Rattle.std.specs.Prelude.{Contains, IfOk, IfSome, Result, Ok, Err, not, ◌&&◌, ◌||◌}
-use Rattle.std.specs.List.{flat_map, list_all}
-use Rattle.std.proofs.lemmas.Bool.{and_parts, both_ways, false_from_ne_true}
-use Rattle.std.proofs.lemmas.List.{length-map, ext_get_or}
+use Rattle.std.specs.List.{list_all}
+use Rattle.std.proofs.lemmas.Bool.{and_from, and_parts, both_ways, false_from_ne_true}
+use Rattle.std.proofs.lemmas.List.{take_all, length-map, length-replicate, get_or-replicate, ext_get_or}
+use Rattle.std.proofs.lemmas.List.Folds.{list_all_more}
 use lib.Lanes.{zip2}
 use Rattle.hy_value.specs.declared.Cmp.{Cmp}
 use Rattle.hy_value.specs.declared.Value.{Value}
@@ -22,14 +23,12 @@ use Rattle.hy_column.specs.Compared.{column_compared, compares_value}
 use Rattle.hy_plan.specs.Reads.{is_read_of}
 use Rattle.hy_chain.specs.Chains.{Undo, seen}
 use Rattle.hy_undo.specs.Images.{Image, before}
-use Rattle.hy_undo.specs.Places.{Place, Cell, cell_of, sees, in_place}
-use Rattle.hy_undo.specs.Chunks.{rows_seen}
+use Rattle.hy_undo.specs.Places.{Place, cell_of, sees, in_place}
 use Rattle.hy_chunk.specs.Fields.{nth, blank_with}
 use Rattle.hy_chunk.specs.Gathering.{conditions_of, kept_by}
 use Rattle.hy_chunk.specs.declared.gathering.Keys.{Keys}
-use Rattle.hy_chunk.specs.Masked.{Admits, BarsRow, joined_masks}
+use Rattle.hy_chunk.specs.Masked.{Admits, BarsRow, Confirms}
 use Rattle.hy_chunk.proofs.Gathers.{not_looked_up}
-use Rattle.hy_chunk.proofs.Looks.{gathered_more}
 use Rattle.hy_chunk.proofs.Places.{Fields, all, length_all, at_all}
 
 -- ---- rows and positions
@@ -58,28 +57,39 @@ abbrev compared_at : Cmp → ℤ → ℕ → List Place → List Bool
 compared_at op number column places =
     map (λ (row : List Value). compares_value op number (column_of row column)) (map (λ (p : Place). p.version.row) places)
 
-one_admits : (pred : Condition) (column : ℕ) (op : Cmp) (number : ℤ) (places : List Place) (mask : List Bool)
-    → pred ≡ Compare column op (Literal (Int number)) → mask ≡ compared_at op number column places → Admits (pred ∷ []) places mask
-one_admits pred column op number places mask is made = record {
-  many = ap length made ∙ many places;
+compared_many : (op : Cmp) (number : ℤ) (column : ℕ) (ps : List Place) → length (compared_at op number column ps) ≡ length ps
+compared_many op number column [] = refl
+compared_many op number column (p ∷ ps) = let rest = compared_many op number column ps in omega (arith, rest)
+
+bit_at : (op : Cmp) (number : ℤ) (column : ℕ) (ps : List Place) (k : ℕ) → k < length ps
+    → get_or (compared_at op number column ps) k false ≡ compares_value op number (column_of (nth ps k).version.row column)
+bit_at op number column [] k l = absurd (omega arith)
+bit_at op number column (p ∷ ps) zero l = refl
+bit_at op number column (p ∷ ps) (suc k) l = bit_at op number column ps k (omega arith)
+
+-- the bit says what the condition says
+one_tells : (pred : Condition) (column : ℕ) (op : Cmp) (number : ℤ) (places : List Place) → pred ≡ Compare column op (Literal (Int number))
+    → (place : ℕ) → place < length places → get_or (compared_at op number column places) place false ≡ truth_of pred (nth places place).version.row
+one_tells pred column op number places is place l =
+    bit_at op number column places place l
+    ∙ (sym (compared_is op number (column_of (nth places place).version.row column))
+    ∙ ap (λ (c : Condition). truth_of c (nth places place).version.row) (sym is))
+
+one_admits : (pred : Condition) (column : ℕ) (op : Cmp) (number : ℤ) (places : List Place) → pred ≡ Compare column op (Literal (Int number))
+    → Admits (pred ∷ []) places (compared_at op number column places)
+one_admits pred column op number places is = record {
+  many = compared_many op number column places;
   clear = λ place l e. record {
     pred = pred;
     among = (zero, omega arith, refl);
-    barred = ap (λ (c : Condition). truth_of c (nth places place).version.row) is
-        ∙ (compared_is op number (column_of (nth places place).version.row column)
-        ∙ (sym (bit_at places place l) ∙ (ap (λ (bits : List Bool). get_or bits place false) (sym made) ∙ e)));
+    barred = sym (one_tells pred column op number places is place l) ∙ e;
   };
 }
-  where
-    many : (ps : List Place) → length (compared_at op number column ps) ≡ length ps
-    many [] = refl
-    many (p ∷ ps) = let rest = many ps in omega (arith, rest)
 
-    bit_at : (ps : List Place) (k : ℕ) → k < length ps
-        → get_or (compared_at op number column ps) k false ≡ compares_value op number (column_of (nth ps k).version.row column)
-    bit_at [] k l = absurd (omega arith)
-    bit_at (p ∷ ps) zero l = refl
-    bit_at (p ∷ ps) (suc k) l = bit_at ps k (omega arith)
+one_confirms : (pred : Condition) (column : ℕ) (op : Cmp) (number : ℤ) (places : List Place) → pred ≡ Compare column op (Literal (Int number))
+    → Confirms (pred ∷ []) places (compared_at op number column places)
+one_confirms pred column op number places is = λ place l e.
+    ap (λ (b : Bool). b && true) (sym (one_tells pred column op number places is place l) ∙ e)
 
 -- so of a column of numbers; of one of texts no mask tells
 pub column_admits : (pred : Condition) (column : ℕ) (op : Cmp) (number : ℤ) (places : List Place) (kind : Kind) (found : Option (List Bool))
@@ -88,9 +98,19 @@ pub column_admits : (pred : Condition) (column : ℕ) (op : Cmp) (number : ℤ) 
     → IfSome found (λ mask. Admits (pred ∷ []) places mask)
 column_admits pred column op number places kinds.Int found is told =
     subst (λ (o : Option (List Bool)). IfSome o (λ mask. Admits (pred ∷ []) places mask)) (sym told)
-    (one_admits pred column op number places (compared_at op number column places) is refl)
+    (one_admits pred column op number places is)
 column_admits pred column op number places kinds.Str found is told =
     subst (λ (o : Option (List Bool)). IfSome o (λ mask. Admits (pred ∷ []) places mask)) (sym told) tt
+
+pub column_confirms : (pred : Condition) (column : ℕ) (op : Cmp) (number : ℤ) (places : List Place) (kind : Kind) (found : Option (List Bool))
+    → pred ≡ Compare column op (Literal (Int number))
+    → found ≡ column_compared op number column (map (λ (p : Place). p.version.row) places) kind
+    → IfSome found (λ mask. Confirms (pred ∷ []) places mask)
+column_confirms pred column op number places kinds.Int found is told =
+    subst (λ (o : Option (List Bool)). IfSome o (λ mask. Confirms (pred ∷ []) places mask)) (sym told)
+    (one_confirms pred column op number places is)
+column_confirms pred column op number places kinds.Str found is told =
+    subst (λ (o : Option (List Bool)). IfSome o (λ mask. Confirms (pred ∷ []) places mask)) (sym told) tt
 
 -- ---- many
 
@@ -126,10 +146,9 @@ bit_both (a ∷ ones) [] k e l = absurd (omega (arith, e))
 bit_both (a ∷ ones) (b ∷ bs) zero e l = refl
 bit_both (a ∷ ones) (b ∷ bs) (suc k) e l = bit_both ones bs k (omega (arith, e)) (omega arith)
 
-pub joined_admit : (conditions : List Condition) (places : List Place) (one : Option (List Bool)) (other : List Bool)
-    → IfSome one (λ mask. Admits conditions places mask) → Admits conditions places other → Admits conditions places (joined_masks one other)
-joined_admit conditions places None other admits also = also
-joined_admit conditions places (Some mask) other admits also =
+pub both_admit : (conditions : List Condition) (places : List Place) (mask other : List Bool)
+    → Admits conditions places mask → Admits conditions places other → Admits conditions places (zip2 (λ bit bits. bit && bits) mask other)
+both_admit conditions places mask other admits also =
     let same : length other ≡ length mask = also.many ∙ sym admits.many in
     record {
       many = length_both mask other same ∙ admits.many;
@@ -140,6 +159,70 @@ joined_admit conditions places (Some mask) other admits also =
         → BarsRow conditions (nth places place)
     by place l false is e = admits.clear place l is
     by place l true is e = also.clear place l (ap (λ (c : Bool). c && get_or other place false) (sym is) ∙ e)
+
+-- one condition more, by a mask of its own
+pub confirm_more : (conditions : List Condition) (count : ℕ) (c : Condition) (places : List Place) (mask other : List Bool) → count < length conditions
+    → c ≡ get_or conditions count c → length mask ≡ length places → length other ≡ length places
+    → Confirms (take count conditions) places mask → Confirms (c ∷ []) places other
+    → Confirms (take (count + 1) conditions) places (zip2 (λ bit bits. bit && bits) mask other)
+confirm_more conditions count c places mask other l is many also_many all one = λ place within e.
+    let row : List Value = (nth places place).version.row in
+    let holds : Condition → Bool = λ pred. truth_of pred row in
+    let bits : (get_or mask place false && get_or other place false) ≡ true =
+    sym (bit_both mask other place (also_many ∙ sym many) (omega (arith, within, many))) ∙ e in
+    let parts = and_parts (get_or mask place false) (get_or other place false) bits in
+    let here : holds c ≡ true = (and_parts (holds c) true (one place within parts.1)).0 in
+    list_all_more holds conditions count c l
+    ∙ and_from (list_all holds (take count conditions)) (holds (get_or conditions count c)) (all place within parts.0)
+    (ap holds (sym is) ∙ here)
+
+-- where all bits are set
+pub full_admits : (conditions : List Condition) (places : List Place) (many : ℕ) (mask : List Bool) → many ≡ length places → mask ≡ replicate many true
+    → Admits conditions places mask
+full_admits conditions places many mask size is = record {
+  many = ap length is ∙ (length-replicate many true ∙ size);
+  clear = λ place l e. absurd (both_ways (get_or mask place false) e
+      (ap (λ (bits : List Bool). get_or bits place false) is ∙ get_or-replicate many place true false (omega (arith, l, size))));
+}
+
+pub turned : (many : ℕ) → map not (replicate many false) ≡ replicate many true
+turned zero = refl
+turned (suc many) = ap (λ (bits : List Bool). true ∷ bits) (turned many)
+
+-- a mask so far: it admits what all of the conditions may be true of, and where it is exact it confirms so many of them
+pub record Joins (conditions : List Condition) (count : ℕ) (places : List Place) (mask : List Bool) (is_exact : Bool) : Type 0 where
+  pub admits : Admits conditions places mask
+  pub confirms : is_exact ≡ true → Confirms (take count conditions) places mask
+
+pub joins_none : (conditions : List Condition) (places : List Place) (many : ℕ) (mask : List Bool) → many ≡ length places → mask ≡ replicate many true
+    → Joins conditions 0 places mask true
+joins_none conditions places many mask size is = record {
+  admits = full_admits conditions places many mask size is;
+  confirms = λ exact place l e. refl;
+}
+
+pub joins_more : (conditions : List Condition) (count : ℕ) (c : Condition) (places : List Place) (mask other now : List Bool) (is_exact : Bool)
+    → count < length conditions → c ≡ get_or conditions count c → now ≡ zip2 (λ bit bits. bit && bits) mask other
+    → Admits (c ∷ []) places other → Confirms (c ∷ []) places other → Joins conditions count places mask is_exact
+    → Joins conditions (count + 1) places now is_exact
+joins_more conditions count c places mask other now is_exact l is joined admits confirms j =
+    subst (λ (bits : List Bool). Joins conditions (count + 1) places bits is_exact) (sym joined) (record {
+      admits = both_admit conditions places mask other j.admits (admits_among c conditions places other (count, l, sym is) admits);
+      confirms = λ exact. confirm_more conditions count c places mask other l is j.admits.many admits.many (j.confirms exact) confirms;
+    })
+
+-- of a condition of which no mask tells
+pub joins_inexact : (conditions : List Condition) (count : ℕ) (places : List Place) (mask : List Bool) (is_exact : Bool) → Joins conditions count places mask is_exact
+    → Joins conditions (count + 1) places mask false
+joins_inexact conditions count places mask is_exact j = record {
+  admits = j.admits;
+  confirms = λ exact. absurd (both_ways false refl exact);
+}
+
+pub joins_all : (conditions : List Condition) (count : ℕ) (places : List Place) (mask : List Bool) (is_exact : Bool) → length conditions ≤ count
+    → Joins conditions count places mask is_exact → is_exact ≡ true → Confirms conditions places mask
+joins_all conditions count places mask is_exact l j exact =
+    subst (λ (all : List Condition). Confirms all places mask) (take_all count conditions l) (j.confirms exact)
 
 -- ---- what is barred is not wanted
 
@@ -176,6 +259,15 @@ nothing_wanted columns pred keys place none bars viewer =
     ap (λ (chain : List (Undo Image)). kept_by columns (conditions_of pred keys) (cell_of (seen before viewer place.version chain))) none
     ∙ in_place_barred columns pred keys place bars
 
+-- a mask that admits and confirms says what the condition says
+pub bit_is_truth : (pred : Condition) (places : List Place) (mask : List Bool) → Admits (conjuncts pred) places mask → Confirms (conjuncts pred) places mask
+    → (place : ℕ) → place < length places → get_or mask place false ≡ truth_of pred (nth places place).version.row
+bit_is_truth pred places mask admits confirms place l = by (get_or mask place false) refl
+  where
+    by : (b : Bool) → get_or mask place false ≡ b → get_or mask place false ≡ truth_of pred (nth places place).version.row
+    by true is = is ∙ sym (sym (conjuncts_truth pred (nth places place).version.row) ∙ confirms place l is)
+    by false is = is ∙ sym (barred_pred pred (nth places place) (admits.clear place l is))
+
 -- of an answer
 pub ok_weaker : {A E : Type 0} (r : Result A E) (P Q : A → Type 0) → ((x : A) → P x → Q x) → IfOk r P → IfOk r Q
 ok_weaker (Err e) P Q f h = tt
@@ -191,16 +283,3 @@ past_end (type ∷ types) (suc column) kind l = past_end types column kind (omeg
 pub is_false : (b : Bool) → not b ≡ true → b ≡ false
 is_false true e = absurd (both_ways false refl e)
 is_false false e = refl
-
-and_none : {A : Type 0} (xs : List A) → xs ≡ xs ++ []
-and_none [] = refl
-and_none {A} (x ∷ xs) = ap (λ (ys : List A). x ∷ ys) (and_none xs)
-
--- a position at which nothing is kept adds nothing
-pub passed_more : (keeps : Cell → List (List Value)) (viewer : Viewer) (places : List Place) (count : ℕ) (before gathered : List (List Value))
-    → count < length places → keeps (sees viewer (nth places count)) ≡ [] → gathered ≡ before ++ flat_map keeps (rows_seen viewer (take count places))
-    → gathered ≡ before ++ flat_map keeps (rows_seen viewer (take (count + 1) places))
-passed_more keeps viewer places count before gathered l none so_far =
-    so_far ∙ (and_none (before ++ flat_map keeps (rows_seen viewer (take count places)))
-    ∙ (ap (λ (rows : List (List Value)). (before ++ flat_map keeps (rows_seen viewer (take count places))) ++ rows) (sym none)
-    ∙ gathered_more keeps viewer places count before l))

@@ -165,7 +165,7 @@ blank_at f n kinds rows live used deaths chains k l = λ i. record {
   chain = (ap (λ (xs : List (List (Undo Image))). get_or xs k []) chains ∙ get_or-replicate n k [] [] l) i;
 }
 
-fits_first : (kinds : List Kind) → FitsRow kinds (map first_value kinds)
+pub fits_first : (kinds : List Kind) → FitsRow kinds (map first_value kinds)
 fits_first [] = tt
 fits_first (Int ∷ kinds) = (tt, fits_first kinds)
 fits_first (Str ∷ kinds) = (tt, fits_first kinds)

@@ -1,5 +1,5 @@
 -- A position whose chain is pruned.
-use Rattle.std.proofs.Common.{◌≡◌, ℕ, ◌<◌, false, List, [], length, get_or, refl, sym, ap, ◌∙◌, subst}
+use Rattle.std.proofs.Common.{◌≡◌, ℕ, ◌<◌, false, List, [], length, get_or, refl, sym, ap, subst}
 use Rattle.std.proofs.Math.ListN.{set}
 use Rattle.hy_value.specs.declared.Kind.{Kind}
 use Rattle.hy_prune.specs.declared.Cover.{Cover}
@@ -8,8 +8,7 @@ use Rattle.hy_chain.specs.Pruning.{pruned}
 use Rattle.hy_undo.specs.Images.{Image, both}
 use Rattle.hy_undo.specs.Places.{Place}
 use Rattle.hy_undo.specs.Steps.{pruned_place}
-use Rattle.std.proofs.lemmas.List.{set-get_or}
-use Rattle.hy_chunk.specs.Fields.{blank_with, places_of, nth}
+use Rattle.hy_chunk.specs.Fields.{places_of, nth}
 use Rattle.hy_chunk.specs.Sound.{FitsPlace, Sound}
 use Rattle.hy_chunk.proofs.Places.{Fields, at, all, Changed, kept, put, put_there, in_chains, fits_there, changed_to, sound_changed}
 use Rattle.hy_chunk.proofs.Fitting.{fits_pruned}
@@ -39,10 +38,3 @@ module _ (f : Fields) (kinds : List Kind) (spare : List Image) (seen_places : Li
 
   pub pruned_places : places_of f.rows f.live f.used f.deaths chains ≡ set seen_places place (pruned_place cover (nth seen_places place))
   pruned_places = changed_to place f new seen_places (pruned_place cover) view changed l here
-
--- where no record is, nothing is pruned
-pub unpruned : (cover : Cover) (places : List Place) (place : ℕ) → (nth places place).chain ≡ []
-    → places ≡ set places place (pruned_place cover (nth places place))
-unpruned cover places place none =
-    let same : pruned both cover (nth places place).chain ≡ (nth places place).chain = ap (pruned both cover) none ∙ sym none in
-    sym ((λ i. set places place (record (nth places place) { chain = same i })) ∙ set-get_or places place (blank_with []))

@@ -1,6 +1,6 @@
 -- The range of the positions that have records, when chains change.
-use Rattle.std.proofs.Common.{◌≡◌, ℕ, zero, suc, ◌<◌, false, List, [], ◌∷◌, length, get_or, replicate, refl, sym, ap, ◌∙◌, subst, arith, inl, inr}
-use Rattle.std.specs.Prelude.{◌⊎◌, ◌^◌, ◌&&◌, nat_le, nat_lt}
+use Rattle.std.proofs.Common.{◌≡◌, ℕ, zero, suc, ◌<◌, ◌≤◌, false, List, [], ◌∷◌, length, get_or, replicate, refl, sym, ap, ◌∙◌, subst, arith, inl, inr}
+use Rattle.std.specs.Prelude.{◌⊎◌, ◌^◌, ◌&&◌, min, nat_le, nat_lt}
 use Rattle.std.proofs.Math.ListN.{set}
 use Rattle.std.proofs.lemmas.Bool.{cases_eq, both_ways, and_from, le-leb, lt-ltb}
 use Rattle.std.proofs.lemmas.List.{length-set, get_or-set_other}
@@ -70,4 +70,11 @@ outside_none range chains place c out = elim (c place) [
   | inl none ↦ none
   | inr within ↦ absurd (both_ways (nat_le range.first place && nat_lt place range.end) out
       (and_from (nat_le range.first place) (nat_lt place range.end) (le-leb range.first place within.0) (lt-ltb place range.end within.1)))
+]
+
+-- a position apart from the range has no record
+pub apart_none : (range : Versioned) (chains : Chains) (place : ℕ) → Covers range chains → (IsIn place range → ⊥) → get_or chains place [] ≡ []
+apart_none range chains place c apart = elim (c place) [
+  | inl none ↦ none
+  | inr within ↦ absurd (apart within)
 ]

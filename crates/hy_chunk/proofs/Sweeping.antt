@@ -1,5 +1,5 @@
 -- A sweep over the positions, one after the other.
-use Rattle.std.proofs.Common.{◌≡◌, ℕ, zero, suc, ◌+◌, ◌<◌, ◌≤◌, Bool, true, false, List, [], ◌∷◌, length}
+use Rattle.std.proofs.Common.{◌≡◌, ℕ, zero, suc, ◌+◌, ◌-◌, ◌<◌, ◌≤◌, Bool, true, false, List, [], ◌∷◌, length}
 use Rattle.std.proofs.Common.{drop, Option, None, Some, Result, Ok, Err, refl, sym, ap, ◌∙◌, cond, subst, arith}
 use Rattle.std.specs.Prelude.{is_some, count_by}
 use Rattle.std.proofs.lemmas.List.{at_drop_more, at_drop_all}
@@ -10,7 +10,7 @@ use Rattle.hy_stamp.specs.declared.Label.{Label}
 use Rattle.hy_stamp.specs.declared.Viewer.{Viewer}
 use Rattle.hy_bound.specs.Condition.{Condition}
 use Rattle.hy_bound.specs.declared.Assign.{Assign}
-use Rattle.hy_bound.specs.Predicate.{truth_at}
+use Rattle.hy_bound.specs.Predicate.{truth_at, truth_of}
 use Rattle.hy_change.specs.declared.Change.{Change}
 use Rattle.hy_chain.specs.Chains.{Undo, rival, seen, stops}
 use Rattle.hy_undo.specs.declared.refusal.Refusal.{Refusal}
@@ -20,8 +20,10 @@ use Rattle.hy_undo.specs.Places.{Place, Cell, sees, cell_of}
 use Rattle.hy_undo.specs.Chunks.{Written}
 use Rattle.hy_undo.specs.Sweeps.{verdict, judged, new_cell, and_new, swept, AllWritten}
 use Rattle.hy_chunk.specs.Fields.{nth, blank_with}
+use Rattle.hy_chunk.specs.Gathering.{AsksKey}
+use Rattle.hy_chunk.specs.Keyed.{PassesOver}
 use Rattle.std.specs.List.{AllByRecursion}
-use Rattle.std.proofs.lemmas.Bool.{cases_eq}
+use Rattle.std.proofs.lemmas.Bool.{cases_eq, cases_lt, false_from_ne_true}
 use Rattle.std.proofs.Common.{inl, inr}
 use Rattle.hy_value.specs.declared.Kind.{Kind}
 use Rattle.hy_bound.specs.declared.WriteKind.{WriteKind}
@@ -64,6 +66,16 @@ module _ (sets : Option (List Assign)) (pred : Condition) (viewer : Viewer) (fir
       ap (λ (n : ℕ). refusal_in (swept sets pred viewer n (drop (count + 1) places))) (sym (next_number count))
       ∙ sym (step count l ∙ not_here (judged_at sets pred viewer (first + count) (nth places count))
       (swept sets pred viewer (suc (first + count)) (drop (count + 1) places)) e)
+
+-- what stays from each position to the one behind it stays over many
+same_past : {X : Type 0} (reads : ℕ → X) (from next : ℕ) → from ≤ next → ((k : ℕ) → from ≤ k → k < next → reads (k + 1) ≡ reads k) → reads next ≡ reads from
+same_past {X} reads from next le step = let all : from + (next - from) ≡ next = omega (arith, le) in ap reads (sym all) ∙ over (next - from) (omega (arith, le))
+  where
+    over : (gap : ℕ) → from + gap ≤ next → reads (from + gap) ≡ reads from
+    over zero l = let none : ◌≡◌ {A = ℕ} (from + zero) from = omega arith in ap reads none
+    over (suc gap) l =
+        let more : ◌≡◌ {A = ℕ} (from + suc gap) ((from + gap) + 1) = omega arith in
+        ap reads more ∙ (step (from + gap) (omega arith) (omega (arith, l)) ∙ over gap (omega (arith, l)))
 
 -- a viewer whose write is in conflict with nobody sees what is in place
 pub sees_in_place : (viewer : Viewer) (version : Version) (chain : List (Undo Image)) → rival viewer chain ≡ None → seen before viewer version chain ≡ version
@@ -224,6 +236,54 @@ module _ (sets : Option (List Assign)) (pred : Condition) (viewer : Viewer) (tab
     counted = unfolds (λ r ps. counted_of r)
         ∙ (ap (λ (v : Result (Option Cell) Refusal). counted_of (and_new v (left (suc (first + count))))) some
         ∙ (counted_some cell (left (suc (first + count))) both.1 ∙ ap (λ (n : ℕ). 1 + counted_of (left n)) after))
+
+-- a position that a sweep passes over, since it looks for a key that no row has that is seen there
+pub passed : (sets : Option (List Assign)) (pred : Condition) (viewer : Viewer) (pos : ℕ) (key : Option ℕ) (asked : Option Value) (places now : List Place)
+    (from next place : ℕ) → AsksKey pred key asked → PassesOver key asked now from next → from ≤ place → place < next → nth now place ≡ nth places place
+    → judged_at sets pred viewer pos (nth places place) ≡ Ok None
+passed sets pred viewer pos None asked places now from next place asks over low l same = absurd (omega (arith, over, low, l))
+passed sets pred viewer pos (Some key) None places now from next place asks over low l same = absurd (omega (arith, over, low, l))
+passed sets pred viewer pos (Some key) (Some value) places now from next place asks over low l same =
+    by (sees viewer (nth places place)) refl
+  where
+    other : Option Label
+    other = rival viewer (nth places place).chain
+
+    by : (cell : Cell) → sees viewer (nth places place) ≡ cell → verdict sets pred pos other cell ≡ Ok None
+    by None is = refl
+    by (Some row) is = no_row sets pred pos other (Some row) (false_from_ne_true (truth_of pred row) (λ yes.
+        over viewer place row low l (ap (sees viewer) same ∙ is) (asks row yes)))
+
+module _ (sets : Option (List Assign)) (pred : Condition) (viewer : Viewer) (first : ℕ) (places : List Place) (from next : ℕ) (le : from ≤ next)
+    (within : next ≤ length places)
+    (none : (k : ℕ) → from ≤ k → k < next → judged_at sets pred viewer (first + k) (nth places k) ≡ Ok None) where
+  abbrev rest_at : ℕ → Result (List (Option Cell)) Refusal
+  rest_at k = swept sets pred viewer (first + k) (drop k places)
+
+  refused_to : (k : ℕ) → from ≤ k → k ≤ next → refusal_in (rest_at k) ≡ refusal_in (rest_at from)
+  refused_to k low high = same_past (λ (j : ℕ). refusal_in (rest_at j)) from k low (λ j l m.
+      goes_on sets pred viewer first places j (omega (arith, m, high, within))
+      (sym (ap (λ (v : Result (Option Cell) Refusal). refusal_in v) (none j l (omega (arith, m, high))))))
+
+  pub refused_past : refusal_in (rest_at next) ≡ refusal_in (rest_at from)
+  refused_past = refused_to next le (omega arith)
+
+  module _ (table : ℕ) (ok : refusal_in (rest_at from) ≡ None) where
+    pub noted_past : (notes : List Change) → noted_of table (first + next) viewer (rest_at next) (drop next places) notes
+        ≡ noted_of table (first + from) viewer (rest_at from) (drop from places) notes
+    noted_past notes = same_past (λ (j : ℕ). noted_of table (first + j) viewer (rest_at j) (drop j places) notes) from next le (λ j l m.
+        sym (unnoted sets pred viewer table first places j (omega (arith, m, within)) (refused_to j l (omega (arith, m)) ∙ ok) (none j l m) notes))
+
+    pub counted_past : counted_of (rest_at next) ≡ counted_of (rest_at from)
+    counted_past = same_past (λ (j : ℕ). counted_of (rest_at j)) from next le (λ j l m.
+        sym (uncounted sets pred viewer table first places j (omega (arith, m, within)) (refused_to j l (omega (arith, m)) ∙ ok) (none j l m) []))
+
+-- what holds of the positions so far and of those that are passed over holds of all of them
+pub done_past : (has : ℕ → Type 0) (from next : ℕ) → ((k : ℕ) → k < from → has k) → ((k : ℕ) → from ≤ k → k < next → has k) → (k : ℕ) → k < next → has k
+done_past has from next before between k l = elim (cases_lt k from) [
+  | inl low ↦ before k low
+  | inr high ↦ between k high l
+]
 
 written_by : (viewer : Viewer) (label : Label) (v : Result (Option Cell) Refusal) (rest : Result (List (Option Cell)) Refusal) (old new : Place)
     (olds news : List Place)

@@ -50,6 +50,12 @@ GathersRead = (columns : ColMask) (conditions : List Condition) (cells : List Ce
 abbrev pub Asks : Condition → ℕ → Value → Type 0
 Asks pred column value = (row : List Value) → truth_of pred row ≡ true → column_of row column ≡ value
 
+-- so it is of the key, where there is one and a value is asked of it
+abbrev pub AsksKey : Condition → Option ℕ → Option Value → Type 0
+AsksKey pred None asked = Unit {0}
+AsksKey pred (Some key) None = Unit {0}
+AsksKey pred (Some key) (Some value) = Asks pred key value
+
 -- one of some conditions is true only of rows with one of these values in a column
 abbrev pub AsksOneOf : List Condition → ℕ → List Value → Type 0
 AsksOneOf conditions column values = (row : List Value) → is_read_of conditions row ≡ true → Contains values (column_of row column)

@@ -48,3 +48,14 @@ abbrev pub AreFound : ℕ → Value → List Place → List ℕ → Type 0
 AreFound key value places found =
     (viewer : Viewer) (place : ℕ) (row : List Value) → place < length places → sees viewer (nth places place) ≡ Some row → column_of row key ≡ value
     → Contains found place
+
+-- no row that a viewer sees from one position up to another has this key
+abbrev pub NoneBetween : ℕ → Value → List Place → ℕ → ℕ → Type 0
+NoneBetween key value places from next =
+    (viewer : Viewer) (place : ℕ) (row : List Value) → from ≤ place → place < next → sees viewer (nth places place) ≡ Some row → column_of row key ≡ value → ⊥
+
+-- so it is where a key is asked; else no position is passed over
+abbrev pub PassesOver : Option ℕ → Option Value → List Place → ℕ → ℕ → Type 0
+PassesOver None asked places from next = next ≡ from
+PassesOver (Some key) None places from next = next ≡ from
+PassesOver (Some key) (Some value) places from next = NoneBetween key value places from next

@@ -10,3 +10,4 @@ pub mod Whole
 pub mod Gathering
 pub mod Writes
 pub mod Masked
+pub mod Parts

@@ -1,6 +1,6 @@
--- Masks: at which positions a condition may be true of the row in place.
-use Rattle.std.specs.Prelude.{◌≡◌, ℕ, ◌<◌, List, Bool, false, ◌&&◌, Option, None, Some, Contains, slice_index_or, length}
-use lib.Lanes.{zip2}
+-- Masks: at which positions a condition may be true of the row in place, or is.
+use Rattle.std.specs.Prelude.{◌≡◌, ℕ, ◌<◌, List, Bool, true, false, Contains, slice_index_or, length}
+use Rattle.std.specs.List.{list_all}
 use Rattle.hy_bound.specs.Condition.{Condition}
 use Rattle.hy_bound.specs.Predicate.{truth_of}
 use Rattle.hy_undo.specs.Places.{Place}
@@ -17,7 +17,8 @@ pub record Admits (conditions : List Condition) (places : List Place) (mask : Li
   pub many : length mask ≡ length places
   pub clear : (place : ℕ) → place < length places → slice_index_or mask place false ≡ false → BarsRow conditions (nth places place)
 
--- where another mask is there, the bits that are set in both
-abbrev pub joined_masks : Option (List Bool) → List Bool → List Bool
-joined_masks None other = other
-joined_masks (Some mask) other = zip2 (λ bit bits. bit && bits) mask other
+-- where a bit is set, all of these conditions are true of the row in place
+abbrev pub Confirms : List Condition → List Place → List Bool → Type 0
+Confirms conditions places mask =
+    (place : ℕ) → place < length places → slice_index_or mask place false ≡ true
+    → list_all (λ pred. truth_of pred (nth places place).version.row) conditions ≡ true

@@ -9,10 +9,6 @@ use Rattle.hy_chunk.specs.Fields.{nth}
 abbrev pub loaded_place : List Value → Place → Place
 loaded_place row place = record place { version = record { row = row; live = true }; used = true }
 
--- the least position that is unused, or how many there are
-abbrev pub least_unused : List Place → ℕ
-least_unused places = prefix_len (λ place. place.used) places
-
 -- the least position that may take a new row from a watermark on, or how many there are
 abbrev pub least_free : ℕ → List Place → ℕ
 least_free watermark places = prefix_len (λ place. not (is_free watermark place)) places

@@ -1,26 +1,26 @@
 //! A chunk of a table.
 
 ghost use Rattle.std.specs.Prelude.{◌≡◌, ◌++◌, take, None, Some, IfErr, ◌+◌, ◌<◌, ◌≤◌, ◌^◌};
-ghost use Rattle.std.specs.Prelude.{ℕ, List, [], IfOk, true, OnOk, OnErr, length, replicate, slice_index_or, slice_set};
+ghost use Rattle.std.specs.Prelude.{ℕ, List, [], IfOk, true, false, OnOk, OnErr, length, replicate, slice_index_or, slice_set};
 ghost use Rattle.std.specs.List.{AllByRecursion, flat_map, list_any};
-ghost use Rattle.std.specs.Prelude.{Contains, IfSome};
+ghost use Rattle.std.specs.Prelude.{Contains, IfSome, map};
 ghost use Rattle.hy_bound.specs.Condition.{Compare};
 ghost use Rattle.hy_bound.specs.Predicate.{truth_at};
 ghost use Rattle.hy_bound.specs.Projection.{projected};
 ghost use Rattle.hy_chain.specs.Chains.{Falls};
 ghost use Rattle.hy_notes.specs.Notes.{with_note};
 ghost use Rattle.hy_prune.specs.Fates.{watermark_of};
-ghost use Rattle.hy_undo.specs.Places.{cell_of, sees};
+ghost use Rattle.hy_undo.specs.Places.{cell_of, in_place, sees};
 ghost use Rattle.hy_undo.specs.Chunks.{rows_seen, Placed, Everywhere, AtOwn, StampedPlace, Undone, Pruned};
 ghost use Rattle.hy_chunk.specs.Fields.{blank_place, nth};
 ghost use Rattle.hy_plan.specs.Reads.{by_key_of};
 ghost use Rattle.hy_chunk.specs.Gathering.{AreEnough, conditions_of, gathered_by, gathered_of, kept_by};
 ghost use Rattle.hy_chunk.specs.Keyed.{is_key_of};
-ghost use Rattle.hy_chunk.specs.Masked.{Admits};
+ghost use Rattle.hy_chunk.specs.Masked.{Admits, Confirms};
+ghost use Rattle.hy_chunk.specs.Parts.{part_of};
 ghost use Rattle.hy_bound.specs.Records.{conjuncts};
-ghost use Rattle.std.specs.Option.{option_copied};
 ghost use Rattle.hy_chunk.specs.Sound.{FitsRow};
-ghost use Rattle.hy_chunk.specs.Steps.{loaded_place, least_unused, least_free, IsPut};
+ghost use Rattle.hy_chunk.specs.Steps.{loaded_place, least_free, IsPut};
 ghost use Rattle.hy_chunk.specs.Views.{with_places};
 ghost use Rattle.hy_chunk.specs.Writes.{FitsWrite, IsDone, refusal_in, sets_of};
 ghost use Rattle.hy_undo.specs.Sweeps.{swept};
@@ -29,9 +29,11 @@ ghost use Rattle.hy_value.specs.declared.Value.{Value};
 ghost use Rattle.hy_value.specs.declared.Cmp.{Cmp};
 ghost use Rattle.hy_bound.specs.declared.predicate.Side.{Side};
 
-use crate::gathering::{Keys, Wanted, conditions_gather_rows, has_in, keep, keys_of, value_asked};
+use crate::gathering::{
+    Keys, Wanted, columns_in, conditions_gather_rows, has_in, keep, key_asked, keys_of, value_asked,
+};
 use crate::masks::{admitted, is_passed};
-use crate::positions::Positions;
+use crate::positions::{Part, Positions};
 use crate::writes::{is_selected, make_next, note, refusal_at};
 use hy_bound::{Pred, WriteKind};
 use hy_kernel::Mask;
@@ -44,7 +46,7 @@ use hy_value::{ColMask, Kind, Row, Seq, Value};
 use std::alloc::{AllocError, Global};
 use std::marker::Model;
 
-/// Every position is used.
+/// No position may take a new row.
 #[derive(Clone, Copy, Debug, PartialEq, Eq)]
 pub struct NoRoom;
 
@@ -182,7 +184,8 @@ impl Chunk {
         ensures room { self.old.room ≤ self.new.room }
     {
         hy_undo::places_step();
-        for place in 0..self.positions.len() {
+        let part = self.positions.versioned_part();
+        for place in part.first..part.end {
             self.positions.stamp_at(place, id, time);
         }
     }
@@ -194,7 +197,8 @@ impl Chunk {
         ensures room { self.old.room ≤ self.new.room }
     {
         hy_undo::places_step();
-        for place in 0..self.positions.len() {
+        let part = self.positions.versioned_part();
+        for place in part.first..part.end {
             self.positions.undo_at(place, id, &mut self.seen);
         }
     }
@@ -207,44 +211,23 @@ impl Chunk {
         ensures room { self.old.room ≤ self.new.room }
     {
         hy_undo::places_step();
-        for place in 0..self.positions.len() {
-            self.positions.prune_records(place, cover);
+        let part = self.positions.versioned_part();
+        for place in part.first..part.end {
+            self.positions.prune_at(place, cover);
         }
         self.positions.narrow();
     }
 
-    /// How many positions from the front on are used.
-    fn used_from_front(&self) -> usize
-        ensures least { result ≡ least_unused self.now.shown.places }
-        ensures within { result ≤ length self.now.shown.places }
-    {
-        for place in 0..self.positions.len() {
-            if !self.positions.is_used(place) {
-                return place;
-            }
-        }
-        self.positions.len()
-    }
-
-    /// Puts a first row into the least unused position, which it answers. It fails only where every position is used,
-    /// and then changes nothing.
-    pub fn load(&mut self, row: &Row) -> Result<u32, NoRoom>
-        requires { FitsRow self.old.kinds row.now }
-        ensures pos { IfOk result (λ pos. pos ≡ self.old.shown.first + least_unused self.old.shown.places) }
-        ensures ok { OnOk result (self.new ≡ with_places self.old
-            (slice_set self.old.shown.places (least_unused self.old.shown.places)
-            (loaded_place row.now (nth self.old.shown.places (least_unused self.old.shown.places)))) self.new.room) }
-        ensures there { OnOk result (least_unused self.old.shown.places < length self.old.shown.places) }
-        ensures none { OnErr result (least_unused self.old.shown.places ≡ length self.old.shown.places) }
-        ensures kept { OnErr result (self.new ≡ self.old) }
+    /// Puts a first row into an unused position.
+    pub fn load_at(&mut self, place: usize, row: &Row)
+        requires within { place < length self.old.shown.places }
+        requires unused { (nth self.old.shown.places place).used ≡ false }
+        requires fits { FitsRow self.old.kinds row.now }
+        ensures all { self.new ≡ with_places self.old
+            (slice_set self.old.shown.places place (loaded_place row.now (nth self.old.shown.places place))) self.new.room }
         ensures room { self.old.room ≤ self.new.room }
     {
-        let place = self.used_from_front();
-        if place == self.positions.len() {
-            return Err(NoRoom);
-        }
         self.positions.load_at(place, row);
-        Ok(self.first + place as u32)
     }
 
     /// Whether a viewer sees a row that has this value in a column, tried at each position.
@@ -273,25 +256,28 @@ impl Chunk {
         }
     }
 
-    /// Appends, position by position, what is wanted of the rows that a viewer sees, tried at each where a mask does not
-    /// pass it. Err is for want of memory: then only the rows that were there before are there for certain.
-    fn gather_of_all(
+    /// Appends, position by position of a part, what is wanted of the rows that a viewer sees, tried at each where a mask
+    /// does not pass it. Err is for want of memory: then only the rows that were there before are there for certain.
+    fn gather_by_row(
         &mut self,
         alloc: Global,
         viewer: &Viewer,
         wanted: &Wanted,
-        mask: Option<&Mask>,
+        mask: &Mask,
+        part: Part,
         gathered: &mut Gathered,
     ) -> Result<(), AllocError>
         requires fits { (row : List Value) → FitsRow self.old.kinds row → length (projected wanted.now.columns row) ≡ gathered.old.width }
-        requires mask { IfSome (option_copied mask) (Admits (conjuncts wanted.now.pred.now) self.old.shown.places) }
-        ensures rows { OnOk result (gathered.new.rows ≡ gathered.old.rows
-            ++ gathered_by wanted.now.columns (conditions_of wanted.now.pred.now wanted.now.keys) (rows_seen viewer.now self.old.shown.places)) }
+        requires mask { Admits (conjuncts wanted.now.pred.now) self.old.shown.places mask.now }
+        requires ordered { part.first ≤ part.end }
+        requires within { part.end ≤ length self.old.shown.places }
+        ensures rows { OnOk result (gathered.new.rows ≡ gathered.old.rows ++ gathered_by wanted.now.columns
+            (conditions_of wanted.now.pred.now wanted.now.keys) (rows_seen viewer.now (part_of part.first part.end self.old.shown.places))) }
         ensures err { OnErr result (take (length gathered.old.rows) gathered.new.rows ≡ gathered.old.rows) }
         ensures width { gathered.new.width ≡ gathered.old.width }
         ensures all { self.new ≡ self.old }
     {
-        for place in 0..self.positions.len() {
+        for place in part.first..part.end {
             if is_passed(&self.positions, place, wanted, mask) {
                 continue;
             }
@@ -299,6 +285,94 @@ impl Chunk {
             keep(alloc, &self.seen, wanted, gathered)?;
         }
         Ok(())
+    }
+
+    /// Appends, position by position of a part, of the rows in place that a condition selects the wanted values, by a
+    /// mask that tells which these are. Without memory nothing changes.
+    fn gather_plain(
+        &self,
+        alloc: Global,
+        wanted: &Wanted,
+        mask: &Mask,
+        part: Part,
+        gathered: &mut Gathered,
+    ) -> Result<(), AllocError>
+        requires fits { (row : List Value) → FitsRow self.now.kinds row → length (projected wanted.now.columns row) ≡ gathered.old.width }
+        requires admits { Admits (conjuncts wanted.now.pred.now) self.now.shown.places mask.now }
+        requires confirms { Confirms (conjuncts wanted.now.pred.now) self.now.shown.places mask.now }
+        requires ordered { part.first ≤ part.end }
+        requires within { part.end ≤ length self.now.shown.places }
+        ensures rows { OnOk result (gathered.new.rows ≡ gathered.old.rows ++ gathered_of wanted.now.columns wanted.now.pred.now
+            (map in_place (part_of part.first part.end self.now.shown.places))) }
+        ensures err { OnErr result (gathered.new.rows ≡ gathered.old.rows) }
+        ensures width { gathered.new.width ≡ gathered.old.width }
+    {
+        self.positions.rows_fit();
+        let places = self.positions.plain_places(alloc, mask, part)?;
+        let columns = columns_in(alloc, wanted.columns, self.positions.width())?;
+        gathered.add_placed(&self.positions, places.as_slice(), columns.as_slice())
+    }
+
+    /// Appends, position by position, what is wanted without keys of the rows that a viewer sees, by a mask that tells
+    /// of which rows in place the condition is true: where no record is, by column. Err is for want of memory: then
+    /// only the rows that were there before are there for certain.
+    fn gather_by_mask(
+        &mut self,
+        alloc: Global,
+        viewer: &Viewer,
+        wanted: &Wanted,
+        mask: &Mask,
+        gathered: &mut Gathered,
+    ) -> Result<(), AllocError>
+        requires fits { (row : List Value) → FitsRow self.old.kinds row → length (projected wanted.now.columns row) ≡ gathered.old.width }
+        requires admits { Admits (conjuncts wanted.now.pred.now) self.old.shown.places mask.now }
+        requires confirms { Confirms (conjuncts wanted.now.pred.now) self.old.shown.places mask.now }
+        requires keys { wanted.now.keys ≡ None }
+        ensures rows { OnOk result (gathered.new.rows ≡ gathered.old.rows
+            ++ gathered_by wanted.now.columns (conditions_of wanted.now.pred.now wanted.now.keys) (rows_seen viewer.now self.old.shown.places)) }
+        ensures err { OnErr result (take (length gathered.old.rows) gathered.new.rows ≡ gathered.old.rows) }
+        ensures width { gathered.new.width ≡ gathered.old.width }
+        ensures all { self.new ≡ self.old }
+    {
+        let versioned = self.positions.versioned_part();
+        let before = Part {
+            first: 0,
+            end: versioned.first,
+        };
+        let behind = Part {
+            first: versioned.end,
+            end: self.positions.len(),
+        };
+        self.gather_plain(alloc, wanted, mask, before, gathered)?;
+        self.gather_by_row(alloc, viewer, wanted, mask, versioned, gathered)?;
+        self.gather_plain(alloc, wanted, mask, behind, gathered)
+    }
+
+    /// Appends, position by position, what is wanted of the rows that a viewer sees, where a mask may pass positions.
+    /// Err is for want of memory: then only the rows that were there before are there for certain.
+    fn gather_admitted(
+        &mut self,
+        alloc: Global,
+        viewer: &Viewer,
+        wanted: &Wanted,
+        gathered: &mut Gathered,
+    ) -> Result<(), AllocError>
+        requires { (row : List Value) → FitsRow self.old.kinds row → length (projected wanted.now.columns row) ≡ gathered.old.width }
+        ensures rows { OnOk result (gathered.new.rows ≡ gathered.old.rows
+            ++ gathered_by wanted.now.columns (conditions_of wanted.now.pred.now wanted.now.keys) (rows_seen viewer.now self.old.shown.places)) }
+        ensures err { OnErr result (take (length gathered.old.rows) gathered.new.rows ≡ gathered.old.rows) }
+        ensures width { gathered.new.width ≡ gathered.old.width }
+        ensures all { self.new ≡ self.old }
+    {
+        let found = admitted(alloc, &self.positions, wanted.pred)?;
+        if found.is_exact && wanted.keys.is_none() {
+            return self.gather_by_mask(alloc, viewer, wanted, &found.mask, gathered);
+        }
+        let all = Part {
+            first: 0,
+            end: self.positions.len(),
+        };
+        self.gather_by_row(alloc, viewer, wanted, &found.mask, all, gathered)
     }
 
     /// Appends, at these positions in turn, what is wanted of the rows that a viewer sees. Err is for want of memory:
@@ -340,7 +414,7 @@ impl Chunk {
         if let Some(values) = keys_of(wanted, key) {
             return Ok(Some(self.positions.find_each(alloc, key, values)?));
         }
-        match value_asked(alloc, wanted.pred, key)? {
+        match value_asked(wanted.pred, key) {
             Some(value) => Ok(Some(self.positions.find_each(alloc, key, &[value])?)),
             None => Ok(None),
         }
@@ -364,10 +438,7 @@ impl Chunk {
     {
         match self.places_wanted(alloc, wanted)? {
             Some(places) => self.gather_at(alloc, viewer, wanted, places.as_slice(), gathered),
-            None => {
-                let mask = admitted(alloc, &self.positions, wanted.pred)?;
-                self.gather_of_all(alloc, viewer, wanted, mask.as_ref(), gathered)
-            }
+            None => self.gather_admitted(alloc, viewer, wanted, gathered),
         }
     }
 
@@ -478,13 +549,17 @@ impl Chunk {
         ensures refusal { result ≡ refusal_in (swept (sets_of kind.now) pred.now viewer.now self.old.shown.first self.old.shown.places) }
         ensures all { self.new ≡ self.old }
     {
-        for place in 0..self.positions.len() {
+        let asked = key_asked(pred, self.positions.key());
+        let end = self.positions.len();
+        let mut place = self.positions.next_wanted(&asked, 0);
+        while place < end {
             self.positions.see(place, viewer, &mut self.seen);
             let rival = self.positions.rival(place, viewer);
             let pos = self.first + place as u32;
             if let Some(refusal) = refusal_at(&self.seen, pred, kind, rival, pos) {
                 return Some(refusal);
             }
+            place = self.positions.next_wanted(&asked, place + 1);
         }
         None
     }
@@ -511,15 +586,20 @@ impl Chunk {
         ensures notes_room { changes.old.room ≤ changes.new.room + length self.old.shown.places }
         ensures notes_width { changes.new.width ≡ changes.old.width }
     {
+        let asked = key_asked(pred, self.positions.key());
+        let end = self.positions.len();
         let mut written = 0;
-        for place in 0..self.positions.len() {
-            self.positions.see(place, viewer, &mut self.seen);
+        let mut place = self.positions.next_wanted(&asked, 0);
+        while place < end {
+            let here = place;
+            place = self.positions.next_wanted(&asked, here + 1);
+            self.positions.see(here, viewer, &mut self.seen);
             if !is_selected(&self.seen, pred) {
                 continue;
             }
             make_next(kind, &self.seen.row, &mut self.next);
-            self.positions.write_at(place, viewer, label, &self.next);
-            let pos = self.first + place as u32;
+            self.positions.write_at(here, viewer, label, &self.next);
+            let pos = self.first + here as u32;
             note(changes, self.table, pos, &self.seen.row, &self.next);
             written += 1;
         }

@@ -1,16 +1,18 @@
 //! Which rows are gathered, and what of them.
 
-ghost use Rattle.std.specs.Prelude.{◌≡◌, ◌++◌, [], ◌∷◌, IfOk, IfSome, OnOk, OnErr, ◌==◌, ◌&&◌, nat_le, length, map};
+ghost use Rattle.std.specs.Prelude.{◌≡◌, ◌<◌, ◌++◌, List, [], ◌∷◌, All, IfOk, IfSome, OnOk, OnErr, ◌==◌, ◌&&◌, nat_le, length, map};
 ghost use Rattle.std.specs.List.{list_any};
 ghost use Rattle.hy_bound.specs.Condition.{Condition};
 ghost use Rattle.hy_bound.specs.PredView.{viewed_side};
-ghost use Rattle.hy_bound.specs.Predicate.{truth_of};
+ghost use Rattle.hy_bound.specs.Predicate.{column_of, truth_of};
 ghost use Rattle.hy_bound.specs.Records.{conjuncts};
 ghost use Rattle.hy_bound.specs.declared.predicate.Side.{Side};
 ghost use Rattle.hy_bound.specs.Projection.{projected};
 ghost use Rattle.hy_plan.specs.Reads.{by_key_of, is_read_of, key_is_value, most_keys};
 ghost use Rattle.hy_undo.specs.Places.{cell_of};
-ghost use Rattle.hy_chunk.specs.Gathering.{Asks, AsksOneOf, GathersOne, GathersRead, conditions_of, kept_by};
+ghost use Rattle.hy_value.specs.Columns.{has_column};
+ghost use Rattle.hy_value.specs.declared.Value.{Value};
+ghost use Rattle.hy_chunk.specs.Gathering.{Asks, AsksKey, AsksOneOf, GathersOne, GathersRead, conditions_of, kept_by};
 
 use hy_bound::{Pred, Root, SideView, column_value, compare, project_row, truth};
 use hy_plan::Gathered;
@@ -120,26 +122,48 @@ fn value_compared(pred: &Pred, column: u32) -> Option<Value>
     }
 }
 
-/// The value that one of some conditions asks of a column.
-fn value_among(parts: &[&Pred], column: u32) -> Option<Value>
-    ensures { IfSome result (λ value. (pred : Condition) → conjuncts pred ≡ map (λ p. p.now) parts.now → Asks pred column value) }
+/// The value that a condition asks of a column by `=`: it is such a comparison, or AND joins one in it.
+pub fn value_asked(pred: &Pred, column: u32) -> Option<Value>
+    ensures { IfSome result (λ value. Asks pred.now column value) }
 {
-    for part in parts {
-        if let Some(value) = value_compared(part, column) {
-            return Some(value);
-        }
+    let Root::And(left, right) = pred.root() else {
+        return value_compared(pred, column);
+    };
+    match value_asked(left, column) {
+        Some(value) => Some(value),
+        None => value_asked(right, column),
     }
-    None
 }
 
-/// The value that a condition asks of a column, where it is one of the conditions that AND joins in it. Err is for
-/// want of memory.
-pub fn value_asked(alloc: Global, pred: &Pred, column: u32) -> Result<Option<Value>, AllocError>
-    ensures { IfOk result (λ asked. IfSome asked (λ value. Asks pred.now column value)) }
+/// The value that a condition asks of the key, where there is one.
+pub fn key_asked(pred: &Pred, key: Option<u32>) -> Option<Value>
+    ensures { AsksKey pred.now key result }
 {
-    let mut parts = Vec::new(alloc);
-    pred.add_conjuncts(&mut parts)?;
-    Ok(value_among(parts.as_slice(), column))
+    match key {
+        Some(column) => value_asked(pred, column),
+        None => None,
+    }
+}
+
+/// Whether a set has the column of this number.
+fn is_of_set(columns: ColMask, column: usize) -> bool
+    ensures { result ≡ has_column columns column }
+{
+    column < 32 && columns.has(column as u32)
+}
+
+/// The columns of a set that are among the first so many, ascending. Err is for want of memory.
+pub fn columns_in(alloc: Global, columns: ColMask, width: usize) -> Result<Vec<u32>, AllocError>
+    ensures within { IfOk result (λ found. All (λ column. column < width) found.items) }
+    ensures values { IfOk result (λ found. (row : List Value) → length row ≡ width → map (column_of row) found.items ≡ projected columns row) }
+{
+    let mut found = Vec::new(alloc);
+    for column in 0..width {
+        if is_of_set(columns, column) {
+            found.push(column as u32)?;
+        }
+    }
+    Ok(found)
 }
 
 /// Adds the wanted values of a version, where it is a row that is wanted. Without memory nothing changes.

@@ -2,14 +2,13 @@
 //! ranges: Neumann, Mühlbauer, Kemper, "Fast Serializable Multi-Version Concurrency Control for Main-Memory Database
 //! Systems", SIGMOD 2015).
 
-ghost use Rattle.std.specs.Prelude.{◌≡◌, ◌<◌, ◌∷◌, [], true, IfOk, IfSome, length, map};
-ghost use Rattle.std.specs.Option.{option_copied};
+ghost use Rattle.std.specs.Prelude.{◌≡◌, ◌<◌, ◌∷◌, [], true, IfOk, IfSome, length, map, replicate};
 ghost use Rattle.hy_bound.specs.Condition.{Compare};
 ghost use Rattle.hy_bound.specs.Records.{conjuncts};
 ghost use Rattle.hy_bound.specs.declared.predicate.Side.{Side};
 ghost use Rattle.hy_chunk.specs.Fields.{nth};
 ghost use Rattle.hy_chunk.specs.Gathering.{conditions_of, kept_by};
-ghost use Rattle.hy_chunk.specs.Masked.{Admits, joined_masks};
+ghost use Rattle.hy_chunk.specs.Masked.{Admits, Confirms};
 ghost use Rattle.hy_stamp.specs.declared.Viewer.{Viewer};
 ghost use Rattle.hy_undo.specs.Places.{sees};
 ghost use Rattle.hy_value.specs.declared.Value.{Value};
@@ -43,14 +42,23 @@ fn comparison_of(pred: &Pred) -> Option<Comparison>
     }
 }
 
-/// The positions at which one condition may be true of the row in place, where a mask can tell. Err is for want of
-/// memory.
+/// The positions at which a condition may be true of the row in place.
+#[derive(Drop)]
+pub struct Admission {
+    /// A bit for each position; where it is clear, the condition is not true of the row in place.
+    pub mask: Mask,
+    /// Whether the condition is true of the row in place wherever the bit is set.
+    pub is_exact: bool,
+}
+
+/// The positions at which one condition is true of the row in place, where a mask can tell. Err is for want of memory.
 fn admitted_by_one(
     alloc: Global,
     positions: &Positions,
     pred: &Pred,
 ) -> Result<Option<Mask>, AllocError>
-    ensures { IfOk result (λ found. IfSome found (λ mask. Admits (pred.now ∷ []) positions.now.places mask)) }
+    ensures admits { IfOk result (λ found. IfSome found (λ mask. Admits (pred.now ∷ []) positions.now.places mask)) }
+    ensures confirms { IfOk result (λ found. IfSome found (λ mask. Confirms (pred.now ∷ []) positions.now.places mask)) }
 {
     match comparison_of(pred) {
         Some(one) => positions.compare(alloc, one.column, one.op, one.number),
@@ -58,46 +66,42 @@ fn admitted_by_one(
     }
 }
 
-/// The positions that both masks admit, where there is another.
-fn joined(one: Option<Mask>, other: Mask) -> Mask
-    requires { IfSome one (λ mask. length other ≡ length mask) }
-    ensures { result ≡ joined_masks one other }
+/// So many bits, all of them set. Err is for want of memory.
+fn all_set(alloc: Global, bits: usize) -> Result<Mask, AllocError>
+    ensures { IfOk result (λ mask. mask ≡ replicate bits true) }
 {
-    match one {
-        Some(mut mask) => {
-            mask.and_with(&other);
-            mask
-        }
-        None => other,
-    }
+    let mut mask = Mask::new(alloc, bits)?;
+    mask.invert();
+    Ok(mask)
 }
 
-/// The positions at which all of some conditions may be true of the row in place, where masks can tell. Err is for
-/// want of memory.
+/// The positions at which all of some conditions may be true of the row in place, exactly where masks can tell of each
+/// of them. Err is for want of memory.
 fn admitted_by_all(
     alloc: Global,
     positions: &Positions,
     parts: &[&Pred],
-) -> Result<Option<Mask>, AllocError>
-    ensures { IfOk result (λ found. IfSome found (λ mask. Admits (map (λ part. part.now) parts.now) positions.now.places mask)) }
+) -> Result<Admission, AllocError>
+    ensures admits { IfOk result (λ found. Admits (map (λ part. part.now) parts.now) positions.now.places found.mask) }
+    ensures confirms { IfOk result (λ found. found.is_exact ≡ true
+        → Confirms (map (λ part. part.now) parts.now) positions.now.places found.mask) }
 {
-    let mut all = None;
+    let mut mask = all_set(alloc, positions.len())?;
+    let mut is_exact = true;
     for part in parts {
-        if let Some(mask) = admitted_by_one(alloc, positions, part)? {
-            all = Some(joined(all, mask));
+        match admitted_by_one(alloc, positions, part)? {
+            Some(other) => mask.and_with(&other),
+            None => is_exact = false,
         }
     }
-    Ok(all)
+    Ok(Admission { mask, is_exact })
 }
 
-/// The positions at which a condition may be true of the row in place, where masks of the conditions that AND joins in it
-/// can tell. Err is for want of memory.
-pub fn admitted(
-    alloc: Global,
-    positions: &Positions,
-    pred: &Pred,
-) -> Result<Option<Mask>, AllocError>
-    ensures { IfOk result (λ found. IfSome found (λ mask. Admits (conjuncts pred.now) positions.now.places mask)) }
+/// The positions at which a condition may be true of the row in place, by masks of the conditions that AND joins in it.
+/// They are exact where each of these compares a column of numbers with a number. Err is for want of memory.
+pub fn admitted(alloc: Global, positions: &Positions, pred: &Pred) -> Result<Admission, AllocError>
+    ensures admits { IfOk result (λ found. Admits (conjuncts pred.now) positions.now.places found.mask) }
+    ensures confirms { IfOk result (λ found. found.is_exact ≡ true → Confirms (conjuncts pred.now) positions.now.places found.mask) }
 {
     let mut parts = Vec::new(alloc);
     pred.add_conjuncts(&mut parts)?;
@@ -105,14 +109,11 @@ pub fn admitted(
 }
 
 /// Whether nothing is wanted at a position, as a mask tells: no record is there, and it admits no row in place.
-pub fn is_passed(positions: &Positions, place: usize, wanted: &Wanted, mask: Option<&Mask>) -> bool
+pub fn is_passed(positions: &Positions, place: usize, wanted: &Wanted, mask: &Mask) -> bool
     requires within { place < length positions.now.places }
-    requires mask { IfSome (option_copied mask) (Admits (conjuncts wanted.now.pred.now) positions.now.places) }
+    requires mask { Admits (conjuncts wanted.now.pred.now) positions.now.places mask.now }
     ensures { result ≡ true → (viewer : Viewer) → kept_by wanted.now.columns (conditions_of wanted.now.pred.now wanted.now.keys)
         (sees viewer (nth positions.now.places place)) ≡ [] }
 {
-    match mask {
-        Some(mask) => !mask.get(place) && !positions.is_versioned(place),
-        None => false,
-    }
+    !mask.get(place) && !positions.is_versioned(place)
 }

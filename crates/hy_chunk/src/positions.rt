@@ -15,8 +15,9 @@ ghost use Rattle.hy_undo.specs.Places.{cell_of, is_free, is_older};
 ghost use Rattle.hy_undo.specs.Chunks.{is_own, Placed, Written};
 ghost use Rattle.hy_undo.specs.Steps.{pruned_place, stamped_place, undone_place};
 ghost use Rattle.hy_chunk.specs.Fields.{blank_place, nth};
-ghost use Rattle.hy_chunk.specs.Ranged.{Covers};
-ghost use Rattle.hy_chunk.specs.Keyed.{AreFound, SameKey, is_key_of};
+ghost use Rattle.hy_chunk.specs.Parts.{places_set};
+ghost use Rattle.hy_chunk.specs.Ranged.{Covers, NoneOutside};
+ghost use Rattle.hy_chunk.specs.Keyed.{AreFound, NoneBetween, PassesOver, SameKey, is_key_of};
 ghost use Rattle.hy_chunk.specs.Sound.{AreBlank, FitsRow, blank_image};
 ghost use Rattle.hy_chunk.specs.Noting.{own_stamp, own_or_blank};
 ghost use Rattle.hy_chunk.specs.Steps.{loaded_place};
@@ -27,11 +28,12 @@ use hy_chain::{Chains, Image};
 use hy_column::Columns;
 use hy_index::{IndexEntry, KeyIndex};
 use hy_kernel::Mask;
+use hy_plan::PlacedRows;
 use hy_prune::Cover;
 use hy_range::Versioned;
 use hy_stamp::{Label, Stamp, Viewer};
 use hy_undo::{Delta, Version};
-use hy_value::{Cmp, Kind, Row, Value};
+use hy_value::{Cmp, Kind, Row, Value, ValueRef};
 use std::alloc::{AllocError, Global};
 use std::marker::Model;
 
@@ -73,6 +75,25 @@ impl Model for Positions {
 
     ghost invariant = { λ a. IsHeld a.columns.kinds a.columns.rows a.live.items a.used.items a.deaths.items
         a.chains.chains a.spare.items a.versioned a.key a.index };
+}
+
+/// The positions from `first` up to, and without, `end`.
+#[derive(Clone, Copy)]
+pub struct Part {
+    /// The first position.
+    pub first: usize,
+    /// One past the last position.
+    pub end: usize,
+}
+
+impl PlacedRows for Positions {
+    ghost use Rattle.std.specs.Prelude.{map};
+
+    ghost rows = { λ positions. map (λ place. place.version.row) positions.places };
+
+    fn refer(&self, place: usize, column: usize) -> ValueRef<'_> {
+        self.columns.refer(place, column)
+    }
 }
 
 /// Puts a flag at a place.
@@ -309,7 +330,8 @@ impl Positions {
     {
         hy_range::ranges_widen();
         let mut left = Versioned::none();
-        for place in 0..self.live.len() {
+        let end = (self.versioned.end as usize).min(self.live.len());
+        for place in self.versioned.first as usize..end {
             if self.chains.head(place).is_some() {
                 left.cover(place as u32);
             }
@@ -485,25 +507,62 @@ impl Positions {
         }
     }
 
-    /// Prunes a position where it may have records: elsewhere there is nothing to prune.
-    pub fn prune_records(&mut self, place: usize, cover: &Cover)
-        requires { place < length self.old.places }
-        ensures kinds { self.new.kinds ≡ self.old.kinds }
-        ensures key { self.new.key ≡ self.old.key }
-        ensures places { self.new.places ≡ slice_set self.old.places place (pruned_place cover.now (nth self.old.places place)) }
-        ensures room { self.old.room ≤ self.new.room }
-    {
-        if self.is_versioned(place) {
-            self.prune_at(place, cover);
-        }
-    }
-
     /// Whether a position may have records: else every viewer sees what is in place.
     pub fn is_versioned(&self, place: usize) -> bool
         requires { place < length self.now.places }
         ensures { result ≡ false → (nth self.now.places place).chain ≡ [] }
     {
         is_in(self.versioned, place)
+    }
+
+    /// The part that has all positions with records: at the others every viewer sees what is in place.
+    pub fn versioned_part(&self) -> Part
+        ensures ordered { result.first ≤ result.end }
+        ensures within { result.end ≤ length self.now.places }
+        ensures others { NoneOutside result.first result.end self.now.places }
+    {
+        let end = self.live.len().min(self.versioned.end as usize);
+        let first = end.min(self.versioned.first as usize);
+        Part { first, end }
+    }
+
+    /// The row in place at each position has a value of each column's type, or NULL.
+    pub fn rows_fit(&self)
+        ensures { (place : ℕ) → place < length self.now.places → FitsRow self.now.kinds (nth self.now.places place).version.row }
+    {
+        let _many = self.live.len();
+    }
+
+    /// Whether a row is in place at a position.
+    fn is_live(&self, place: usize) -> bool
+        requires { place < length self.now.places }
+        ensures { result ≡ (nth self.now.places place).version.live }
+    {
+        self.live[place]
+    }
+
+    /// The positions of a part for which a mask has its bit set and a row is in place, in order. Err is for want of
+    /// memory.
+    pub fn plain_places(
+        &self,
+        alloc: Global,
+        mask: &Mask,
+        part: Part,
+    ) -> Result<Vec<u32>, AllocError>
+        requires mask { length mask.now ≡ length self.now.places }
+        requires ordered { part.first ≤ part.end }
+        requires within { part.end ≤ length self.now.places }
+        requires numbered { part.end < 2 ^ 32 }
+        ensures { IfOk result (λ found. found.items
+            ≡ places_set mask.now part.first part.end self.now.places) }
+    {
+        let mut found = Vec::with_capacity(alloc, part.end - part.first)?;
+        for place in part.first..part.end {
+            if mask.get(place) && self.is_live(place) {
+                found.push_reserved(place as u32);
+            }
+        }
+        Ok(found)
     }
 
     /// Whether a column is the key.
@@ -524,6 +583,35 @@ impl Positions {
     {
         hy_index::entries_are_a_set();
         self.index.find(value)
+    }
+
+    /// The least used position from one on whose row in place has this key, or how many positions there are. No other
+    /// that is passed over has a row with it that is seen.
+    fn next_with(&self, column: u32, value: &Value, from: usize) -> usize
+        requires key { is_key_of self.now.key column ≡ true }
+        requires start { from ≤ length self.now.places }
+        ensures reached { from ≤ result }
+        ensures within { result ≤ length self.now.places }
+        ensures passed { NoneBetween column value.now self.now.places from result }
+    {
+        match self.index.find_from(value, from as u32) {
+            Some(pos) => pos as usize,
+            None => self.len(),
+        }
+    }
+
+    /// Where a sweep that looks for a key goes on from a position: positions at which no viewer sees a row with it are
+    /// passed over. Where no key is looked for it goes on there.
+    pub fn next_wanted(&self, asked: &Option<Value>, from: usize) -> usize
+        requires { from ≤ length self.now.places }
+        ensures reached { from ≤ result }
+        ensures within { result ≤ length self.now.places }
+        ensures passed { PassesOver self.now.key asked.now self.now.places from result }
+    {
+        match (self.key, asked) {
+            (Some(key), Some(value)) => self.next_with(key, value, from),
+            _ => from,
+        }
     }
 
     /// The used positions, ascending, whose row in place has one of these keys. No other has a row with one of them
@@ -553,14 +641,6 @@ impl Positions {
         ensures { result ≡ rival viewer.now (nth self.now.places place).chain }
     {
         self.chains.rival(place, viewer)
-    }
-
-    /// Whether a position is used.
-    pub fn is_used(&self, place: usize) -> bool
-        requires { place < length self.now.places }
-        ensures { result ≡ (nth self.now.places place).used }
-    {
-        self.used[place]
     }
 
     /// Whether a position may take a new row: it is unused, or its row is gone for everyone from the watermark on.

@@ -1,10 +1,11 @@
 -- What holds of a chunk that is called as an engine calls it.
-use Rattle.std.specs.Prelude.{◌≡◌, ℕ, ◌<◌, ◌≤◌, List, [], ◌∷◌, Some, length}
+use Rattle.std.specs.Prelude.{◌≡◌, ℕ, ◌<◌, ◌≤◌, List, [], ◌∷◌, Some, false, length}
 use Rattle.std.specs.List.{AllByRecursion}
 use Rattle.hy_value.specs.declared.Kind.{Kind}
 use Rattle.hy_value.specs.declared.Kind.TheVariants.{Int}
 use Rattle.hy_stamp.specs.declared.Stamp.{Stamp}
 use Rattle.hy_undo.specs.Places.{Place, stamps}
+use Rattle.hy_chunk.specs.Fields.{nth}
 use Rattle.hy_chunk.specs.Views.{Whole}
 
 -- all marks are below a number
@@ -27,6 +28,10 @@ PlacesInOrder next places = AllByRecursion (λ place. AreInOrder next (stamps pl
 -- two columns of numbers, the first of which is the key
 abbrev pub two_numbers : List Kind
 two_numbers = Int ∷ Int ∷ []
+
+-- no position from one on is used
+abbrev pub AreUnused : ℕ → List Place → Type 0
+AreUnused first places = (place : ℕ) → first ≤ place → (nth places place).used ≡ false
 
 -- a chunk of the table acc, with this next time
 pub record IsReady (next : ℕ) (whole : Whole) : Type 0 where

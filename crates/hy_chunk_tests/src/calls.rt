@@ -34,7 +34,7 @@ struct Run {
 
 /// A run in which a reader has begun.
 fn start(alloc: Global) -> Result<Run, Fail> {
-    let mut tried = Tried::new(alloc, POSITIONS)?;
+    let mut tried = Tried::new(alloc, POSITIONS, &[])?;
     let reader = tried.begin(alloc)?;
     Ok(Run {
         tried,

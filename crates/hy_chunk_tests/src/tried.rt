@@ -1,8 +1,8 @@
 //! A chunk with the transactions that are open on it, called as an engine calls it.
 
-ghost use Rattle.std.specs.Prelude.{◌≡◌, ◌<◌, ◌≤◌, ◌+◌, ◌^◌, [], ◌∷◌, Some, IfOk, OnOk};
+ghost use Rattle.std.specs.Prelude.{◌≡◌, ◌<◌, ◌≤◌, ◌+◌, ◌^◌, [], ◌∷◌, Some, IfOk, OnOk, length};
 ghost use Rattle.hy_chunk.specs.Writes.{FitsWrite};
-ghost use Rattle.hy_chunk_tests.specs.Ready.{two_numbers};
+ghost use Rattle.hy_chunk_tests.specs.Ready.{AreUnused, IsReady, two_numbers};
 ghost use Rattle.hy_stamp.specs.Times.{IsLabel};
 
 use hy_bound::{Assign, Pred, SetExpr, WriteKind};
@@ -106,7 +106,10 @@ fn numbers(alloc: Global, gathered: &Gathered) -> Result<Vec<(i64, i64)>, AllocE
 {
     let mut rows = Vec::new(alloc);
     for index in 0..gathered.len() {
-        let cells = (gathered.value(index, 0), gathered.value(index, 1));
+        let cells = (
+            gathered.refer(index, 0).to_value(),
+            gathered.refer(index, 1).to_value(),
+        );
         if let (Value::Int(id), Value::Int(bal)) = cells {
             rows.push((id, bal))?;
         }
@@ -129,13 +132,30 @@ fn leave(starts: &mut Vec<u64>, open: &Open) {
     starts.retain(|other| *other != start);
 }
 
+/// Puts rows of these ids with a bal of 100, one behind the other, into a chunk of which no position is used.
+fn load_rows(alloc: Global, chunk: &mut Chunk, ids: &[i64]) -> Result<(), AllocError>
+    requires ready { IsReady 1 chunk.old }
+    requires unused { AreUnused 0 chunk.old.shown.places }
+    requires few { length ids.now ≤ length chunk.old.shown.places }
+    ensures { IsReady 1 chunk.new }
+{
+    for (place, id) in ids.iter().enumerate() {
+        let row = pair(alloc, *id, 100)?;
+        chunk.load_at(place, &row);
+    }
+    Ok(())
+}
+
 impl Tried {
-    /// A chunk of so many unused positions. Nothing has begun.
-    pub fn new(alloc: Global, positions: usize) -> Result<Tried, AllocError>
-        requires { positions ≤ 64 }
+    /// A chunk of so many positions, the first of which have rows of these ids with a bal of 100. Nothing has begun.
+    pub fn new(alloc: Global, positions: usize, ids: &[i64]) -> Result<Tried, AllocError>
+        requires many { positions ≤ 64 }
+        requires few { length ids.now ≤ positions }
     {
+        let mut chunk = Chunk::new(alloc, 0, 0, &[Kind::Int, Kind::Int], positions, Some(0))?;
+        load_rows(alloc, &mut chunk, ids)?;
         Ok(Tried {
-            chunk: Chunk::new(alloc, 0, 0, &[Kind::Int, Kind::Int], positions, Some(0))?,
+            chunk,
             next: 1,
             starts: Vec::new(alloc),
             begun: 0,
@@ -180,17 +200,6 @@ impl Tried {
             id: label_of(self.begun).id(),
             start: self.next,
         }
-    }
-
-    /// Puts a first row there.
-    pub fn load(
-        &mut self,
-        alloc: Global,
-        id: i64,
-        bal: i64,
-    ) -> Result<Result<u32, NoRoom>, AllocError> {
-        let row = pair(alloc, id, bal)?;
-        Ok(self.chunk.load(&row))
     }
 
     /// The rows that a viewer sees.

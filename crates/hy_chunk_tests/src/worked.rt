@@ -30,18 +30,6 @@ fn finds(
     Ok(found.as_slice() == rows)
 }
 
-/// Whether first rows of these identifiers come one after another, from the first position on.
-fn loads(alloc: Global, tried: &mut Tried, ids: &[i64]) -> Result<bool, AllocError> {
-    let mut pos: u32 = 0;
-    for id in ids {
-        if tried.load(alloc, *id, 100)? != Ok(pos) {
-            return Ok(false);
-        }
-        pos = pos.wrapping_add(1);
-    }
-    Ok(true)
-}
-
 /// Whether a write of the row is seen by its writer, and not by another.
 fn write_is_seen(
     alloc: Global,
@@ -104,16 +92,13 @@ fn second_writes(alloc: Global, tried: &mut Tried, other: &Open) -> Result<bool,
 
 /// Whether it does beside one that began first.
 fn first_is_beside(alloc: Global, tried: &mut Tried) -> Result<bool, Fail> {
-    if !loads(alloc, tried, &[1])? {
-        return Ok(false);
-    }
     let other = tried.begin(alloc)?;
     second_writes(alloc, tried, &other)
 }
 
 /// Whether it does in a chunk of four positions.
 fn four_hide_writes(alloc: Global) -> Result<bool, Fail> {
-    let mut tried = Tried::new(alloc, 4)?;
+    let mut tried = Tried::new(alloc, 4, &[1])?;
     first_is_beside(alloc, &mut tried)
 }
 
@@ -133,19 +118,10 @@ fn has_no_room(alloc: Global, tried: &mut Tried) -> Result<bool, Fail> {
     )
 }
 
-/// Whether four rows find room, and no more.
-fn is_full(alloc: Global, tried: &mut Tried) -> Result<bool, Fail> {
-    Ok(
-        loads(alloc, tried, &[5, 6, 7, 8])?
-            && tried.load(alloc, 9, 100)? == Err(NoRoom)
-            && has_no_room(alloc, tried)?,
-    )
-}
-
-/// Whether this is so in a chunk of four positions.
+/// Whether this is so in a chunk of four positions and four rows.
 fn four_are_full(alloc: Global) -> Result<bool, Fail> {
-    let mut tried = Tried::new(alloc, 4)?;
-    is_full(alloc, &mut tried)
+    let mut tried = Tried::new(alloc, 4, &[5, 6, 7, 8])?;
+    has_no_room(alloc, &mut tried)
 }
 
 #[test]
@@ -179,16 +155,13 @@ fn look_ups_find(alloc: Global, tried: &mut Tried, reader: &Viewer) -> Result<bo
 
 /// Whether this is so of a reader that begins first.
 fn reader_finds(alloc: Global, tried: &mut Tried) -> Result<bool, Fail> {
-    if !loads(alloc, tried, &[1, 2, 3])? {
-        return Ok(false);
-    }
     let reader = tried.begin(alloc)?;
     look_ups_find(alloc, tried, &reader.viewer)
 }
 
 /// Whether this is so in a chunk of four positions.
 fn four_are_looked_up(alloc: Global) -> Result<bool, Fail> {
-    let mut tried = Tried::new(alloc, 4)?;
+    let mut tried = Tried::new(alloc, 4, &[1, 2, 3])?;
     reader_finds(alloc, &mut tried)
 }
 
@@ -246,12 +219,12 @@ fn last_is_left(alloc: Global, tried: &mut Tried) -> Result<bool, Fail> {
 
 /// Whether both hold where the row is the only one.
 fn ends_hold(alloc: Global, tried: &mut Tried) -> Result<bool, Fail> {
-    Ok(loads(alloc, tried, &[1])? && old_reader_sees(alloc, tried)? && last_is_left(alloc, tried)?)
+    Ok(old_reader_sees(alloc, tried)? && last_is_left(alloc, tried)?)
 }
 
 /// Whether this is so in a chunk of four positions.
 fn four_keep_ends(alloc: Global) -> Result<bool, Fail> {
-    let mut tried = Tried::new(alloc, 4)?;
+    let mut tried = Tried::new(alloc, 4, &[1])?;
     ends_hold(alloc, &mut tried)
 }
 

@@ -2,3 +2,4 @@ pub mod Orders
 pub mod Prefixes
 pub mod Edits
 pub mod Membership
+pub mod Nexts

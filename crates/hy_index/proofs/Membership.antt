@@ -17,10 +17,10 @@ use Rattle.hy_index.proofs.Orders.{entries_total, entry_ties}
 first : {A : Type 0} (x : A) (xs : List A) → Contains (x ∷ xs) x
 first x xs = (zero, omega arith, refl)
 
-behind : {A : Type 0} (x y : A) (xs : List A) → Contains xs y → Contains (x ∷ xs) y
+pub behind : {A : Type 0} (x y : A) (xs : List A) → Contains xs y → Contains (x ∷ xs) y
 behind x y xs c = (suc c.0, omega (arith, c.1), c.2)
 
-here_or : {A : Type 0} (x y : A) (xs : List A) → Contains (x ∷ xs) y → (x ≡ y) ⊎ Contains xs y
+pub here_or : {A : Type 0} (x y : A) (xs : List A) → Contains (x ∷ xs) y → (x ≡ y) ⊎ Contains xs y
 here_or {A} x y xs c = at c.0 c.1 c.2
   where
     at : (k : ℕ) → k < suc (length xs) → get_or (x ∷ xs) k y ≡ y → (x ≡ y) ⊎ Contains xs y

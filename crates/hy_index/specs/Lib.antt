@@ -1,3 +1,4 @@
 pub mod Entries
 pub mod Indexed
 pub mod Members
+pub mod Nexts

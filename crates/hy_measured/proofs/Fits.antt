@@ -1,10 +1,8 @@
 -- What fits two columns of numbers.
-use Rattle.std.proofs.Common.{◌≡◌, ℕ, ℤ, ◌<◌, List, [], ◌∷◌, ◌++◌, ◌∙◌, length, Option, Some, Result, Ok, refl, sym, ap, subst, arith, lit<}
-use Rattle.std.specs.Prelude.{slice_index_or}
+use Rattle.std.proofs.Common.{◌≡◌, ℕ, ℤ, List, [], ◌∷◌, ◌++◌, ◌∙◌, length, Some, refl, sym, ap, subst, arith, lit<}
 use Rattle.hy_value.specs.declared.Value.{Value}
 use Rattle.hy_value.specs.declared.Value.TheVariants.{Int}
 use Rattle.hy_value.specs.declared.Kind.TheVariants as kind
-use Rattle.hy_value.specs.declared.ColMask.{ColMask}
 use Rattle.hy_bound.specs.declared.Assign.{Assign}
 use Rattle.hy_bound.specs.declared.WriteKind.TheVariants.{Set}
 use Rattle.hy_bound.specs.Expression.{Expression, Literal}

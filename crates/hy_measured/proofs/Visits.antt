@@ -1,10 +1,9 @@
 -- The stamps of all positions, before and after a visit.
-use Rattle.std.proofs.Common.{◌≡◌, ◌⊎◌, ℕ, zero, suc, ◌+◌, ◌<◌, ◌≤◌, Bool, true, false, cond, List, [], ◌∷◌, length, Option, None, Some, Result, Ok}
-use Rattle.std.proofs.Common.{Err, inl, inr, refl, sym, ap, ◌∙◌, subst, arith}
+use Rattle.std.proofs.Common.{◌≡◌, ℕ, zero, suc, ◌+◌, ◌≤◌, Bool, true, false, cond, List, [], ◌∷◌, length, Option, None, Some, Result, Ok}
+use Rattle.std.proofs.Common.{Err, inl, inr, refl, sym, ap, subst, arith}
 use Rattle.std.specs.Prelude.{slice_set, replicate}
 use Rattle.std.specs.List.{AllByRecursion}
 use Rattle.std.proofs.lemmas.Bool.{cases_Bool}
-use Rattle.hy_value.specs.declared.Value.{Value}
 use Rattle.hy_value.specs.declared.Kind.{Kind}
 use Rattle.hy_stamp.specs.declared.Label.{Label}
 use Rattle.hy_stamp.specs.declared.Stamp.{Stamp}
@@ -19,7 +18,7 @@ use Rattle.hy_chain.specs.Pruning.{pruned, stamps_of, KeepsStamps, Shrinks}
 use Rattle.hy_undo.specs.declared.refusal.Refusal.{Refusal}
 use Rattle.hy_undo.specs.Images.{Image, both}
 use Rattle.hy_undo.specs.Places.{Place, Cell, sees, stamps}
-use Rattle.hy_undo.specs.Chunks.{Everywhere, AtOwn, StampedPlace, Pruned, Written, is_own}
+use Rattle.hy_undo.specs.Chunks.{Everywhere, AtOwn, StampedPlace, Pruned, is_own}
 use Rattle.hy_undo.specs.Sweeps.{swept, and_new, verdict, judged, new_cell, AllWritten}
 use Rattle.hy_chunk.specs.Fields.{blank_place, nth}
 use Rattle.hy_chunk.specs.Writes.{IsDone}

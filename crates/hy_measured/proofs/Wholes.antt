@@ -1,7 +1,7 @@
 -- A chunk is ready still after each call.
-use Rattle.std.proofs.Common.{◌≡◌, ℕ, ℤ, Ok, Err, ◌+◌, ◌<◌, ◌≤◌, List, [], ◌∷◌, length, Option, None, Some, Result, refl, sym, ap, ◌∙◌, subst, arith}
-use Rattle.std.specs.Prelude.{slice_set, replicate, OnOk, OnErr, IfOk}
-use Rattle.std.proofs.lemmas.List.{length-set, length-replicate}
+use Rattle.std.proofs.Common.{◌≡◌, ℕ, ℤ, zero, suc, Ok, Err, ◌+◌, ◌≤◌, List, [], ◌∷◌, length, Option, Some, Result, refl, sym, ap, ◌∙◌, subst, arith}
+use Rattle.std.specs.Prelude.{slice_set, replicate, OnErr, IfOk}
+use Rattle.std.proofs.lemmas.List.{get_or-set_other, length-set, length-replicate}
 use Rattle.hy_value.specs.declared.Value.{Value}
 use Rattle.hy_value.specs.declared.Value.TheVariants.{Int}
 use Rattle.hy_value.specs.declared.Kind.{Kind}
@@ -14,18 +14,32 @@ use Rattle.hy_bound.specs.declared.WriteKind.{WriteKind}
 use Rattle.hy_change.specs.declared.Change.{Change}
 use Rattle.hy_chain.specs.Pruning.{KeepsStamps, Shrinks}
 use Rattle.hy_undo.specs.Images.{both}
-use Rattle.hy_undo.specs.Places.{Place, stamps}
+use Rattle.hy_undo.specs.Places.{Place}
 use Rattle.hy_undo.specs.Chunks.{ChunkData, Everywhere, AtOwn, StampedPlace, Pruned}
 use Rattle.hy_undo.specs.Sweeps.{swept}
-use Rattle.hy_chunk.specs.Fields.{blank_place, nth}
+use Rattle.hy_chunk.specs.Fields.{blank_place, blank_with, nth}
 use Rattle.hy_chunk.specs.Sound.{FitsRow}
 use Rattle.hy_chunk.specs.Steps.{loaded_place}
 use Rattle.hy_chunk.specs.Views.{Whole, with_places}
 use Rattle.hy_chunk.specs.Writes.{FitsWrite, IsDone}
-use Rattle.hy_measured.specs.Ready.{AreInOrder, PlacesInOrder, IsReady, two_numbers}
+use Rattle.hy_measured.specs.Ready.{AreUnused, PlacesInOrder, IsReady, two_numbers}
 use Rattle.hy_measured.proofs.Fits.{pair_fits}
 use Rattle.hy_measured.proofs.Visits.{places_later, none_yet, put_in_order, nth_in_order, everywhere_in_order, everywhere_many, stamped_in_order}
 use Rattle.hy_measured.proofs.Visits.{pruned_in_order, done_in_order, done_many}
+
+-- no position of a new chunk is used
+pub none_used : (count : ℕ) (kinds : List Kind) → AreUnused 0 (replicate count (blank_place kinds))
+none_used zero kinds place l = refl
+none_used (suc count) kinds zero l = refl
+none_used (suc count) kinds (suc place) l = none_used count kinds place (omega arith)
+
+-- and none behind those that were loaded
+pub unused_behind : (k : ℕ) (old new : Whole) (p : Place) → AreUnused k old.shown.places
+    → new ≡ with_places old (slice_set old.shown.places k p) new.room → AreUnused (k + 1) new.shown.places
+unused_behind k old new p none is place l =
+    ap (λ (w : Whole). (nth w.shown.places place).used) is
+    ∙ (ap (λ (q : Place). q.used) (get_or-set_other old.shown.places k place p (blank_with []) (λ e. absurd (omega (arith, e, l))))
+    ∙ none place (omega (arith, l)))
 
 module _ (most : ℕ) where
   pub later : (n m : ℕ) (whole : Whole) → n ≤ m → IsReady most n whole → IsReady most m whole
@@ -96,12 +110,6 @@ module _ (most : ℕ) where
   write_ready next whole r kind fits =
       subst (λ (kinds : List Kind). FitsWrite kinds whole.shown.key kind) (sym r.kinds)
       (subst (λ (key : Option ℕ). FitsWrite two_numbers key kind) (sym r.key) fits)
-
-  pub after_load_call : {A B : Type 0} (result : Result A B) (next : ℕ) (row : List Value) (k : ℕ) (old new : Whole) → IsReady most next old
-      → OnOk result (new ≡ with_places old (slice_set old.shown.places k (loaded_place row (nth old.shown.places k))) new.room)
-      → OnErr result (new ≡ old) → IsReady most next new
-  after_load_call (Ok a) next row k old new r done kept = after_load next row k old new r done
-  after_load_call (Err b) next row k old new r done kept = same_ready next old new r kept
 
   pub after_write_call : {B : Type 0} (same : Type 0) (result : Result ℕ B) (sets : Option (List Assign)) (pred : Condition) (viewer : Viewer)
       (label : Label) (table first next : ℕ) (old mid new : Whole)

@@ -1,8 +1,9 @@
 //! A chunk of two numbers a row, called as an engine calls it.
 
-ghost use Rattle.std.specs.Prelude.{◌≡◌, ◌<◌, ◌≤◌, ◌+◌, ◌^◌, [], ◌∷◌, Some, IfOk, OnOk};
+ghost use Rattle.std.specs.Prelude.{◌≡◌, ◌<◌, ◌≤◌, ◌+◌, ◌^◌, [], ◌∷◌, Some, IfOk, OnOk, length};
 ghost use Rattle.hy_chunk.specs.Writes.{FitsWrite};
-ghost use Rattle.hy_measured.specs.Ready.{two_numbers};
+ghost use Rattle.hy_measured.specs.Ready.{AreUnused, IsReady, two_numbers};
+ghost use Rattle.hy_measured.specs.declared.ready.TheConstants.{OLD_START};
 ghost use Rattle.hy_stamp.specs.Times.{IsLabel};
 ghost use Rattle.hy_value.specs.declared.Value.{Value};
 
@@ -13,7 +14,7 @@ use hy_plan::Gathered;
 use hy_prune::{Cover, Starts};
 use hy_stamp::{Label, Viewer};
 use hy_undo::Delta;
-use hy_value::{Cmp, ColMask, Kind, Row, Seq, Value};
+use hy_value::{Cmp, ColMask, Kind, Row, Seq, Value, ValueRef};
 use std::alloc::{AllocError, Global};
 use std::marker::Model;
 
@@ -112,30 +113,47 @@ pub fn sum(gathered: &Gathered) -> i64
 {
     let mut sum = 0i64;
     for index in 0..gathered.len() {
-        if let Value::Int(balance) = gathered.value(index, 0) {
+        if let ValueRef::Int(balance) = gathered.refer(index, 0) {
             sum = sum.wrapping_add(balance);
         }
     }
     sum
 }
 
+/// The balance of the row of this number at first.
+fn balance_of(id: u32) -> i64 {
+    i64::from(id.wrapping_mul(7919) % 1009)
+}
+
+/// Puts the rows of so many numbers from `first` on, one behind the other, into a chunk of which no position is used.
+fn load_rows(alloc: Global, chunk: &mut Chunk, first: u32, rows: u32) -> Result<(), AllocError>
+    requires numbers { first + rows < 2 ^ 32 }
+    requires ready { IsReady rows (OLD_START + 1) chunk.old }
+    requires unused { AreUnused 0 chunk.old.shown.places }
+    requires few { rows ≤ length chunk.old.shown.places }
+    ensures { IsReady rows (OLD_START + 1) chunk.new }
+{
+    for place in 0..rows {
+        let id = first + place;
+        let row = pair(alloc, i64::from(id), balance_of(id))?;
+        chunk.load_at(place as usize, &row);
+    }
+    Ok(())
+}
+
 impl Ready {
-    /// A chunk of so many unused positions, from `first` on.
-    pub fn new(alloc: Global, first: u32, positions: usize) -> Result<Ready, AllocError>
-        requires { first + positions < 2 ^ 32 }
+    /// A full chunk of the rows of so many numbers, from `first` on.
+    pub fn full(alloc: Global, first: u32, rows: u32) -> Result<Ready, AllocError>
+        requires { first + rows < 2 ^ 32 }
     {
+        let positions = rows as usize;
+        let mut chunk = Chunk::new(alloc, 0, first, &[Kind::Int, Kind::Int], positions, Some(0))?;
+        load_rows(alloc, &mut chunk, first, rows)?;
         Ok(Ready {
-            chunk: Chunk::new(alloc, 0, first, &[Kind::Int, Kind::Int], positions, Some(0))?,
+            chunk,
             positions,
             next: OLD_START + 1,
         })
-    }
-
-    /// Puts a first row there, where there is a position for it.
-    pub fn load(&mut self, alloc: Global, id: i64, bal: i64) -> Result<(), AllocError> {
-        let row = pair(alloc, id, bal)?;
-        let _pos = self.chunk.load(&row);
-        Ok(())
     }
 
     /// Appends the bal of each row that a viewer sees and a condition selects.

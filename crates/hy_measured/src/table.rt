@@ -18,27 +18,11 @@ const ROWS: u32 = 1024;
 /// How many rows the chunk has in which one is updated.
 const FEW: u32 = 4;
 
-/// The balance of the row of this number at first.
-fn balance(id: u32) -> i64 {
-    i64::from(id.wrapping_mul(7919) % 1009)
-}
-
-/// A full chunk of the rows from this one on.
-fn full(alloc: Global, first: u32, rows: u32) -> Result<Ready, AllocError>
-    requires { first + rows < 2 ^ 32 }
-{
-    let mut ready = Ready::new(alloc, first, rows as usize)?;
-    for id in first..first + rows {
-        ready.load(alloc, i64::from(id), balance(id))?;
-    }
-    Ok(ready)
-}
-
 /// The table: its chunks are full.
 fn table(alloc: Global) -> Result<Vec<Ready>, AllocError> {
     let mut chunks = Vec::new(alloc);
     for chunk in 0..CHUNKS {
-        chunks.push(full(alloc, chunk * ROWS, ROWS)?)?;
+        chunks.push(Ready::full(alloc, chunk * ROWS, ROWS)?)?;
     }
     Ok(chunks)
 }
@@ -82,7 +66,7 @@ pub fn finds(alloc: Global, rounds: u32) -> Result<i64, AllocError> {
 /// What the old reader sees of a row that is updated so many times, times 2^32, and what a new one sees of it; an
 /// error is for want of memory or of times.
 pub fn updates(alloc: Global, rounds: u32) -> Result<i64, AllocError> {
-    let mut ready = full(alloc, 0, FEW)?;
+    let mut ready = Ready::full(alloc, 0, FEW)?;
     let pred = compared(alloc, 0, Cmp::Eq, 1)?;
     for round in 0..rounds {
         ready.update(alloc, round, &pred)?;

@@ -1,5 +1,5 @@
 -- First rows in the positions of a chunk: loading one more, and what stands at a position then.
-use Rattle.std.proofs.Common.{◌≡◌, ℕ, zero, suc, ◌+◌, ◌-◌, ◌<◌, ◌≤◌, List, [], ◌∷◌, ◌++◌}
+use Rattle.std.proofs.Common.{◌≡◌, ℕ, zero, suc, ◌+◌, ◌-◌, ◌<◌, ◌≤◌, false, List, [], ◌∷◌, ◌++◌}
 use Rattle.std.proofs.Common.{Option, None, Some, length, map, take, get_or, replicate, refl, sym, ap, subst, ◌∙◌, arith}
 use Rattle.std.proofs.Math.ListN.{set}
 use Rattle.std.specs.Prelude.{slice_get, is_some}
@@ -9,7 +9,7 @@ use Rattle.hy_value.specs.declared.Kind.{Kind}
 use Rattle.hy_value.specs.declared.Value.{Value}
 use Rattle.hy_undo.specs.Places.{Place, in_place}
 use Rattle.hy_chunk.specs.Fields.{blank_place, nth}
-use Rattle.hy_chunk.specs.Steps.{loaded_place, least_unused}
+use Rattle.hy_chunk.specs.Steps.{loaded_place}
 use Rattle.hy_chunk.specs.Views.{Whole, with_places}
 use Rattle.hy_machine.specs.declared.Setting.{Setting}
 use Rattle.hy_machine.specs.Positions.{item_at}
@@ -20,50 +20,42 @@ use Rattle.hy_world.specs.Openings.{first_place, places_with, first_rows}
 -- ---- one more row is loaded
 
 -- what loading a row makes of positions
-abbrev pub with_row : List Place → List Value → List Place
-with_row places row = set places (least_unused places) (loaded_place row (nth places (least_unused places)))
+abbrev pub with_row : List Place → ℕ → List Value → List Place
+with_row places place row = set places place (loaded_place row (nth places place))
 
 -- positions with rows, the next of them unused
 abbrev before : List Kind → List (List Value) → ℕ → List Place
 before kinds rows left = map first_place rows ++ replicate left (blank_place kinds)
 
-least_is : (kinds : List Kind) (rows : List (List Value)) (left : ℕ) → least_unused (before kinds rows (suc left)) ≡ length rows
-least_is kinds [] left = refl
-least_is kinds (row ∷ rows) left =
-    let more : (n : ℕ) → 1 + n ≡ suc n = λ n. omega arith in
-    more (least_unused (before kinds rows (suc left))) ∙ ap suc (least_is kinds rows left)
+unused_at : (kinds : List Kind) (rows : List (List Value)) (left : ℕ) → (nth (before kinds rows (suc left)) (length rows)).used ≡ false
+unused_at kinds [] left = refl
+unused_at kinds (first ∷ rows) left = unused_at kinds rows left
 
 put_at : (kinds : List Kind) (rows : List (List Value)) (left : ℕ) (row : List Value)
-    → set (before kinds rows (suc left)) (length rows) (loaded_place row (nth (before kinds rows (suc left)) (length rows)))
-    ≡ before kinds (rows ++ row ∷ []) left
+    → with_row (before kinds rows (suc left)) (length rows) row ≡ before kinds (rows ++ row ∷ []) left
 put_at kinds [] left row = refl
 put_at kinds (first ∷ rows) left row = ap (λ (places : List Place). first_place first ∷ places) (put_at kinds rows left row)
 
-put_next : (kinds : List Kind) (rows : List (List Value)) (left : ℕ) (row : List Value)
-    → with_row (before kinds rows (suc left)) row ≡ before kinds (rows ++ row ∷ []) left
-put_next kinds rows left row =
-    ap (λ (n : ℕ). set (before kinds rows (suc left)) n (loaded_place row (nth (before kinds rows (suc left)) n))) (least_is kinds rows left)
-    ∙ put_at kinds rows left row
-
 next_placed : (kinds : List Kind) (count : ℕ) (rows : List (List Value)) (row : List Value) → length rows < count
-    → with_row (places_with kinds count rows) row ≡ places_with kinds count (rows ++ row ∷ [])
+    → with_row (places_with kinds count rows) (length rows) row ≡ places_with kinds count (rows ++ row ∷ [])
 next_placed kinds count rows row h =
     let e : count - length rows ≡ suc (count - length (rows ++ row ∷ [])) = omega (arith, length_push rows row) in
-    ap (λ (left : ℕ). with_row (before kinds rows left) row) e ∙ put_next kinds rows (count - length (rows ++ row ∷ [])) row
+    ap (λ (left : ℕ). with_row (before kinds rows left) (length rows) row) e ∙ put_at kinds rows (count - length (rows ++ row ∷ [])) row
 
 pub loaded_more : (kinds : List Kind) (count i : ℕ) (rows : List (List Value)) (row : List Value) → i < length rows → length rows ≤ count
-    → row ≡ get_or rows i row → with_row (places_with kinds count (take i rows)) row ≡ places_with kinds count (take (i + 1) rows)
+    → row ≡ get_or rows i row → with_row (places_with kinds count (take i rows)) i row ≡ places_with kinds count (take (i + 1) rows)
 loaded_more kinds count i rows row h few is =
-    let short : length (take i rows) < count = omega (arith, length-take i rows) in
+    let taken : length (take i rows) ≡ i = omega (arith, length-take i rows) in
     let more : take i rows ++ row ∷ [] ≡ take (i + 1) rows =
     ap (λ (one : List Value). take i rows ++ one ∷ []) is ∙ sym (take_more rows i row h) in
-    next_placed kinds count (take i rows) row short ∙ ap (places_with kinds count) more
+    ap (λ (place : ℕ). with_row (places_with kinds count (take i rows)) place row) (sym taken)
+    ∙ (next_placed kinds count (take i rows) row (omega (arith, taken)) ∙ ap (places_with kinds count) more)
 
 pub loaded_whole : (start now new : Whole) (count i : ℕ) (rows : List (List Value)) (row : List Value) → i < length rows → length rows ≤ count
     → row ≡ get_or rows i row → now ≡ with_places start (places_with start.kinds count (take i rows)) now.room
-    → new ≡ with_places now (with_row now.shown.places row) new.room → new ≡ with_places start (places_with start.kinds count (take (i + 1) rows)) new.room
+    → new ≡ with_places now (with_row now.shown.places i row) new.room → new ≡ with_places start (places_with start.kinds count (take (i + 1) rows)) new.room
 loaded_whole start now new count i rows row h few is before after =
-    after ∙ (ap (λ (whole : Whole). with_places whole (with_row whole.shown.places row) new.room) before
+    after ∙ (ap (λ (whole : Whole). with_places whole (with_row whole.shown.places i row) new.room) before
     ∙ ap (λ (places : List Place). with_places start places new.room) (loaded_more start.kinds count i rows row h few is))
 
 pub places_long : (kinds : List Kind) (count : ℕ) (rows : List (List Value)) → length rows ≤ count → length (places_with kinds count rows) ≡ count
@@ -75,16 +67,21 @@ places_long kinds count rows h =
       length-replicate (count - length rows) (blank_place kinds),
     )
 
--- while there are more rows to load there is room
-pub has_room : (kinds : List Kind) (count i : ℕ) (rows : List (List Value)) → i < length rows → length rows ≤ count
-    → least_unused (places_with kinds count (take i rows)) ≡ length (places_with kinds count (take i rows)) → ⊥
-has_room kinds count i rows h few e =
+-- while there are more rows to load, the next position is there and unused
+pub next_there : (start now : Whole) (count i : ℕ) (rows : List (List Value)) → i < length rows → length rows ≤ count
+    → now ≡ with_places start (places_with start.kinds count (take i rows)) now.room → i < length now.shown.places
+next_there start now count i rows h few before =
+    let long : length (places_with start.kinds count (take i rows)) ≡ count =
+    places_long start.kinds count (take i rows) (omega (arith, length-take i rows)) in
+    omega (arith, long, ap (λ (whole : Whole). length whole.shown.places) before)
+
+pub next_unused : (start now : Whole) (count i : ℕ) (rows : List (List Value)) → i < length rows → length rows ≤ count
+    → now ≡ with_places start (places_with start.kinds count (take i rows)) now.room → (nth now.shown.places i).used ≡ false
+next_unused start now count i rows h few before_it =
     let taken : length (take i rows) ≡ i = omega (arith, length-take i rows) in
-    let left : count - length (take i rows) ≡ suc (count - suc i) = omega arith in
-    let least : least_unused (places_with kinds count (take i rows)) ≡ length (take i rows) =
-    ap (λ (n : ℕ). least_unused (before kinds (take i rows) n)) left ∙ least_is kinds (take i rows) (count - suc i) in
-    let long : length (places_with kinds count (take i rows)) ≡ count = places_long kinds count (take i rows) (omega arith) in
-    omega arith
+    let left : count - length (take i rows) ≡ suc (count - suc i) = omega (arith, taken) in
+    ap (λ (whole : Whole). (nth whole.shown.places i).used) before_it
+    ∙ ((λ k. (nth (before start.kinds (take i rows) (left k)) (sym taken k)).used) ∙ unused_at start.kinds (take i rows) (count - suc i))
 
 -- ---- what stands at a position
 

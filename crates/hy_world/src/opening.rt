@@ -47,18 +47,15 @@ fn rows_from(rows: &[Row], start: usize, count: usize) -> &[Row]
     these
 }
 
-/// Loads first rows into a chunk of which no position is used.
+/// Loads first rows, one behind the other, into a chunk of which no position is used.
 fn load_rows(chunk: &mut Chunk, rows: &[Row])
     requires blank { chunk.old.shown.places ≡ replicate (length chunk.old.shown.places) (blank_place chunk.old.kinds) }
     requires few { length rows.now ≤ length chunk.old.shown.places }
     requires fit { All (FitsRow chunk.old.kinds) rows.now }
     ensures { chunk.new ≡ with_places chunk.old (places_with chunk.old.kinds (length chunk.old.shown.places) rows.now) chunk.new.room }
 {
-    for row in rows {
-        match chunk.load(row) {
-            Ok(_pos) => {}
-            Err(_full) => unreachable!(),
-        }
+    for (place, row) in rows.iter().enumerate() {
+        chunk.load_at(place, row);
     }
 }
 

@@ -1,9 +1,5 @@
-use Rattle.std.proofs.Common.{Bool, Bor, List, Option, sym, ◌∙◌, subst}
-use Rattle.std.specs.Prelude.{IfSome}
-use Rattle.std.specs.Option.{option_copied}
-use Rattle.hy_bound.specs.Records.{conjuncts}
+use Rattle.std.proofs.Common.{sym, ◌∙◌}
 use Rattle.hy_chunk.specs.Fields.{nth}
-use Rattle.hy_chunk.specs.Masked.{Admits}
 use Rattle.hy_chunk.proofs.Masking.{is_false, nothing_wanted}
 use Rattle.hy_chunk.proofs.masks.is_passed.Goals as goal
 
@@ -11,8 +7,6 @@ pub returns-then-not-get : goal.returns-then-not-get
 returns-then-not-get c = λ passed viewer.
     let pred = c.args.wanted.now.pred.now in
     let places = c.args.positions.now.places in
-    let admits : Admits (conjuncts pred) places c.in-Some.mask.now =
-    subst (λ (mask : Option (Bor (List Bool))). IfSome (option_copied mask) (Admits (conjuncts pred) places)) c.in-Some.is c.requires.mask in
     let chain = c.is_versioned.ensures (is_false c.is_versioned.result passed) in
     nothing_wanted c.args.wanted.now.columns pred c.args.wanted.now.keys (nth places c.args.place) chain
-    (admits.clear c.args.place c.requires.within (sym c.get.ensures ∙ c.if-not-get.true)) viewer
+    (c.requires.mask.clear c.args.place c.requires.within (sym c.get.ensures ∙ c.if-not-get.true)) viewer

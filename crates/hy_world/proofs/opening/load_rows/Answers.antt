@@ -1,17 +1,18 @@
-use Rattle.std.proofs.Common.{◌≡◌, length, subst, ap, List}
-use Rattle.hy_undo.specs.Places.{Place}
-use Rattle.hy_chunk.specs.Steps.{least_unused}
-use Rattle.hy_chunk.specs.Views.{Whole}
-use Rattle.hy_world.proofs.Laying.{has_room, loaded_whole}
+use Rattle.std.proofs.Common.{length}
+use Rattle.hy_world.proofs.Laying.{next_there, next_unused, loaded_whole}
 use Rattle.hy_world.proofs.opening.load_rows.Goals as goal
 
-pub unreachable-requires : goal.unreachable-requires
-unreachable-requires c =
-    has_room c.args.chunk.now.kinds (length c.args.chunk.now.shown.places) c.loop-row.row-index c.args.rows.now c.loop-row-test.true c.requires.few
-    (subst (λ (places : List Place). least_unused places ≡ length places) (ap (λ (whole : Whole). whole.shown.places) c.loop-row.invariant)
-    c.in-Err.ensures.none)
+pub load_at-requires-clause-within : goal.load_at-requires-clause-within
+load_at-requires-clause-within c =
+    next_there c.args.chunk.now c.loop-place.chunk (length c.args.chunk.now.shown.places) c.loop-place.place c.args.rows.now c.loop-place-test.true
+    c.requires.few c.loop-place.invariant
 
-pub loop-row-preserved : goal.loop-row-preserved
-loop-row-preserved c =
-    loaded_whole c.args.chunk.now c.loop-row.chunk c.load.new.self (length c.args.chunk.now.shown.places) c.loop-row.row-index c.args.rows.now
-    c.row-item.result c.loop-row-test.true c.requires.few c.row-item.is c.loop-row.invariant c.in-Ok.ensures.ok
+pub load_at-requires-clause-unused : goal.load_at-requires-clause-unused
+load_at-requires-clause-unused c =
+    next_unused c.args.chunk.now c.loop-place.chunk (length c.args.chunk.now.shown.places) c.loop-place.place c.args.rows.now c.loop-place-test.true
+    c.requires.few c.loop-place.invariant
+
+pub loop-place-preserved : goal.loop-place-preserved
+loop-place-preserved c =
+    loaded_whole c.args.chunk.now c.loop-place.chunk c.load_at.new.self (length c.args.chunk.now.shown.places) c.loop-place.place c.args.rows.now
+    c.index-rows-place.result c.loop-place-test.true c.requires.few c.index-rows-place.is c.loop-place.invariant c.load_at.ensures.all

@@ -3,6 +3,6 @@ use Rattle.hy_chunk.specs.Views.{with_places}
 use Rattle.hy_world.specs.Openings.{places_with}
 use Rattle.hy_world.proofs.opening.load_rows.Given as goal
 
-abbrev pub invariant-loop-row : goal.invariant-loop-row
-invariant-loop-row l =
-    l.chunk ≡ with_places l.fn.chunk (places_with l.fn.chunk.kinds (length l.fn.chunk.shown.places) (take l.row-index l.rows)) l.chunk.room
+abbrev pub invariant-loop-place : goal.invariant-loop-place
+invariant-loop-place l =
+    l.chunk ≡ with_places l.fn.chunk (places_with l.fn.chunk.kinds (length l.fn.chunk.shown.places) (take l.place l.rows)) l.chunk.room

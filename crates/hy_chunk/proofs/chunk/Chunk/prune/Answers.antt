@@ -1,4 +1,4 @@
-use Rattle.std.proofs.Common.{◌≤◌, List, length, sym, ap, ◌∙◌, subst, arith}
+use Rattle.std.proofs.Common.{List, length, refl, sym, ap, ◌∙◌, subst, arith}
 use Rattle.std.specs.List.{AllByRecursion}
 use Rattle.hy_chain.specs.Chains.{Falls}
 use Rattle.hy_undo.specs.Places.{Place}
@@ -7,9 +7,24 @@ use Rattle.hy_undo.specs.Steps.{pruned_place}
 use Rattle.hy_value.specs.declared.Kind.{Kind}
 use Rattle.hy_chunk.specs.Fields.{nth}
 use Rattle.hy_chunk.specs.Views.{Held, Whole, with_places}
-use Rattle.hy_chunk.proofs.Mapped.{all_done, all_at}
+use Rattle.hy_chunk.proofs.Mapped.{all_at, range_begun, range_done, unpruned}
 use Rattle.hy_chunk.proofs.Wholes.{whole_of, still_whole}
 use Rattle.hy_chunk.proofs.chunk.Chunk.prune.Goals as goal
+
+pub loop-place-init : goal.loop-place-init
+loop-place-init c =
+    let range = c.versioned_part-part.ensures in
+    record {
+      table = refl;
+      first = refl;
+      key = refl;
+      kinds = refl;
+      next = c.self.invariant.next_wide;
+      wide = c.self.invariant.wide;
+      places = range_begun (pruned_place c.args.cover.now) c.self.inside.positions.places c.versioned_part-part.result.first c.versioned_part-part.result.end range.others
+          (unpruned c.args.cover.now);
+      room = omega arith;
+    }
 
 pub invariant_of-self : goal.invariant_of-self
 invariant_of-self c =
@@ -35,11 +50,12 @@ returns-clause-places c =
     let old = c.self.inside.positions.places in
     let now = c.loop-place.self-inside.positions.places in
     let new = c.narrow.new.self.places in
-    let end : length old ≤ c.loop-place.place = omega (arith, c.loop-place-test.false, c.len-place-end.ensures) in
+    let range = c.versioned_part-part.ensures in
     let was = ap (λ (w : Whole). w.shown.places) c.self.view_is in
     let falls = subst (AllByRecursion (λ (p : Place). Falls p.chain)) (sym was) c.requires in
     let done : Everywhere (Pruned c.args.cover.now) old now =
-    all_done (Pruned c.args.cover.now) (pruned_place c.args.cover.now) old now c.loop-place.place c.loop-place.invariant.places end
+    range_done (Pruned c.args.cover.now) (pruned_place c.args.cover.now) old now c.versioned_part-part.result.first c.versioned_part-part.result.end c.loop-place.place
+    range.others (unpruned c.args.cover.now) c.loop-place.invariant.places (omega (arith, c.loop-place-test.false))
     (λ k l. c.places_step.ensures.prunes c.args.cover.now (nth old k) (all_at (λ (p : Place). Falls p.chain) old k falls l)) in
     subst (λ (places : List Place). Everywhere (Pruned c.args.cover.now) places new) was
     (subst (λ (h : Held). Everywhere (Pruned c.args.cover.now) old h.places) (sym c.narrow.ensures) done)

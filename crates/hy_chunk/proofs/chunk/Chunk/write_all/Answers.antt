@@ -1,6 +1,7 @@
-use Rattle.std.proofs.Common.{◌≡◌, ℕ, ◌+◌, ◌<◌, ◌≤◌, Bool, true, false, List, [], length, drop, Option, None, Some, Ok, sym, ap, ◌∙◌, cond, subst, arith}
+use Rattle.std.proofs.Common.{◌≡◌, ℕ, ◌+◌, ◌<◌, ◌≤◌, Bool, true, false, List, [], length, drop, Option, None, Some, Ok, refl, sym, ap, ◌∙◌, cond, subst, arith}
 use Rattle.std.proofs.Math.ListN.{set}
 use Rattle.std.proofs.lemmas.List.{length-set, get_or-set_other}
+use Rattle.hy_value.specs.declared.Value.{Value}
 use Rattle.hy_value.specs.declared.Kind.{Kind}
 use Rattle.hy_chain.specs.Chains.{seen}
 use Rattle.hy_change.specs.declared.Change.{Change}
@@ -11,11 +12,13 @@ use Rattle.hy_undo.specs.Images.{before}
 use Rattle.hy_undo.specs.Places.{Place, Cell, cell_of, sees}
 use Rattle.hy_undo.specs.Sweeps.{swept}
 use Rattle.hy_chunk.specs.Fields.{nth, blank_with}
-use Rattle.hy_chunk.specs.Keyed.{SameKey}
+use Rattle.hy_chunk.specs.Gathering.{AsksKey}
+use Rattle.hy_chunk.specs.Keyed.{PassesOver, SameKey}
 use Rattle.hy_chunk.specs.Views.{Whole}
 use Rattle.hy_chunk.specs.Writes.{FitsWrite, sets_of, refusal_in, judged_at, WrittenAs, IsDone}
 use Rattle.hy_chunk.proofs.Over.{fits_length}
 use Rattle.hy_chunk.proofs.Sweeping.{unselected, is_live, new_judged, without_rival, is_in_range, is_in_place, noted_of, here_ok, left_ok}
+use Rattle.hy_chunk.proofs.Sweeping.{passed, refused_past, noted_past, counted_past, done_past, counted_of}
 use Rattle.hy_chunk.proofs.Sweeping.{unnoted, uncounted, noted, counted, all_written, all_done, done_more, as_none, as_some, sets_within}
 use Rattle.hy_chunk.proofs.chunk.Chunk.write_all.Goals as goal
 
@@ -28,13 +31,30 @@ loop-place-preserved-then-not-is_selected c =
     let k = c.loop-place.place in
     let first : ℕ = c.self.inside.first in
     let v = c.loop-place.invariant in
-    let l : k < length olds = omega (arith, c.loop-place-test.true, c.len-place-end.ensures) in
+    let l : k < length olds = omega (arith, c.loop-place-test.true, c.len-end.ensures) in
     let p : Place = nth olds k in
     let version : Version = c.see.new.version in
     let same : nth c.loop-place.self-inside.positions.places k ≡ p = v.rest k (omega arith) in
     let is : version ≡ seen before viewer p.version p.chain = c.see.ensures.version ∙ ap (λ (q : Place). seen before viewer q.version q.chain) same in
     let no : truth_at pred (cell_of version) ≡ false = sym c.is_selected.ensures ∙ c.if-not-is_selected.true in
     let none : judged_at sets pred viewer (first + k) p ≡ Ok None = unselected sets pred viewer (first + k) p version is no in
+    let key = c.self.inside.positions.key in
+    let asked = c.key_asked-asked.result in
+    let asks : AsksKey pred key asked = subst (λ (which : Option ℕ). AsksKey pred which asked) c.key.ensures c.key_asked-asked.ensures in
+    let found = c.next_wanted-place-in-loop-place.ensures in
+    let next = c.next_wanted-place-in-loop-place.result in
+    let before_write = c.loop-place.self-inside.positions in
+    let over : PassesOver key asked before_write.places (k + 1) next =
+    subst (λ (which : Option ℕ). PassesOver which asked before_write.places (k + 1) next) v.key
+    (subst (λ (what : Option Value). PassesOver before_write.key what before_write.places (k + 1) next) v.asked found.passed) in
+    let within : next ≤ length olds = omega (arith, found.within, v.size) in
+    let skips : (j : ℕ) → k + 1 ≤ j → j < next → judged_at sets pred viewer (first + j) (nth olds j) ≡ Ok None =
+    λ j m n. passed sets pred viewer (first + j) key asked olds before_write.places (k + 1) next j asks over m n (v.rest j (omega (arith, m))) in
+    let left : refusal_in (swept sets pred viewer (first + (k + 1)) (drop (k + 1) olds)) ≡ None =
+    left_ok sets pred viewer c.self.inside.table first olds k l v.ok in
+    let more = counted_past sets pred viewer first olds (k + 1) next found.reached within skips c.self.inside.table left in
+    let has : ℕ → Type 0 = λ j. WrittenAs viewer c.args.label (judged_at sets pred viewer (first + j) (nth olds j)) (nth olds j)
+    (nth before_write.places j) in
     let e = uncounted sets pred viewer c.self.inside.table first olds k l v.ok none c.loop-place.changes.notes in
     record {
       table = v.table;
@@ -44,16 +64,20 @@ loop-place-preserved-then-not-is_selected c =
       next = v.next;
       wide = fits_length c.loop-place.self-inside.positions.kinds c.see.new.version.row c.see.ensures.fits ∙ ap (λ (kinds : List Kind). length kinds) v.kinds;
       size = v.size;
-      ok = left_ok sets pred viewer c.self.inside.table first olds k l v.ok;
-      done = done_more (λ (j : ℕ). WrittenAs viewer c.args.label (judged_at sets pred viewer (first + j) (nth olds j)) (nth olds j)
-          (nth c.loop-place.self-inside.positions.places j)) k v.done
-          (as_none viewer c.args.label (judged_at sets pred viewer (first + k) p) p (nth c.loop-place.self-inside.positions.places k) none same);
-      rest = λ j m. v.rest j (omega (arith, m));
-      noted = sym (unnoted sets pred viewer c.self.inside.table first olds k l v.ok none c.loop-place.changes.notes) ∙ v.noted;
-      counted = omega (arith, v.counted, e);
-      few = omega (arith, v.few);
-      room = omega (arith, v.room);
-      notes_room = omega (arith, v.notes_room);
+      ok = refused_past sets pred viewer first olds (k + 1) next found.reached within skips ∙ left;
+      done = done_past has (k + 1) next (done_more has k v.done
+          (as_none viewer c.args.label (judged_at sets pred viewer (first + k) p) p (nth before_write.places k) none same))
+          (λ j m n. as_none viewer c.args.label (judged_at sets pred viewer (first + j) (nth olds j)) (nth olds j) (nth before_write.places j) (skips j m n)
+          (v.rest j (omega (arith, m))));
+      rest = λ j m. v.rest j (omega (arith, m, found.reached));
+      noted = noted_past sets pred viewer first olds (k + 1) next found.reached within skips c.self.inside.table left c.loop-place.changes.notes
+          ∙ (sym (unnoted sets pred viewer c.self.inside.table first olds k l v.ok none c.loop-place.changes.notes) ∙ v.noted);
+      counted = omega (arith, v.counted, e, more);
+      asked = v.asked;
+      within = within;
+      few = omega (arith, v.few, found.reached);
+      room = omega (arith, v.room, found.reached);
+      notes_room = omega (arith, v.notes_room, found.reached);
       notes_width = v.notes_width;
     }
 
@@ -78,7 +102,7 @@ make_next-requires-clause-in_range c =
     let k = c.loop-place.place in
     let first : ℕ = c.self.inside.first in
     let v = c.loop-place.invariant in
-    let l : k < length olds = omega (arith, c.loop-place-test.true, c.len-place-end.ensures) in
+    let l : k < length olds = omega (arith, c.loop-place-test.true, c.len-end.ensures) in
     let p : Place = nth olds k in
     let version : Version = c.see.new.version in
     let same : nth c.loop-place.self-inside.positions.places k ≡ p = v.rest k (omega arith) in
@@ -96,7 +120,7 @@ write_at-requires-clause-live c =
     let k = c.loop-place.place in
     let first : ℕ = c.self.inside.first in
     let v = c.loop-place.invariant in
-    let l : k < length olds = omega (arith, c.loop-place-test.true, c.len-place-end.ensures) in
+    let l : k < length olds = omega (arith, c.loop-place-test.true, c.len-end.ensures) in
     let p : Place = nth olds k in
     let version : Version = c.see.new.version in
     let same : nth c.loop-place.self-inside.positions.places k ≡ p = v.rest k (omega arith) in
@@ -123,7 +147,7 @@ write_at-requires-clause-same_key c =
     let k = c.loop-place.place in
     let first : ℕ = c.self.inside.first in
     let v = c.loop-place.invariant in
-    let l : k < length olds = omega (arith, c.loop-place-test.true, c.len-place-end.ensures) in
+    let l : k < length olds = omega (arith, c.loop-place-test.true, c.len-end.ensures) in
     let p : Place = nth olds k in
     let version : Version = c.see.new.version in
     let same : nth c.loop-place.self-inside.positions.places k ≡ p = v.rest k (omega arith) in
@@ -153,7 +177,51 @@ note-requires-clause-after c =
 
 pub overflow_add-written : goal.overflow_add-written
 overflow_add-written c =
-    omega (arith, c.loop-place.invariant.few, c.loop-place-test.true, c.len-place-end.ensures, c.self.invariant.numbered)
+    omega (arith, c.loop-place.invariant.few, c.loop-place-test.true, c.len-end.ensures, c.self.invariant.numbered)
+
+pub loop-place-init : goal.loop-place-init
+loop-place-init c =
+    let sets = sets_of c.args.kind.now in
+    let pred = c.args.pred.now in
+    let viewer = c.args.viewer.now in
+    let olds = c.self.inside.positions.places in
+    let first : ℕ = c.self.inside.first in
+    let key = c.self.inside.positions.key in
+    let asked = c.key_asked-asked.result in
+    let asks : AsksKey pred key asked = subst (λ (which : Option ℕ). AsksKey pred which asked) c.key.ensures c.key_asked-asked.ensures in
+    let found = c.next_wanted-place.ensures in
+    let next = c.next_wanted-place.result in
+    let none_first : ◌≡◌ {A = ℕ} (first + 0) first = omega arith in
+    let skips : (j : ℕ) → 0 ≤ j → j < next → judged_at sets pred viewer (first + j) (nth olds j) ≡ Ok None =
+    λ j m n. passed sets pred viewer (first + j) key asked olds olds 0 next j asks found.passed m n refl in
+    let ok : refusal_in (swept sets pred viewer (first + 0) olds) ≡ None =
+    ap (λ (n : ℕ). refusal_in (swept sets pred viewer n olds)) none_first
+    ∙ (ap (λ (w : Whole). refusal_in (swept sets pred viewer w.shown.first w.shown.places)) c.self.view_is ∙ c.requires.ok) in
+    let none_counted : counted_of (swept sets pred viewer (first + 0) olds) ≡ counted_of (swept sets pred viewer first olds) =
+    ap (λ (n : ℕ). counted_of (swept sets pred viewer n olds)) none_first in
+    let more = counted_past sets pred viewer first olds 0 next found.reached found.within skips c.self.inside.table ok in
+    record {
+      table = refl;
+      first = refl;
+      key = refl;
+      kinds = refl;
+      next = c.self.invariant.next_wide;
+      wide = c.self.invariant.wide;
+      size = refl;
+      ok = refused_past sets pred viewer first olds 0 next found.reached found.within skips ∙ ok;
+      done = λ j m. as_none viewer c.args.label (judged_at sets pred viewer (first + j) (nth olds j)) (nth olds j) (nth olds j)
+          (skips j (omega arith) m) refl;
+      rest = λ j m. refl;
+      noted = noted_past sets pred viewer first olds 0 next found.reached found.within skips c.self.inside.table ok c.args.changes.now.notes
+          ∙ ap (λ (n : ℕ). noted_of c.self.inside.table n viewer (swept sets pred viewer n olds) olds c.args.changes.now.notes) none_first;
+      counted = omega (arith, more, none_counted);
+      asked = refl;
+      within = found.within;
+      few = omega arith;
+      room = omega arith;
+      notes_room = omega arith;
+      notes_width = refl;
+    }
 
 pub loop-place-preserved : goal.loop-place-preserved
 loop-place-preserved c =
@@ -164,7 +232,7 @@ loop-place-preserved c =
     let k = c.loop-place.place in
     let first : ℕ = c.self.inside.first in
     let v = c.loop-place.invariant in
-    let l : k < length olds = omega (arith, c.loop-place-test.true, c.len-place-end.ensures) in
+    let l : k < length olds = omega (arith, c.loop-place-test.true, c.len-end.ensures) in
     let p : Place = nth olds k in
     let version : Version = c.see.new.version in
     let same : nth c.loop-place.self-inside.positions.places k ≡ p = v.rest k (omega arith) in
@@ -182,9 +250,25 @@ loop-place-preserved c =
     let told : c.note.new.changes.notes ≡ with_note (record { table = c.self.inside.table; pos = first + k; before = sees viewer p; after = cell })
     c.loop-place.changes.notes =
     c.note.ensures.notes ∙ λ i. with_note (record { table = v.table i; pos = v.first i + k; before = saw i; after = cell }) c.loop-place.changes.notes in
+    let key = c.self.inside.positions.key in
+    let asked = c.key_asked-asked.result in
+    let asks : AsksKey pred key asked = subst (λ (which : Option ℕ). AsksKey pred which asked) c.key.ensures c.key_asked-asked.ensures in
+    let found = c.next_wanted-place-in-loop-place.ensures in
+    let next = c.next_wanted-place-in-loop-place.result in
+    let before_write = c.loop-place.self-inside.positions in
+    let over : PassesOver key asked before_write.places (k + 1) next =
+    subst (λ (which : Option ℕ). PassesOver which asked before_write.places (k + 1) next) v.key
+    (subst (λ (what : Option Value). PassesOver before_write.key what before_write.places (k + 1) next) v.asked found.passed) in
+    let within : next ≤ length olds = omega (arith, found.within, v.size) in
+    let skips : (j : ℕ) → k + 1 ≤ j → j < next → judged_at sets pred viewer (first + j) (nth olds j) ≡ Ok None =
+    λ j m n. passed sets pred viewer (first + j) key asked olds before_write.places (k + 1) next j asks over m n (v.rest j (omega (arith, m))) in
+    let left : refusal_in (swept sets pred viewer (first + (k + 1)) (drop (k + 1) olds)) ≡ None =
+    left_ok sets pred viewer c.self.inside.table first olds k l v.ok in
+    let more = counted_past sets pred viewer first olds (k + 1) next found.reached within skips c.self.inside.table left in
     let e = counted sets pred viewer c.self.inside.table first olds k l v.ok cell some c.loop-place.changes.notes in
     let stays : (j : ℕ) → (j ≡ k → ⊥) → nth news j ≡ nth now j = λ j ne. ap (λ (ps : List Place). nth ps j) puts
     ∙ get_or-set_other now k j (nth news k) (blank_with []) ne in
+    let has : ℕ → Type 0 = λ j. WrittenAs viewer c.args.label (judged_at sets pred viewer (first + j) (nth olds j)) (nth olds j) (nth news j) in
     record {
       table = v.table;
       first = v.first;
@@ -195,19 +279,24 @@ loop-place-preserved c =
           ∙ ap (λ (kinds : List Kind). length kinds) v.kinds);
       wide = fits_length c.loop-place.self-inside.positions.kinds c.see.new.version.row c.see.ensures.fits ∙ ap (λ (kinds : List Kind). length kinds) v.kinds;
       size = ap (λ (ps : List Place). length ps) puts ∙ (length-set now k (nth news k) ∙ v.size);
-      ok = left_ok sets pred viewer c.self.inside.table first olds k l v.ok;
-      done = done_more (λ (j : ℕ). WrittenAs viewer c.args.label (judged_at sets pred viewer (first + j) (nth olds j)) (nth olds j) (nth news j)) k
+      ok = refused_past sets pred viewer first olds (k + 1) next found.reached within skips ∙ left;
+      done = done_past has (k + 1) next (done_more has k
           (λ j m. subst (λ (q : Place). WrittenAs viewer c.args.label (judged_at sets pred viewer (first + j) (nth olds j)) (nth olds j) q)
           (sym (stays j (λ eq. absurd (omega (arith, eq, m))))) (v.done j m))
-          (as_some viewer c.args.label (judged_at sets pred viewer (first + k) p) cell p (nth now k) (nth news k) some same c.write_at.ensures.written);
-      rest = λ j m. stays j (λ eq. absurd (omega (arith, eq, m))) ∙ v.rest j (omega (arith, m));
-      noted = ap (λ (notes : List Change). noted_of c.self.inside.table (first + (k + 1)) viewer
+          (as_some viewer c.args.label (judged_at sets pred viewer (first + k) p) cell p (nth now k) (nth news k) some same c.write_at.ensures.written))
+          (λ j m n. as_none viewer c.args.label (judged_at sets pred viewer (first + j) (nth olds j)) (nth olds j) (nth news j) (skips j m n)
+          (stays j (λ eq. absurd (omega (arith, eq, m))) ∙ v.rest j (omega (arith, m))));
+      rest = λ j m. stays j (λ eq. absurd (omega (arith, eq, m, found.reached))) ∙ v.rest j (omega (arith, m, found.reached));
+      noted = noted_past sets pred viewer first olds (k + 1) next found.reached within skips c.self.inside.table left c.note.new.changes.notes
+          ∙ (ap (λ (notes : List Change). noted_of c.self.inside.table (first + (k + 1)) viewer
           (swept sets pred viewer (first + (k + 1)) (drop (k + 1) olds)) (drop (k + 1) olds) notes) told
-          ∙ (sym (noted sets pred viewer c.self.inside.table first olds k l v.ok cell some c.loop-place.changes.notes) ∙ v.noted);
-      counted = omega (arith, v.counted, e);
-      few = omega (arith, v.few);
-      room = omega (arith, v.room, c.write_at.ensures.room);
-      notes_room = omega (arith, v.notes_room, c.note.ensures.room);
+          ∙ (sym (noted sets pred viewer c.self.inside.table first olds k l v.ok cell some c.loop-place.changes.notes) ∙ v.noted));
+      counted = omega (arith, v.counted, e, more);
+      asked = v.asked;
+      within = within;
+      few = omega (arith, v.few, found.reached);
+      room = omega (arith, v.room, c.write_at.ensures.room, found.reached);
+      notes_room = omega (arith, v.notes_room, c.note.ensures.room, found.reached);
       notes_width = c.note.ensures.width ∙ v.notes_width;
     }
 
@@ -220,7 +309,7 @@ returns-clause-done c =
     let news = c.loop-place.self-inside.positions.places in
     let first : ℕ = c.self.inside.first in
     let v = c.loop-place.invariant in
-    let end : length olds ≤ c.loop-place.place = omega (arith, c.loop-place-test.false, c.len-place-end.ensures) in
+    let end : length olds ≤ c.loop-place.place = omega (arith, c.loop-place-test.false, c.len-end.ensures) in
     let ok : refusal_in (swept sets pred viewer first olds) ≡ None =
     ap (λ (w : Whole). refusal_in (swept sets pred viewer w.shown.first w.shown.places)) c.self.view_is ∙ c.requires.ok in
     subst (λ (w : Whole). IsDone viewer c.args.label w.shown.table w.shown.first (swept sets pred viewer w.shown.first w.shown.places) w.shown.places

@@ -1,4 +1,4 @@
-use Rattle.std.proofs.Common.{◌≡◌, ℕ, ◌+◌, ◌<◌, ◌≤◌, length, drop, None}
+use Rattle.std.proofs.Common.{◌≡◌, ℕ, ◌+◌, ◌-◌, ◌<◌, ◌≤◌, length, drop, None}
 use Rattle.hy_undo.specs.Sweeps.{swept}
 use Rattle.hy_chunk.specs.Fields.{nth}
 use Rattle.hy_chunk.specs.Writes.{sets_of, refusal_in, judged_at, WrittenAs}
@@ -29,8 +29,13 @@ invariant-loop-place l = record {
   counted : l.written + counted_of
       (swept (sets_of l.kind) l.pred l.viewer (l.initial.self-inside.first + l.place) (drop l.place l.initial.self-inside.positions.places))
       ≡ counted_of (swept (sets_of l.kind) l.pred l.viewer l.initial.self-inside.first l.initial.self-inside.positions.places);
+  asked : l.asked ≡ l.initial.asked;
+  within : l.place ≤ length l.initial.self-inside.positions.places;
   few : l.written ≤ l.place;
   room : l.initial.self-inside.positions.room ≤ l.self-inside.positions.room + l.place;
   notes_room : l.initial.changes.room ≤ l.changes.room + l.place;
   notes_width : l.changes.width ≡ l.initial.changes.width;
 }
+
+abbrev pub decreases-loop-place : goal.decreases-loop-place
+decreases-loop-place l = l.end - l.place

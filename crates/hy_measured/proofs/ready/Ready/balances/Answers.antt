@@ -1,4 +1,4 @@
-use Rattle.std.proofs.Common.{List, sym, ap, ◌∙◌, subst}
+use Rattle.std.proofs.Common.{List, sym, ◌∙◌, subst}
 use Rattle.hy_value.specs.declared.Kind.{Kind}
 use Rattle.hy_chunk.specs.Sound.{FitsRow}
 use Rattle.hy_measured.proofs.Fits.{second_column}

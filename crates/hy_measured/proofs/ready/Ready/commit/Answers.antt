@@ -1,4 +1,4 @@
-use Rattle.std.proofs.Common.{ℕ, ap, sym, subst, ◌∙◌, ◌+◌}
+use Rattle.std.proofs.Common.{ℕ, sym, subst, ◌∙◌}
 use Rattle.hy_measured.proofs.Wholes.{after_stamp}
 use Rattle.hy_measured.specs.Ready.{IsReady}
 use Rattle.hy_measured.proofs.ready.Ready.commit.Goals as goal

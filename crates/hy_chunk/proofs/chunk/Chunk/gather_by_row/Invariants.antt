@@ -1,7 +1,7 @@
-use Rattle.std.proofs.Common.{◌≡◌, ◌++◌, length, take}
+use Rattle.std.proofs.Common.{◌≡◌, ◌≤◌, ◌-◌, ◌++◌, length, take, drop}
 use Rattle.hy_undo.specs.Chunks.{rows_seen}
 use Rattle.hy_chunk.specs.Gathering.{gathered_by, conditions_of}
-use Rattle.hy_chunk.proofs.chunk.Chunk.gather_of_all.Given as goal
+use Rattle.hy_chunk.proofs.chunk.Chunk.gather_by_row.Given as goal
 
 abbrev pub invariant-loop-place : goal.invariant-loop-place
 invariant-loop-place l = record {
@@ -11,7 +11,9 @@ invariant-loop-place l = record {
   positions : l.self-inside.positions ≡ l.initial.self-inside.positions;
   next : length l.self-inside.next.row ≡ length l.initial.self-inside.positions.kinds;
   wide : length l.self-inside.seen.row ≡ length l.initial.self-inside.positions.kinds;
+  least : l.fn.part.first ≤ l.place;
+  most : l.place ≤ l.fn.part.end;
   rows : l.gathered.rows ≡ l.initial.gathered.rows ++ gathered_by l.wanted.columns (conditions_of l.wanted.pred.now l.wanted.keys)
-      (rows_seen l.viewer (take l.place l.initial.self-inside.positions.places));
+      (rows_seen l.viewer (take (l.place - l.fn.part.first) (drop l.fn.part.first l.initial.self-inside.positions.places)));
   width : l.gathered.width ≡ l.initial.gathered.width;
 }

@@ -1,15 +1,14 @@
-use Rattle.std.proofs.Common.{◌≡◌, ◌++◌, List, [], length, ap, ◌∙◌, arith, subst}
+use Rattle.std.proofs.Common.{◌≡◌, ◌<◌, ◌++◌, List, [], length, ap, ◌∙◌, arith, subst}
 use Rattle.hy_value.specs.declared.Value.{Value}
 use Rattle.hy_undo.specs.declared.version.Version.{Version}
 use Rattle.hy_undo.specs.Places.{Cell, cell_of, sees}
 use Rattle.hy_chunk.specs.Fields.{nth}
 use Rattle.hy_chunk.specs.Gathering.{kept_by, conditions_of}
-use Rattle.hy_chunk.specs.Views.{Held}
+use Rattle.hy_chunk.specs.Views.{Held, Whole}
 use Rattle.hy_chunk.proofs.Over.{fits_length}
-use Rattle.hy_chunk.proofs.Looks.{gathered_more}
-use Rattle.hy_chunk.proofs.Masking.{passed_more}
+use Rattle.hy_chunk.proofs.Placing.{part_more, part_passed}
 use Rattle.hy_chunk.proofs.Wholes.{still_whole}
-use Rattle.hy_chunk.proofs.chunk.Chunk.gather_of_all.Goals as goal
+use Rattle.hy_chunk.proofs.chunk.Chunk.gather_by_row.Goals as goal
 
 pub invariant_of-self-in_err-keep : goal.invariant_of-self-in_err-keep
 invariant_of-self-in_err-keep c =
@@ -29,6 +28,8 @@ loop-place-preserved c =
     let here : cell_of c.see.new.version ≡ sees c.args.viewer.now (nth old k) =
     ap (λ (v : Version). cell_of v) c.see.ensures.version ∙ ap (λ (h : Held). sees c.args.viewer.now (nth h.places k)) c.loop-place.invariant.positions in
     let v = c.loop-place.invariant in
+    let within : k < length c.self.inside.positions.places =
+    omega (arith, c.loop-place-test.true, c.requires.within, ap (λ (w : Whole). length w.shown.places) c.self.view_is) in
     let keeps : Cell → List (List Value) = kept_by c.args.wanted.now.columns (conditions_of c.args.wanted.now.pred.now c.args.wanted.now.keys) in
     record {
       table = v.table;
@@ -38,9 +39,11 @@ loop-place-preserved c =
       next = v.next;
       wide = fits_length c.loop-place.self-inside.positions.kinds c.see.new.version.row c.see.ensures.fits
           ∙ ap (λ (h : Held). length h.kinds) c.loop-place.invariant.positions;
+      least = omega (arith, v.least);
+      most = omega (arith, c.loop-place-test.true);
       rows = c.in_ok-keep.ensures.rows
           ∙ ((λ i. v.rows i ++ keeps (here i))
-          ∙ gathered_more keeps c.args.viewer.now old k c.args.gathered.now.rows (omega (arith, c.loop-place-test.true, c.len-place-end.ensures)));
+          ∙ part_more keeps c.args.viewer.now old c.args.part.first k c.args.gathered.now.rows v.least within);
       width = c.keep.ensures.width ∙ v.width;
     }
 
@@ -49,6 +52,8 @@ loop-place-preserved-then-is_passed c =
     let v = c.loop-place.invariant in
     let old = c.self.inside.positions.places in
     let keeps : Cell → List (List Value) = kept_by c.args.wanted.now.columns (conditions_of c.args.wanted.now.pred.now c.args.wanted.now.keys) in
+    let within : c.loop-place.place < length c.self.inside.positions.places =
+    omega (arith, c.loop-place-test.true, c.requires.within, ap (λ (w : Whole). length w.shown.places) c.self.view_is) in
     let none : keeps (sees c.args.viewer.now (nth old c.loop-place.place)) ≡ [] =
     subst (λ (h : Held). keeps (sees c.args.viewer.now (nth h.places c.loop-place.place)) ≡ []) v.positions (c.is_passed.ensures c.if-is_passed.true c.args.viewer.now) in
     record {
@@ -58,7 +63,9 @@ loop-place-preserved-then-is_passed c =
       positions = v.positions;
       next = v.next;
       wide = v.wide;
-      rows = passed_more keeps c.args.viewer.now old c.loop-place.place c.args.gathered.now.rows c.loop-place.gathered.rows
-          (omega (arith, c.loop-place-test.true, c.len-place-end.ensures)) none v.rows;
+      least = omega (arith, v.least);
+      most = omega (arith, c.loop-place-test.true);
+      rows = part_passed keeps c.args.viewer.now old c.args.part.first c.loop-place.place c.args.gathered.now.rows c.loop-place.gathered.rows v.least
+          within none v.rows;
       width = v.width;
     }

@@ -1,0 +1,12 @@
+use Rattle.std.proofs.Common.{◌≡◌, ◌+◌, length}
+use Rattle.hy_measured.specs.declared.ready.TheConstants.{OLD_START}
+use Rattle.hy_measured.specs.Ready.{AreUnused, IsReady}
+use Rattle.hy_measured.proofs.ready.load_rows.Given as goal
+
+-- the positions so far have their rows, and the others are unused
+abbrev pub invariant-loop-place : goal.invariant-loop-place
+invariant-loop-place l = record {
+  ready : IsReady l.rows (OLD_START + 1) l.chunk;
+  many : length l.chunk.shown.places ≡ length l.fn.chunk.shown.places;
+  unused : AreUnused l.place l.chunk.shown.places;
+}

@@ -3,7 +3,7 @@
 //! Multi-Version Concurrency Control for Main-Memory Database Systems", SIGMOD 2015).
 #![tactic(auto)]
 
-ghost use Rattle.std.specs.Prelude.{◌≡◌, ◌^◌, ◌+◌, ◌++◌, ◌∷◌, ◌<◌, ◌≤◌, [], None, Contains, IfOk, OnOk, OnErr, IfErr, length, drop};
+ghost use Rattle.std.specs.Prelude.{◌≡◌, ◌^◌, ◌+◌, ◌++◌, ◌∷◌, ◌<◌, ◌≤◌, [], None, Contains, IfOk, OnOk, OnErr, length, drop};
 ghost use Rattle.hy_journal.specs.Core.{blocked_by, core_begun, core_entered, core_left, core_closed};
 
 use hy_active::Active;
@@ -112,30 +112,35 @@ impl Core {
         }
     }
 
-    /// Enters a transaction of this start into the journal with what it noted, and marks it. Its commit time, which is
-    /// answered, is the clock's next time. Err is for want of memory: it gives the notes back, and leaves the core as
-    /// it was.
-    pub fn enter(&mut self, label: Label, start: u64, changes: Changes) -> Result<u64, Changes>
+    /// Enters a transaction of this start into the journal with what it noted, and marks it: none of the notes are left,
+    /// and there is never less room for others. Its commit time, which is answered, is the clock's next time. Err is for
+    /// want of memory, and leaves the core and the notes as they were.
+    pub fn enter(
+        &mut self,
+        label: Label,
+        start: u64,
+        changes: &mut Changes,
+    ) -> Result<u64, AllocError>
         requires { self.old.next < 2 ^ 63 }
         ensures time { IfOk result (λ time. time ≡ self.old.next) }
-        ensures ok { OnOk result (self.new ≡ core_entered self.old label start changes.notes) }
-        ensures err { IfErr result (λ given. given ≡ changes) }
+        ensures ok { OnOk result (self.new ≡ core_entered self.old label start changes.old.notes) }
+        ensures none { OnOk result (changes.new.notes ≡ []) }
         ensures kept { OnErr result (self.new ≡ self.old) }
+        ensures err { OnErr result (changes.new ≡ changes.old) }
+        ensures room { changes.old.room ≤ changes.new.room }
+        ensures width { changes.old.width ≤ changes.new.width }
     {
-        match self.journal.reserve(1) {
-            Ok(()) => {
-                let time = self.clock.draw();
-                self.journal.append_reserved(Entry {
-                    label,
-                    start,
-                    time,
-                    notes: changes.close(),
-                });
-                self.mark = Some(label);
-                Ok(time)
-            }
-            Err(_) => Err(changes),
-        }
+        self.journal.reserve(1)?;
+        let notes = changes.take_all()?;
+        let time = self.clock.draw();
+        self.journal.append_reserved(Entry {
+            label,
+            start,
+            time,
+            notes,
+        });
+        self.mark = Some(label);
+        Ok(time)
     }
 
     /// Ends the marked transaction, whose start this is: nobody is marked any more.

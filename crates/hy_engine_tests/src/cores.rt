@@ -26,12 +26,28 @@ fn a_row_that_comes_and_goes_is_no_change(rt: HostRuntime) -> Result<(), Fail> {
 }
 
 #[test]
+fn notes_that_are_taken_leave_their_room(rt: HostRuntime) -> Result<(), Fail> {
+    let alloc = rt.alloc();
+    let row = pair(alloc, 3, 1)?;
+    let mut changes = Changes::new(alloc);
+    changes.reserve(2, 2)?;
+    changes.note_reserved(0, 2, None, Some(&row));
+    let noted = changes.take_all()?;
+    assert_eq!(rt; (noted.len(), changes.len()), (1, 0));
+    changes.note_reserved(0, 5, None, Some(&row));
+    assert_eq!(rt; changes.len(), 1);
+    changes.clear();
+    assert_eq!(rt; changes.len(), 0);
+    Ok(())
+}
+
+#[test]
 fn a_commit_is_marked_until_its_end(rt: HostRuntime) -> Result<(), Fail> {
     let mut core = Core::new(rt.alloc());
     let begun = core.begin()?;
     assert_eq!(rt; (begun.start, begun.prefix, begun.cover.next), (1, 0, 2));
     assert_eq!(rt; begun.cover.starts.as_slice(), [1].as_slice());
-    let time = core.enter(WRITER, begun.start, Changes::new(rt.alloc()));
+    let time = core.enter(WRITER, begun.start, &mut Changes::new(rt.alloc()));
     assert_eq!(rt; time.ok(), Some(2));
     assert_eq!(rt;
         (core.blocked(OTHER), core.blocked(WRITER)),

@@ -197,16 +197,25 @@ impl Changes {
         self.notes.as_slice()
     }
 
-    /// The notes as a list, without taking memory.
-    pub fn close(self) -> ChangeList
-        ensures { result ≡ self.notes }
+    /// The notes as a list, which has no more room than they take: none are left. Err is for want of memory: the notes
+    /// stay. There is never less room.
+    pub fn take_all(&mut self) -> Result<ChangeList, AllocError>
+        ensures ok { IfOk result (λ list. list ≡ self.old.notes) }
+        ensures none { OnOk result (self.new.notes ≡ []) }
+        ensures err { OnErr result (self.new ≡ self.old) }
+        ensures kept { self.old.room ≤ self.new.room }
+        ensures wide { self.old.width ≤ self.new.width }
     {
-        let Changes {
-            notes,
-            spare: _,
-            width: _,
-        } = self;
-        Seq::from_vec(notes)
+        Ok(Seq::from_vec(self.notes.split_off(0)?))
+    }
+
+    /// Drops the notes. There is never less room.
+    pub fn clear(&mut self)
+        ensures none { self.new.notes ≡ [] }
+        ensures kept { self.old.room ≤ self.new.room }
+        ensures wide { self.old.width ≤ self.new.width }
+    {
+        self.notes.clear();
     }
 
     /// Every noted position, by table and then position. Err is for want of memory.

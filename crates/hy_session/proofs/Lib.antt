@@ -17,3 +17,6 @@ mod Results
 mod Dispatch
 mod Leaving
 mod Changed
+mod Told
+pub mod Placed
+pub mod Summed

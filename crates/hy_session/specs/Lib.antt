@@ -5,6 +5,7 @@ pub mod Short
 pub mod Works
 pub mod Pieces
 pub mod Parts
+pub mod Sums
 pub mod Readers
 pub mod Reading
 pub mod Visitors

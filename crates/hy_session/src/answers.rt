@@ -57,7 +57,7 @@ pub fn reserve_answer(
 }
 
 /// Adds records, for which there is room.
-fn push_records(log: &mut ReadLog, records: Records)
+pub fn push_records(log: &mut ReadLog, records: Records)
     requires { length records ≤ log.old.room }
     ensures { log.new.entries ≡ log.old.entries ++ records }
 {

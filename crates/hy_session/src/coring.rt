@@ -1,6 +1,6 @@
 //! A visit of the core: BEGIN, COMMIT, and the ends of transactions.
 
-ghost use Rattle.std.specs.Prelude.{◌≡◌, ◌^◌, ◌<◌, IfOk, OnOk, OnErr, length};
+ghost use Rattle.std.specs.Prelude.{◌≡◌, ◌^◌, ◌<◌, [], IfOk, OnOk, OnErr, length};
 ghost use Rattle.hy_event.specs.declared.Need.{Need};
 ghost use Rattle.hy_event.specs.Needs.{need_of};
 ghost use Rattle.hy_event.specs.Coring.{CoreEvent, beginning};
@@ -23,12 +23,14 @@ use hy_value::Seq;
 use std::alloc::{AllocError, Global};
 use std::mem;
 
-/// A transaction begins at the core. Err is for want of memory, and changes nothing.
-fn begun(alloc: Global, core: &mut Core) -> Result<Running, AllocError>
-    requires { core.old.next < 2 ^ 63 }
+/// A transaction begins at the core, with room for notes that was spare. Err is for want of memory, and changes nothing.
+fn begun(alloc: Global, core: &mut Core, spare: &mut Changes) -> Result<Running, AllocError>
+    requires clock { core.old.next < 2 ^ 63 }
+    requires none_noted { spare.old.notes ≡ [] }
     ensures now { IfOk result (λ now. now ≡ beginning core.old) }
     ensures ok { OnOk result (core.new ≡ core_begun core.old) }
     ensures err { OnErr result (core.new ≡ core.old) }
+    ensures none_left { spare.new.notes ≡ [] }
 {
     let prefix = number(core.since(0).len())?;
     let begun = core.begin()?;
@@ -40,7 +42,7 @@ fn begun(alloc: Global, core: &mut Core) -> Result<Running, AllocError>
         records: ReadLog::new(alloc),
         took: Vec::new(alloc),
         gathered: Vec::new(alloc),
-        notes: Changes::new(alloc),
+        notes: mem::replace(spare, Changes::new(alloc)),
         wrote: Seq::new(alloc),
         phase: Phase::Working {
             visited: 0,
@@ -58,7 +60,7 @@ impl Session {
         ensures err { OnErr result (self.new ≡ self.old) }
         ensures core_err { OnErr result (core.new ≡ core.old) }
     {
-        self.now = Some(begun(alloc, core)?);
+        self.now = Some(begun(alloc, core, &mut self.spare)?);
         Ok(Progress::Answered)
     }
 
@@ -76,18 +78,10 @@ impl Session {
             return Ok(Progress::Moved);
         };
         let wrote = written_places(alloc, now)?;
-        let notes = mem::replace(&mut now.notes, Changes::new(alloc));
-        match core.enter(label, now.start, notes) {
-            Ok(time) => {
-                now.wrote = wrote;
-                now.phase = Phase::Stamping { visited: 0, time };
-                Ok(Progress::Moved)
-            }
-            Err(notes) => {
-                now.notes = notes;
-                Err(AllocError)
-            }
-        }
+        let time = core.enter(label, now.start, &mut now.notes)?;
+        now.wrote = wrote;
+        now.phase = Phase::Stamping { visited: 0, time };
+        Ok(Progress::Moved)
     }
 
     /// Its open transaction is refused, and will be undone.

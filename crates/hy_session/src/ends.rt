@@ -116,7 +116,8 @@ impl Session {
         })
     }
 
-    /// Its open transaction ends, if there is one: this was its start. Err is for want of memory, and changes nothing.
+    /// Its open transaction ends, if there is one: this was its start. The room of its notes is spare from then on. Err
+    /// is for want of memory, and changes nothing.
     pub(crate) fn end(&mut self, alloc: Global, ending: Ending) -> Result<Option<u64>, AllocError>
         requires { length self.old.done < length self.old.program }
         ensures start { IfOk result (λ start. start ≡ option_map (λ (now : Open). now.start) self.old.now) }
@@ -130,9 +131,16 @@ impl Session {
         self.done.reserve(1)?;
         match self.now.take() {
             Some(now) => {
-                let Running { start, replies, .. } = now;
+                let Running {
+                    start,
+                    replies,
+                    mut notes,
+                    ..
+                } = now;
                 outcome.replies = Seq::from_vec(replies);
                 self.done.push_reserved(outcome);
+                notes.clear();
+                self.spare = notes;
                 Ok(Some(start))
             }
             None => Ok(None),

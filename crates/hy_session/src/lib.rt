@@ -19,6 +19,7 @@ mod reader;
 mod reading;
 mod seeking;
 mod stamping;
+mod sums;
 mod visitors;
 mod visits;
 mod works;
@@ -82,6 +83,8 @@ pub struct Session {
     prunes: bool,
     done: Vec<TxnOutcome>,
     now: Option<Running>,
+    /// No notes: the room of those of the last transaction, for the next one.
+    spare: Changes,
 }
 
 impl Model for Session {
@@ -105,7 +108,7 @@ impl Model for Session {
       now = a.now;
     } };
 
-    ghost invariant = { λ a. IsLimited a.chunks a.shapes a.program (length a.done.items) };
+    ghost invariant = { λ a. IsLimited a.chunks a.shapes a.program (length a.done.items) a.spare.notes };
 }
 
 /// How the tables of a script lie in chunks.
@@ -150,6 +153,7 @@ impl Session {
             prunes,
             done: Vec::new(alloc),
             now: None,
+            spare: Changes::new(alloc),
         }
     }
 

@@ -1,8 +1,11 @@
 //! Rows gathered of a table, piece by piece.
 
-ghost use Rattle.std.specs.Prelude.{◌≡◌, ◌<◌, ◌++◌, [], OnOk, OnErr, length, slice_index_or};
+ghost use Rattle.std.specs.Prelude.{◌≡◌, ◌<◌, ◌≤◌, ◌*◌, ◌^◌, ◌++◌, [], IfOk, OnOk, OnErr, length, slice_index_or};
+ghost use Rattle.std.specs.Int.RustNames.{unsigned_abs};
 ghost use Rattle.hy_bound.specs.Projection.{spread};
+ghost use Rattle.hy_session.specs.Sums.{sum_by};
 
+use crate::sums::Summand;
 use hy_plan::Gathered;
 use hy_value::{ColMask, Row};
 use std::alloc::{AllocError, Global};
@@ -56,6 +59,19 @@ impl Pieces {
         self.pieces.push(piece)?;
         self.len = len;
         Ok(())
+    }
+
+    /// The sum of a column over the rows. Err is for want of memory.
+    pub fn sum(&self, alloc: Global, summand: Summand) -> Result<i128, AllocError>
+        ensures value { IfOk result (λ sum. sum ≡ sum_by summand self.now) }
+        ensures small { IfOk result (λ sum. unsigned_abs sum ≤ 2 ^ 63 * length self.now) }
+    {
+        let _rows = self.len;
+        let mut sum = 0i128;
+        for piece in &self.pieces {
+            sum += summand.sum(alloc, piece)?;
+        }
+        Ok(sum)
     }
 
     /// Puts a row behind other values, as a row of so many columns: those of a set have its values in their order, the

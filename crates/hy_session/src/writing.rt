@@ -158,8 +158,11 @@ fn write_last(
             Ok(Progress::Answered)
         }
         Err(refusal) => {
-            let cause = ending(write.table, refusal);
-            now.phase = Phase::Undoing { visited: 0, cause };
+            let refused = ending(write.table, refusal);
+            now.phase = Phase::Undoing {
+                visited: 0,
+                cause: refused,
+            };
             Ok(Progress::Moved)
         }
     }

@@ -51,6 +51,6 @@ returns-in-Err-clause-event c = λ session is opened.
     (c.in_ok-rows.ensures.done session now is (has_noted _ now c.now.view_is)) in
     refuses session now _ c.args.visitor.now write.present.visited write.present.statement.now write.table old new is opened
     write.present.count (sets_of write.kind.now) write.pred.now notes c.in-Err.refusal did
-    (reserved_so _ now notes c.reserve_answer.new.replies.items c.reserve_answer.new.took.items c.reserve_answer.new.log.entries (Undoing 0 c.ending-cause.result)
+    (reserved_so _ now notes c.reserve_answer.new.replies.items c.reserve_answer.new.took.items c.reserve_answer.new.log.entries (Undoing 0 c.ending-refused.result)
     c.now.view_is c.reserve_answer.ensures.replies c.reserve_answer.ensures.took c.reserve_answer.ensures.log
-    ∙ ap (λ (e : Ending). moved_to now notes (Undoing 0 e)) c.ending-cause.ensures)
+    ∙ ap (λ (e : Ending). moved_to now notes (Undoing 0 e)) c.ending-refused.ensures)

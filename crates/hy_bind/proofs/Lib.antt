@@ -1,3 +1,4 @@
+pub mod Few
 pub mod Ordinals
 pub mod Firsts
 pub mod Fitting

@@ -96,9 +96,13 @@ pub fn numbers(
 }
 
 /// Whether a name comes twice among those in these spans.
+#[tactic(auto, using(crate::proofs::Few::few))]
 pub fn repeats(alloc: Global, script: &[u8], spans: &[Span]) -> Result<bool, AllocError>
     ensures { IfOk result (λ again. again ≡ repeats (map (text_of_span script.now) spans.now)) }
 {
+    if spans.len() < 2 {
+        return Ok(false);
+    }
     let mut names = Names::new(alloc);
     for span in spans {
         let name = text_in(script, *span);

@@ -14,7 +14,7 @@ ghost use Rattle.hy_undo.specs.Places.{cell_of, in_place, sees};
 ghost use Rattle.hy_undo.specs.Chunks.{rows_seen, Placed, Everywhere, AtOwn, StampedPlace, Undone, Pruned};
 ghost use Rattle.hy_chunk.specs.Fields.{blank_place, nth};
 ghost use Rattle.hy_plan.specs.Reads.{by_key_of};
-ghost use Rattle.hy_chunk.specs.Gathering.{AreEnough, conditions_of, gathered_by, gathered_of, kept_by};
+ghost use Rattle.hy_chunk.specs.Gathering.{AreEnough, Begins, conditions_of, gathered_by, gathered_of, kept_by};
 ghost use Rattle.hy_chunk.specs.Keyed.{is_key_of};
 ghost use Rattle.hy_chunk.specs.Masked.{Admits, Confirms};
 ghost use Rattle.hy_chunk.specs.Parts.{part_of};
@@ -77,6 +77,18 @@ impl Model for Chunk {
     } };
 
     ghost invariant = { λ a. IsWhole a.first (length a.positions.places) (length a.positions.kinds) (length a.seen.row) (length a.next.row) };
+}
+
+/// An UPDATE or a DELETE of a viewer, and where its sweep begins.
+#[derive(Clone, Copy)]
+struct Sweep<'a> {
+    viewer: &'a Viewer,
+    pred: &'a Pred,
+    kind: &'a WriteKind,
+    /// The value that the condition asks of the key, where it asks one.
+    asked: &'a Option<Value>,
+    /// The first position whose row may have that key.
+    first: usize,
 }
 
 /// A version of so many NULLs. Err is for want of memory.
@@ -415,7 +427,7 @@ impl Chunk {
             return Ok(Some(self.positions.find_each(alloc, key, values)?));
         }
         match value_asked(wanted.pred, key) {
-            Some(value) => Ok(Some(self.positions.find_each(alloc, key, &[value])?)),
+            Some(value) => Ok(Some(self.positions.find_each(alloc, key, &[value.to_value()])?)),
             None => Ok(None),
         }
     }
@@ -545,60 +557,56 @@ impl Chunk {
     }
 
     /// Why a write is refused, if it is: the first refusal, position by position.
-    fn refusal(&mut self, viewer: &Viewer, pred: &Pred, kind: &WriteKind) -> Option<Refusal>
-        ensures refusal { result ≡ refusal_in (swept (sets_of kind.now) pred.now viewer.now self.old.shown.first self.old.shown.places) }
+    fn refusal(&mut self, sweep: &Sweep) -> Option<Refusal>
+        requires begins { Begins sweep.now.pred.now self.old.shown.key sweep.now.asked.now self.old.shown.places sweep.now.first }
+        ensures refusal { result ≡ refusal_in
+            (swept (sets_of sweep.now.kind.now) sweep.now.pred.now sweep.now.viewer.now self.old.shown.first self.old.shown.places) }
         ensures all { self.new ≡ self.old }
     {
-        let asked = key_asked(pred, self.positions.key());
         let end = self.positions.len();
-        let mut place = self.positions.next_wanted(&asked, 0);
+        let mut place = sweep.first;
         while place < end {
-            self.positions.see(place, viewer, &mut self.seen);
-            let rival = self.positions.rival(place, viewer);
+            self.positions.see(place, sweep.viewer, &mut self.seen);
+            let rival = self.positions.rival(place, sweep.viewer);
             let pos = self.first + place as u32;
-            if let Some(refusal) = refusal_at(&self.seen, pred, kind, rival, pos) {
+            if let Some(refusal) = refusal_at(&self.seen, sweep.pred, sweep.kind, rival, pos) {
                 return Some(refusal);
             }
-            place = self.positions.next_wanted(&asked, place + 1);
+            place = self.positions.next_wanted(sweep.asked, place + 1);
         }
         None
     }
 
     /// Writes and notes each position that is selected, and answers how many they are.
-    fn write_all(
-        &mut self,
-        viewer: &Viewer,
-        label: Label,
-        pred: &Pred,
-        kind: &WriteKind,
-        changes: &mut Changes,
-    ) -> u32
-        requires ok { refusal_in (swept (sets_of kind.now) pred.now viewer.now self.old.shown.first self.old.shown.places) ≡ None }
+    fn write_all(&mut self, sweep: &Sweep, label: Label, changes: &mut Changes) -> u32
+        requires begins { Begins sweep.now.pred.now self.old.shown.key sweep.now.asked.now self.old.shown.places sweep.now.first }
+        requires ok { refusal_in
+            (swept (sets_of sweep.now.kind.now) sweep.now.pred.now sweep.now.viewer.now self.old.shown.first self.old.shown.places) ≡ None }
         requires room { length self.old.shown.places ≤ self.old.room }
         requires notes { length self.old.shown.places ≤ changes.old.room }
         requires wide { length self.old.kinds ≤ changes.old.width }
-        requires fits { FitsWrite self.old.kinds self.old.shown.key kind.now }
+        requires fits { FitsWrite self.old.kinds self.old.shown.key sweep.now.kind.now }
         ensures all { self.new ≡ with_places self.old self.new.shown.places self.new.room }
-        ensures done { IsDone viewer.now label self.old.shown.table self.old.shown.first
-            (swept (sets_of kind.now) pred.now viewer.now self.old.shown.first self.old.shown.places)
+        ensures done { IsDone sweep.now.viewer.now label self.old.shown.table self.old.shown.first
+            (swept (sets_of sweep.now.kind.now) sweep.now.pred.now sweep.now.viewer.now self.old.shown.first self.old.shown.places)
             self.old.shown.places self.new.shown.places changes.old.notes changes.new.notes result }
         ensures room { self.old.room ≤ self.new.room + length self.old.shown.places }
         ensures notes_room { changes.old.room ≤ changes.new.room + length self.old.shown.places }
         ensures notes_width { changes.new.width ≡ changes.old.width }
     {
-        let asked = key_asked(pred, self.positions.key());
         let end = self.positions.len();
         let mut written = 0;
-        let mut place = self.positions.next_wanted(&asked, 0);
+        let mut place = sweep.first;
         while place < end {
             let here = place;
-            place = self.positions.next_wanted(&asked, here + 1);
-            self.positions.see(here, viewer, &mut self.seen);
-            if !is_selected(&self.seen, pred) {
+            place = self.positions.next_wanted(sweep.asked, here + 1);
+            self.positions.see(here, sweep.viewer, &mut self.seen);
+            if !is_selected(&self.seen, sweep.pred) {
                 continue;
             }
-            make_next(kind, &self.seen.row, &mut self.next);
-            self.positions.write_at(here, viewer, label, &self.next);
+            make_next(sweep.kind, &self.seen.row, &mut self.next);
+            self.positions
+                .write_at(here, sweep.viewer, label, &self.next);
             let pos = self.first + here as u32;
             note(changes, self.table, pos, &self.seen.row, &self.next);
             written += 1;
@@ -632,9 +640,17 @@ impl Chunk {
         ensures notes_room { changes.old.room ≤ changes.new.room + length self.old.shown.places }
         ensures notes_width { changes.new.width ≡ changes.old.width }
     {
-        match self.refusal(viewer, pred, kind) {
+        let asked = key_asked(pred, self.positions.key());
+        let sweep = Sweep {
+            viewer,
+            pred,
+            kind,
+            asked: &asked,
+            first: self.positions.next_wanted(&asked, 0),
+        };
+        match self.refusal(&sweep) {
             Some(refusal) => Err(refusal),
-            None => Ok(self.write_all(viewer, label, pred, kind, changes)),
+            None => Ok(self.write_all(&sweep, label, changes)),
         }
     }
 }

@@ -11,13 +11,14 @@ ghost use Rattle.hy_bound.specs.Projection.{projected};
 ghost use Rattle.hy_plan.specs.Reads.{by_key_of, is_read_of, key_is_value, most_keys};
 ghost use Rattle.hy_undo.specs.Places.{cell_of};
 ghost use Rattle.hy_value.specs.Columns.{has_column};
+ghost use Rattle.hy_value.specs.Refs.{referred};
 ghost use Rattle.hy_value.specs.declared.Value.{Value};
 ghost use Rattle.hy_chunk.specs.Gathering.{Asks, AsksKey, AsksOneOf, GathersOne, GathersRead, conditions_of, kept_by};
 
-use hy_bound::{Pred, Root, SideView, column_value, compare, project_row, truth};
+use hy_bound::{Pred, Root, SideView, cell, compare, project_row, truth};
 use hy_plan::Gathered;
 use hy_undo::Version;
-use hy_value::{Cmp, ColMask, Row, Value};
+use hy_value::{Cmp, ColMask, Row, Value, ValueRef};
 use std::alloc::{AllocError, Global};
 
 /// How many values of a key are looked up one by one, as they are recorded for validation.
@@ -48,8 +49,10 @@ pub struct Wanted<'a> {
 pub fn has_in(row: &Row, column: u32, value: &Value) -> bool
     ensures { result ≡ truth_of (key_is_value column value.now) row.now }
 {
-    let held = column_value(row, column);
-    matches!(compare(Cmp::Eq, &held, value), Some(true))
+    match cell(row, column) {
+        Some(held) => matches!(compare(Cmp::Eq, held, value), Some(true)),
+        None => false,
+    }
 }
 
 /// Whether a row has one of these values in a column.
@@ -98,19 +101,19 @@ pub fn keys_of<'a>(wanted: &Wanted<'a>, column: u32) -> Option<&'a [Value]>
 }
 
 /// The value of a side of a comparison, where it is one other than NULL.
-fn literal_of(side: SideView) -> Option<Value>
-    ensures { IfSome result (λ value. viewed_side side.entry ≡ Side.Literal value) }
+fn literal_of(side: SideView<'_>) -> Option<ValueRef<'_>>
+    ensures { IfSome result (λ value. viewed_side side.entry ≡ Side.Literal (referred value)) }
 {
     match side {
-        SideView::Int(number) => Some(Value::Int(number)),
-        SideView::Text(text) => Some(Value::Text(text.copy())),
+        SideView::Int(number) => Some(ValueRef::Int(number)),
+        SideView::Text(text) => Some(ValueRef::Text(text)),
         _ => None,
     }
 }
 
 /// The value that a condition asks of a column by `=`, if it is such a comparison.
-fn value_compared(pred: &Pred, column: u32) -> Option<Value>
-    ensures { IfSome result (λ value. Asks pred.now column value) }
+fn value_compared(pred: &Pred, column: u32) -> Option<ValueRef<'_>>
+    ensures { IfSome result (λ value. Asks pred.now column (referred value)) }
 {
     match pred.root() {
         Root::Compare {
@@ -123,8 +126,8 @@ fn value_compared(pred: &Pred, column: u32) -> Option<Value>
 }
 
 /// The value that a condition asks of a column by `=`: it is such a comparison, or AND joins one in it.
-pub fn value_asked(pred: &Pred, column: u32) -> Option<Value>
-    ensures { IfSome result (λ value. Asks pred.now column value) }
+pub fn value_asked(pred: &Pred, column: u32) -> Option<ValueRef<'_>>
+    ensures { IfSome result (λ value. Asks pred.now column (referred value)) }
 {
     let Root::And(left, right) = pred.root() else {
         return value_compared(pred, column);
@@ -139,10 +142,8 @@ pub fn value_asked(pred: &Pred, column: u32) -> Option<Value>
 pub fn key_asked(pred: &Pred, key: Option<u32>) -> Option<Value>
     ensures { AsksKey pred.now key result }
 {
-    match key {
-        Some(column) => value_asked(pred, column),
-        None => None,
-    }
+    let value = value_asked(pred, key?)?;
+    Some(value.to_value())
 }
 
 /// Whether a set has the column of this number.

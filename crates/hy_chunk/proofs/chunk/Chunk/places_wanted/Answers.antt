@@ -1,4 +1,5 @@
-use Rattle.std.proofs.Common.{List, [], ◌∷◌, ap, subst}
+use Rattle.std.proofs.Common.{List, [], ◌∷◌, sym, ap, subst}
+use Rattle.hy_value.specs.declared.Value.{Value}
 use Rattle.hy_undo.specs.Places.{Place}
 use Rattle.hy_chunk.specs.Gathering.{AreEnough, Asks, conditions_of}
 use Rattle.hy_chunk.specs.Views.{Whole}
@@ -26,11 +27,12 @@ returns-in_ok-find_each-in-Some-value_asked c =
     let places = c.self.inside.positions.places in
     let found = c.in_ok-find_each-in-Some-value_asked.field-0.items in
     let told = c.in_ok-find_each-in-Some-value_asked.ensures in
-    let asks : Asks pred c.in-Some.key c.in-Some-value_asked.value =
-    c.in-Some-value_asked.ensures in
+    let value = c.to_value.result in
+    let asks : Asks pred c.in-Some.key value =
+    subst (λ (v : Value). Asks pred c.in-Some.key v) (sym c.to_value.ensures) c.in-Some-value_asked.ensures in
     subst (λ (ps : List Place). AreEnough columns conditions ps found) (ap (λ (w : Whole). w.shown.places) c.self.view_is) (record {
       ascends = told.ascends;
       within = told.within;
-      all = nothing_kept columns conditions c.in-Some.key (c.in-Some-value_asked.value ∷ []) places found
-          (asked_one pred c.args.wanted.now.keys c.in-Some.key c.in-Some-value_asked.value asks) told.all;
+      all = nothing_kept columns conditions c.in-Some.key (value ∷ []) places found
+          (asked_one pred c.args.wanted.now.keys c.in-Some.key value asks) told.all;
     })

@@ -12,10 +12,10 @@ invariant-loop-place l = record {
   positions : l.self-inside.positions ≡ l.initial.self-inside.positions;
   next : length l.self-inside.next.row ≡ length l.initial.self-inside.positions.kinds;
   wide : length l.self-inside.seen.row ≡ length l.initial.self-inside.positions.kinds;
-  asked : l.asked ≡ l.initial.asked;
   within : l.place ≤ length l.initial.self-inside.positions.places;
-  rest : refusal_in (swept (sets_of l.kind) l.pred l.viewer (l.initial.self-inside.first + l.place) (drop l.place l.initial.self-inside.positions.places))
-      ≡ refusal_in (swept (sets_of l.kind) l.pred l.viewer l.initial.self-inside.first l.initial.self-inside.positions.places);
+  rest : refusal_in (swept (sets_of l.sweep.kind.now) l.sweep.pred.now l.sweep.viewer.now (l.initial.self-inside.first + l.place)
+      (drop l.place l.initial.self-inside.positions.places))
+      ≡ refusal_in (swept (sets_of l.sweep.kind.now) l.sweep.pred.now l.sweep.viewer.now l.initial.self-inside.first l.initial.self-inside.positions.places);
 }
 
 abbrev pub decreases-loop-place : goal.decreases-loop-place

@@ -1,7 +1,6 @@
 use Rattle.std.proofs.Common.{◌≡◌, ℕ, ◌+◌, ◌<◌, ◌≤◌, Bool, true, false, List, [], length, drop, Option, None, Some, Ok, refl, sym, ap, ◌∙◌, cond, subst, arith}
 use Rattle.std.proofs.Math.ListN.{set}
 use Rattle.std.proofs.lemmas.List.{length-set, get_or-set_other}
-use Rattle.hy_value.specs.declared.Value.{Value}
 use Rattle.hy_value.specs.declared.Kind.{Kind}
 use Rattle.hy_chain.specs.Chains.{seen}
 use Rattle.hy_change.specs.declared.Change.{Change}
@@ -12,7 +11,7 @@ use Rattle.hy_undo.specs.Images.{before}
 use Rattle.hy_undo.specs.Places.{Place, Cell, cell_of, sees}
 use Rattle.hy_undo.specs.Sweeps.{swept}
 use Rattle.hy_chunk.specs.Fields.{nth, blank_with}
-use Rattle.hy_chunk.specs.Gathering.{AsksKey}
+use Rattle.hy_chunk.specs.Gathering.{Begins}
 use Rattle.hy_chunk.specs.Keyed.{PassesOver, SameKey}
 use Rattle.hy_chunk.specs.Views.{Whole}
 use Rattle.hy_chunk.specs.Writes.{FitsWrite, sets_of, refusal_in, judged_at, WrittenAs, IsDone}
@@ -24,9 +23,9 @@ use Rattle.hy_chunk.proofs.chunk.Chunk.write_all.Goals as goal
 
 pub loop-place-preserved-then-not-is_selected : goal.loop-place-preserved-then-not-is_selected
 loop-place-preserved-then-not-is_selected c =
-    let sets = sets_of c.args.kind.now in
-    let pred = c.args.pred.now in
-    let viewer = c.args.viewer.now in
+    let sets = sets_of c.args.sweep.now.kind.now in
+    let pred = c.args.sweep.now.pred.now in
+    let viewer = c.args.sweep.now.viewer.now in
     let olds = c.self.inside.positions.places in
     let k = c.loop-place.place in
     let first : ℕ = c.self.inside.first in
@@ -39,17 +38,17 @@ loop-place-preserved-then-not-is_selected c =
     let no : truth_at pred (cell_of version) ≡ false = sym c.is_selected.ensures ∙ c.if-not-is_selected.true in
     let none : judged_at sets pred viewer (first + k) p ≡ Ok None = unselected sets pred viewer (first + k) p version is no in
     let key = c.self.inside.positions.key in
-    let asked = c.key_asked-asked.result in
-    let asks : AsksKey pred key asked = subst (λ (which : Option ℕ). AsksKey pred which asked) c.key.ensures c.key_asked-asked.ensures in
-    let found = c.next_wanted-place-in-loop-place.ensures in
-    let next = c.next_wanted-place-in-loop-place.result in
+    let asked = c.args.sweep.now.asked.now in
+    let begins : Begins pred key asked olds c.args.sweep.now.first =
+    subst (λ (w : Whole). Begins pred w.shown.key asked w.shown.places c.args.sweep.now.first) (sym c.self.view_is) c.requires.begins in
+    let found = c.next_wanted-place.ensures in
+    let next = c.next_wanted-place.result in
     let before_write = c.loop-place.self-inside.positions in
     let over : PassesOver key asked before_write.places (k + 1) next =
-    subst (λ (which : Option ℕ). PassesOver which asked before_write.places (k + 1) next) v.key
-    (subst (λ (what : Option Value). PassesOver before_write.key what before_write.places (k + 1) next) v.asked found.passed) in
+    subst (λ (which : Option ℕ). PassesOver which asked before_write.places (k + 1) next) v.key found.passed in
     let within : next ≤ length olds = omega (arith, found.within, v.size) in
     let skips : (j : ℕ) → k + 1 ≤ j → j < next → judged_at sets pred viewer (first + j) (nth olds j) ≡ Ok None =
-    λ j m n. passed sets pred viewer (first + j) key asked olds before_write.places (k + 1) next j asks over m n (v.rest j (omega (arith, m))) in
+    λ j m n. passed sets pred viewer (first + j) key asked olds before_write.places (k + 1) next j begins.asks over m n (v.rest j (omega (arith, m))) in
     let left : refusal_in (swept sets pred viewer (first + (k + 1)) (drop (k + 1) olds)) ≡ None =
     left_ok sets pred viewer c.self.inside.table first olds k l v.ok in
     let more = counted_past sets pred viewer first olds (k + 1) next found.reached within skips c.self.inside.table left in
@@ -73,7 +72,6 @@ loop-place-preserved-then-not-is_selected c =
       noted = noted_past sets pred viewer first olds (k + 1) next found.reached within skips c.self.inside.table left c.loop-place.changes.notes
           ∙ (sym (unnoted sets pred viewer c.self.inside.table first olds k l v.ok none c.loop-place.changes.notes) ∙ v.noted);
       counted = omega (arith, v.counted, e, more);
-      asked = v.asked;
       within = within;
       few = omega (arith, v.few, found.reached);
       room = omega (arith, v.room, found.reached);
@@ -89,15 +87,15 @@ make_next-requires-clause-width c =
 
 pub make_next-requires-clause-within : goal.make_next-requires-clause-within
 make_next-requires-clause-within c =
-    let v = c.loop-place.invariant in sets_within c.args.self.now.kinds c.args.self.now.shown.key c.args.kind.now (length c.see.new.version.row)
+    let v = c.loop-place.invariant in sets_within c.args.self.now.kinds c.args.self.now.shown.key c.args.sweep.now.kind.now (length c.see.new.version.row)
     (fits_length c.loop-place.self-inside.positions.kinds c.see.new.version.row c.see.ensures.fits
     ∙ ap (λ (kinds : List Kind). length kinds) v.kinds ∙ (ap (λ (w : Whole). length w.kinds) c.self.view_is)) c.requires.fits
 
 pub make_next-requires-clause-in_range : goal.make_next-requires-clause-in_range
 make_next-requires-clause-in_range c =
-    let sets = sets_of c.args.kind.now in
-    let pred = c.args.pred.now in
-    let viewer = c.args.viewer.now in
+    let sets = sets_of c.args.sweep.now.kind.now in
+    let pred = c.args.sweep.now.pred.now in
+    let viewer = c.args.sweep.now.viewer.now in
     let olds = c.self.inside.positions.places in
     let k = c.loop-place.place in
     let first : ℕ = c.self.inside.first in
@@ -113,9 +111,9 @@ make_next-requires-clause-in_range c =
 
 pub write_at-requires-clause-live : goal.write_at-requires-clause-live
 write_at-requires-clause-live c =
-    let sets = sets_of c.args.kind.now in
-    let pred = c.args.pred.now in
-    let viewer = c.args.viewer.now in
+    let sets = sets_of c.args.sweep.now.kind.now in
+    let pred = c.args.sweep.now.pred.now in
+    let viewer = c.args.sweep.now.viewer.now in
     let olds = c.self.inside.positions.places in
     let k = c.loop-place.place in
     let first : ℕ = c.self.inside.first in
@@ -136,13 +134,13 @@ write_at-requires-clause-fits c =
     let v = c.loop-place.invariant in
     let kinds : c.args.self.now.kinds ≡ c.loop-place.self-inside.positions.kinds = sym (v.kinds ∙ ap (λ (w : Whole). w.kinds) c.self.view_is) in
     c.make_next.ensures.fits c.loop-place.self-inside.positions.kinds c.args.self.now.shown.key c.see.ensures.fits
-    (subst (λ (ks : List Kind). FitsWrite ks c.args.self.now.shown.key c.args.kind.now) kinds c.requires.fits)
+    (subst (λ (ks : List Kind). FitsWrite ks c.args.self.now.shown.key c.args.sweep.now.kind.now) kinds c.requires.fits)
 
 pub write_at-requires-clause-same_key : goal.write_at-requires-clause-same_key
 write_at-requires-clause-same_key c =
-    let sets = sets_of c.args.kind.now in
-    let pred = c.args.pred.now in
-    let viewer = c.args.viewer.now in
+    let sets = sets_of c.args.sweep.now.kind.now in
+    let pred = c.args.sweep.now.pred.now in
+    let viewer = c.args.sweep.now.viewer.now in
     let olds = c.self.inside.positions.places in
     let k = c.loop-place.place in
     let first : ℕ = c.self.inside.first in
@@ -181,25 +179,26 @@ overflow_add-written c =
 
 pub loop-place-init : goal.loop-place-init
 loop-place-init c =
-    let sets = sets_of c.args.kind.now in
-    let pred = c.args.pred.now in
-    let viewer = c.args.viewer.now in
+    let sets = sets_of c.args.sweep.now.kind.now in
+    let pred = c.args.sweep.now.pred.now in
+    let viewer = c.args.sweep.now.viewer.now in
     let olds = c.self.inside.positions.places in
     let first : ℕ = c.self.inside.first in
     let key = c.self.inside.positions.key in
-    let asked = c.key_asked-asked.result in
-    let asks : AsksKey pred key asked = subst (λ (which : Option ℕ). AsksKey pred which asked) c.key.ensures c.key_asked-asked.ensures in
-    let found = c.next_wanted-place.ensures in
-    let next = c.next_wanted-place.result in
+    let asked = c.args.sweep.now.asked.now in
+    let begins : Begins pred key asked olds c.args.sweep.now.first =
+    subst (λ (w : Whole). Begins pred w.shown.key asked w.shown.places c.args.sweep.now.first) (sym c.self.view_is) c.requires.begins in
+    let start = c.args.sweep.now.first in
+    let low : 0 ≤ start = omega arith in
     let none_first : ◌≡◌ {A = ℕ} (first + 0) first = omega arith in
-    let skips : (j : ℕ) → 0 ≤ j → j < next → judged_at sets pred viewer (first + j) (nth olds j) ≡ Ok None =
-    λ j m n. passed sets pred viewer (first + j) key asked olds olds 0 next j asks found.passed m n refl in
+    let skips : (j : ℕ) → 0 ≤ j → j < start → judged_at sets pred viewer (first + j) (nth olds j) ≡ Ok None =
+    λ j m n. passed sets pred viewer (first + j) key asked olds olds 0 start j begins.asks begins.passed m n refl in
     let ok : refusal_in (swept sets pred viewer (first + 0) olds) ≡ None =
     ap (λ (n : ℕ). refusal_in (swept sets pred viewer n olds)) none_first
     ∙ (ap (λ (w : Whole). refusal_in (swept sets pred viewer w.shown.first w.shown.places)) c.self.view_is ∙ c.requires.ok) in
     let none_counted : counted_of (swept sets pred viewer (first + 0) olds) ≡ counted_of (swept sets pred viewer first olds) =
     ap (λ (n : ℕ). counted_of (swept sets pred viewer n olds)) none_first in
-    let more = counted_past sets pred viewer first olds 0 next found.reached found.within skips c.self.inside.table ok in
+    let more = counted_past sets pred viewer first olds 0 start low begins.within skips c.self.inside.table ok in
     record {
       table = refl;
       first = refl;
@@ -208,15 +207,14 @@ loop-place-init c =
       next = c.self.invariant.next_wide;
       wide = c.self.invariant.wide;
       size = refl;
-      ok = refused_past sets pred viewer first olds 0 next found.reached found.within skips ∙ ok;
+      ok = refused_past sets pred viewer first olds 0 start low begins.within skips ∙ ok;
       done = λ j m. as_none viewer c.args.label (judged_at sets pred viewer (first + j) (nth olds j)) (nth olds j) (nth olds j)
           (skips j (omega arith) m) refl;
       rest = λ j m. refl;
-      noted = noted_past sets pred viewer first olds 0 next found.reached found.within skips c.self.inside.table ok c.args.changes.now.notes
+      noted = noted_past sets pred viewer first olds 0 start low begins.within skips c.self.inside.table ok c.args.changes.now.notes
           ∙ ap (λ (n : ℕ). noted_of c.self.inside.table n viewer (swept sets pred viewer n olds) olds c.args.changes.now.notes) none_first;
       counted = omega (arith, more, none_counted);
-      asked = refl;
-      within = found.within;
+      within = begins.within;
       few = omega arith;
       room = omega arith;
       notes_room = omega arith;
@@ -225,9 +223,9 @@ loop-place-init c =
 
 pub loop-place-preserved : goal.loop-place-preserved
 loop-place-preserved c =
-    let sets = sets_of c.args.kind.now in
-    let pred = c.args.pred.now in
-    let viewer = c.args.viewer.now in
+    let sets = sets_of c.args.sweep.now.kind.now in
+    let pred = c.args.sweep.now.pred.now in
+    let viewer = c.args.sweep.now.viewer.now in
     let olds = c.self.inside.positions.places in
     let k = c.loop-place.place in
     let first : ℕ = c.self.inside.first in
@@ -251,17 +249,17 @@ loop-place-preserved c =
     c.loop-place.changes.notes =
     c.note.ensures.notes ∙ λ i. with_note (record { table = v.table i; pos = v.first i + k; before = saw i; after = cell }) c.loop-place.changes.notes in
     let key = c.self.inside.positions.key in
-    let asked = c.key_asked-asked.result in
-    let asks : AsksKey pred key asked = subst (λ (which : Option ℕ). AsksKey pred which asked) c.key.ensures c.key_asked-asked.ensures in
-    let found = c.next_wanted-place-in-loop-place.ensures in
-    let next = c.next_wanted-place-in-loop-place.result in
+    let asked = c.args.sweep.now.asked.now in
+    let begins : Begins pred key asked olds c.args.sweep.now.first =
+    subst (λ (w : Whole). Begins pred w.shown.key asked w.shown.places c.args.sweep.now.first) (sym c.self.view_is) c.requires.begins in
+    let found = c.next_wanted-place.ensures in
+    let next = c.next_wanted-place.result in
     let before_write = c.loop-place.self-inside.positions in
     let over : PassesOver key asked before_write.places (k + 1) next =
-    subst (λ (which : Option ℕ). PassesOver which asked before_write.places (k + 1) next) v.key
-    (subst (λ (what : Option Value). PassesOver before_write.key what before_write.places (k + 1) next) v.asked found.passed) in
+    subst (λ (which : Option ℕ). PassesOver which asked before_write.places (k + 1) next) v.key found.passed in
     let within : next ≤ length olds = omega (arith, found.within, v.size) in
     let skips : (j : ℕ) → k + 1 ≤ j → j < next → judged_at sets pred viewer (first + j) (nth olds j) ≡ Ok None =
-    λ j m n. passed sets pred viewer (first + j) key asked olds before_write.places (k + 1) next j asks over m n (v.rest j (omega (arith, m))) in
+    λ j m n. passed sets pred viewer (first + j) key asked olds before_write.places (k + 1) next j begins.asks over m n (v.rest j (omega (arith, m))) in
     let left : refusal_in (swept sets pred viewer (first + (k + 1)) (drop (k + 1) olds)) ≡ None =
     left_ok sets pred viewer c.self.inside.table first olds k l v.ok in
     let more = counted_past sets pred viewer first olds (k + 1) next found.reached within skips c.self.inside.table left in
@@ -292,7 +290,6 @@ loop-place-preserved c =
           (swept sets pred viewer (first + (k + 1)) (drop (k + 1) olds)) (drop (k + 1) olds) notes) told
           ∙ (sym (noted sets pred viewer c.self.inside.table first olds k l v.ok cell some c.loop-place.changes.notes) ∙ v.noted));
       counted = omega (arith, v.counted, e, more);
-      asked = v.asked;
       within = within;
       few = omega (arith, v.few, found.reached);
       room = omega (arith, v.room, c.write_at.ensures.room, found.reached);
@@ -302,9 +299,9 @@ loop-place-preserved c =
 
 pub returns-clause-done : goal.returns-clause-done
 returns-clause-done c =
-    let sets = sets_of c.args.kind.now in
-    let pred = c.args.pred.now in
-    let viewer = c.args.viewer.now in
+    let sets = sets_of c.args.sweep.now.kind.now in
+    let pred = c.args.sweep.now.pred.now in
+    let viewer = c.args.sweep.now.viewer.now in
     let olds = c.self.inside.positions.places in
     let news = c.loop-place.self-inside.positions.places in
     let first : ℕ = c.self.inside.first in

@@ -15,21 +15,24 @@ invariant-loop-place l = record {
   next : length l.self-inside.next.row ≡ length l.initial.self-inside.positions.kinds;
   wide : length l.self-inside.seen.row ≡ length l.initial.self-inside.positions.kinds;
   size : length l.self-inside.positions.places ≡ length l.initial.self-inside.positions.places;
-  ok : refusal_in (swept (sets_of l.kind) l.pred l.viewer (l.initial.self-inside.first + l.place) (drop l.place l.initial.self-inside.positions.places)) ≡ None;
-  done : (k : ℕ) → k < l.place → WrittenAs l.viewer l.label
-      (judged_at (sets_of l.kind) l.pred l.viewer (l.initial.self-inside.first + k) (nth l.initial.self-inside.positions.places k))
+  ok : refusal_in (swept (sets_of l.sweep.kind.now) l.sweep.pred.now l.sweep.viewer.now (l.initial.self-inside.first + l.place)
+      (drop l.place l.initial.self-inside.positions.places)) ≡ None;
+  done : (k : ℕ) → k < l.place → WrittenAs l.sweep.viewer.now l.label
+      (judged_at (sets_of l.sweep.kind.now) l.sweep.pred.now l.sweep.viewer.now (l.initial.self-inside.first + k)
+      (nth l.initial.self-inside.positions.places k))
       (nth l.initial.self-inside.positions.places k) (nth l.self-inside.positions.places k);
   rest : (k : ℕ) → l.place ≤ k → nth l.self-inside.positions.places k ≡ nth l.initial.self-inside.positions.places k;
-  noted : noted_of l.initial.self-inside.table (l.initial.self-inside.first + l.place) l.viewer
-      (swept (sets_of l.kind) l.pred l.viewer (l.initial.self-inside.first + l.place) (drop l.place l.initial.self-inside.positions.places))
+  noted : noted_of l.initial.self-inside.table (l.initial.self-inside.first + l.place) l.sweep.viewer.now
+      (swept (sets_of l.sweep.kind.now) l.sweep.pred.now l.sweep.viewer.now (l.initial.self-inside.first + l.place)
+      (drop l.place l.initial.self-inside.positions.places))
       (drop l.place l.initial.self-inside.positions.places) l.changes.notes
-      ≡ noted_of l.initial.self-inside.table l.initial.self-inside.first l.viewer
-      (swept (sets_of l.kind) l.pred l.viewer l.initial.self-inside.first l.initial.self-inside.positions.places)
+      ≡ noted_of l.initial.self-inside.table l.initial.self-inside.first l.sweep.viewer.now
+      (swept (sets_of l.sweep.kind.now) l.sweep.pred.now l.sweep.viewer.now l.initial.self-inside.first l.initial.self-inside.positions.places)
       l.initial.self-inside.positions.places l.initial.changes.notes;
   counted : l.written + counted_of
-      (swept (sets_of l.kind) l.pred l.viewer (l.initial.self-inside.first + l.place) (drop l.place l.initial.self-inside.positions.places))
-      ≡ counted_of (swept (sets_of l.kind) l.pred l.viewer l.initial.self-inside.first l.initial.self-inside.positions.places);
-  asked : l.asked ≡ l.initial.asked;
+      (swept (sets_of l.sweep.kind.now) l.sweep.pred.now l.sweep.viewer.now (l.initial.self-inside.first + l.place)
+      (drop l.place l.initial.self-inside.positions.places))
+      ≡ counted_of (swept (sets_of l.sweep.kind.now) l.sweep.pred.now l.sweep.viewer.now l.initial.self-inside.first l.initial.self-inside.positions.places);
   within : l.place ≤ length l.initial.self-inside.positions.places;
   few : l.written ≤ l.place;
   room : l.initial.self-inside.positions.room ≤ l.self-inside.positions.room + l.place;

@@ -1,4 +1,4 @@
-use Rattle.std.proofs.Common.{◌<◌, length, ap, ◌∙◌, inl, inr, arith}
+use Rattle.std.proofs.Common.{length, ap, ◌∙◌, inl, inr, arith}
 use Rattle.hy_undo.specs.Places.{Place}
 use Rattle.hy_chunk.specs.Views.{Held}
 use Rattle.hy_chunk.proofs.Places.{Fields, fields, length_all, nth_is}

@@ -3,7 +3,6 @@ use Rattle.std.proofs.Common.{◌≡◌, ℕ, ◌+◌, ◌≤◌, List, [], ◌�
 use Rattle.std.specs.Prelude.{true, map, filter}
 use Rattle.hy_value.specs.declared.ColMask.{ColMask}
 use Rattle.hy_bound.specs.declared.Reply.TheVariants.{Groups}
-use Rattle.hy_bound.specs.Condition.{True}
 use Rattle.hy_bound.specs.Predicate.{column_of, truth_of}
 use Rattle.hy_bound.specs.Projection.{projected, spread}
 use Rattle.hy_bound.specs.Records.{columns_summed}
@@ -14,6 +13,7 @@ use Rattle.hy_meaning.specs.Statement.{Table}
 use Rattle.hy_meaning.specs.Totals.{groups_of}
 use Rattle.hy_plan.specs.ColumnSets.{named_columns}
 use Rattle.hy_plan.specs.Kept.{named_kept}
+use Rattle.hy_gathered.specs.Unasked.{all_selected}
 use Rattle.hy_group.specs.Laws.{GatheredGroups}
 use Rattle.hy_group.proofs.Groups.{Row, each_kept, groups_made}
 
@@ -42,11 +42,6 @@ rows_spread : (width : ℕ) (named : List ℕ) (rows : Table)
     → map (spread (named_columns 0 width named) width) (map (projected (named_columns 0 width named)) rows) ≡ map (spread_again width named) rows
 rows_spread width named [] = refl
 rows_spread width named (row ∷ rows) = ap (λ (rs : Table). spread_again width named row ∷ rs) (rows_spread width named rows)
-
--- without WHERE all rows are grouped
-all_selected : (rows : Table) → filter (truth_of True) rows ≡ rows
-all_selected [] = refl
-all_selected (row ∷ rows) = ap (λ (rs : Table). row ∷ rs) (all_selected rows)
 
 -- what is told of what is gathered is told of the table
 pub gathered_groups : GatheredGroups

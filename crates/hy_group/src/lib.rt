@@ -1,8 +1,7 @@
 //! GROUP BY: what is gathered of the table for it, and its reply from the rows that were gathered.
 #![tactic(auto)]
 
-ghost use Rattle.std.specs.Prelude.{◌≡◌, ◌∷◌, ◌++◌, IfOk, map};
-ghost use Rattle.hy_bound.specs.Projection.{spread};
+ghost use Rattle.std.specs.Prelude.{◌≡◌, ◌∷◌, ◌++◌, IfOk};
 ghost use Rattle.hy_bound.specs.Records.{columns_of, columns_summed, shape_of};
 ghost use Rattle.hy_plan.specs.ColumnSets.{named_columns};
 ghost use Rattle.hy_group.specs.Groups.{group_plan_for, groups_told};
@@ -10,8 +9,9 @@ ghost use Rattle.hy_group.specs.Groups.{group_plan_for, groups_told};
 mod laws;
 
 use hy_bound::{Aggregate, Bound, Pred, Reply, Shape, table_shape};
+use hy_gathered::{Grouping, Tally};
 use hy_plan::{Gathered, PlanPart, Read, reads};
-use hy_value::{ColMask, Row, Seq};
+use hy_value::ColMask;
 pub use laws::{gathered_groups_answer, gathered_groups_read};
 use std::alloc::{AllocError, Global};
 
@@ -95,29 +95,15 @@ pub fn answer_groups(
 ) -> Result<Reply, AllocError>
     ensures { IfOk result (λ reply. reply ≡ groups_told plan.now gathered.now.rows) }
 {
-    let rows = rows_of_table(alloc, &plan.part, gathered)?;
-    hy_meaning::group(
-        alloc,
-        &Pred::always(),
-        plan.key,
-        plan.aggregate,
-        rows.as_slice(),
-    )
-}
-
-/// The rows that were gathered for a part, as rows of its table: NULL in the other columns.
-fn rows_of_table(
-    alloc: Global,
-    part: &PlanPart,
-    gathered: &Gathered,
-) -> Result<Vec<Row>, AllocError>
-    ensures { IfOk result (λ rows. rows.items ≡ map (spread part.now.columns part.now.width) gathered.now.rows) }
-{
-    let mut rows = Vec::new(alloc);
-    for index in 0..gathered.len() {
-        let mut row = Seq::new(alloc);
-        gathered.push_spread(index, part.columns, part.width, &mut row)?;
-        rows.push(row)?;
-    }
-    Ok(rows)
+    let grouping = Grouping {
+        columns: plan.part.columns,
+        width: plan.part.width,
+        key: plan.key,
+        aggregate: plan.aggregate,
+    };
+    // There are fewer than 2^64 rows.
+    let _rows = gathered.len();
+    let mut tally = Tally::new(alloc);
+    grouping.add_rows(alloc, gathered, &mut tally)?;
+    Ok(Reply::Groups(tally.into_groups(alloc)?))
 }

@@ -3,10 +3,7 @@ pub mod Seeking
 pub mod Near
 pub mod Short
 pub mod Works
-pub mod Pieces
-pub mod Parts
-pub mod Sums
-pub mod Readers
+pub mod Preparing
 pub mod Reading
 pub mod Visitors
 pub mod Written

@@ -9,17 +9,13 @@ mod answers;
 mod copying;
 mod coring;
 mod ends;
-mod gathering;
 mod inserting;
 mod needs;
 mod numbers;
-mod parts;
-mod pieces;
-mod reader;
+mod prepared;
 mod reading;
 mod seeking;
 mod stamping;
-mod sums;
 mod visitors;
 mod visits;
 mod works;
@@ -27,11 +23,12 @@ mod writing;
 
 use hy_bound::{Reply, Shapes, Txns};
 use hy_event::{Need, Phase};
+use hy_gathered::Pieces;
 use hy_notes::Changes;
 use hy_plan::ReadLog;
 use hy_prune::Cover;
 use hy_render::{Places, TxnOutcome};
-use pieces::Pieces;
+use prepared::Prepared;
 use std::alloc::Global;
 use std::marker::Model;
 
@@ -85,6 +82,8 @@ pub struct Session {
     now: Option<Running>,
     /// No notes: the room of those of the last transaction, for the next one.
     spare: Changes,
+    /// How a statement is run, kept for its next visit.
+    prepared: Option<Prepared>,
 }
 
 impl Model for Session {
@@ -108,7 +107,7 @@ impl Model for Session {
       now = a.now;
     } };
 
-    ghost invariant = { λ a. IsLimited a.chunks a.shapes a.program (length a.done.items) a.spare.notes };
+    ghost invariant = { λ a. IsLimited a.chunks a.shapes a.program (length a.done.items) a.spare.notes a.prepared };
 }
 
 /// How the tables of a script lie in chunks.
@@ -154,6 +153,7 @@ impl Session {
             done: Vec::new(alloc),
             now: None,
             spare: Changes::new(alloc),
+            prepared: None,
         }
     }
 

@@ -12,19 +12,22 @@ ghost use Rattle.hy_event.specs.Reading.{with_gathered};
 ghost use Rattle.hy_event.specs.Sessions.{viewer_of};
 ghost use Rattle.hy_event.specs.Turns.{Answers, Visits, Takes, with_changed};
 ghost use Rattle.hy_session.specs.Near.{NearChunk};
-ghost use Rattle.hy_session.specs.Parts.{tables_found};
-ghost use Rattle.hy_session.specs.Readers.{IsPlanOf, IsRead, plan_by, told_of};
+ghost use Rattle.hy_select.specs.Parts.{tables_found};
+ghost use Rattle.hy_select.specs.Readers.{IsPlanOf, plan_by, told_of};
+ghost use Rattle.hy_session.specs.declared.prepared.Way.TheVariants.{Read};
+ghost use Rattle.hy_session.specs.Preparing.{IsWayFor};
 ghost use Rattle.hy_session.specs.Reading.{IsNextFor, IsReading, IsStep, IsStepOf};
 
 use crate::answers::{Answer, push_answer, reserve_answer};
-use crate::gathering::{Found, add_piece, found_with, gather_part, part_rows};
 use crate::numbers::number;
-use crate::reader::{Reader, reader_of};
+use crate::prepared::Way;
+use crate::visitors::Present;
 use crate::{Running, Session};
 use hy_bound::{Bound, Records, Reply};
 use hy_chunk::Chunk;
 use hy_event::{Phase, Progress};
 use hy_plan::{Gathered, records};
+use hy_select::{Found, Reader, add_piece, found_with, gather_part, part_rows};
 use hy_stamp::Viewer;
 use std::alloc::{AllocError, Global};
 
@@ -92,30 +95,29 @@ impl Session {
         Ok((reply, records))
     }
 
-    /// What comes of a visit of a SELECT, of which so many are done.
+    /// What comes of a visit of a SELECT that is run so.
     fn read_statement(
         &self,
         alloc: Global,
-        statement: &Bound,
+        present: &Present,
         now: &Running,
-        visited: u32,
+        reader: &Reader,
         chunk: &mut Chunk,
     ) -> Result<ReadStep, AllocError>
         requires at { length self.now.done < length self.now.program }
-        requires reads { IsRead statement.now }
-        requires fits { IsNextFor self.now visited statement.now chunk.old }
-        ensures step { IfOk result (λ step. IsStep self.entry.now now.now visited statement.now chunk.old.shown.places step) }
+        requires planned { IsPlanOf self.now.shapes present.now.statement.now (plan_by reader.now) }
+        requires fits { IsNextFor self.now present.now.visited present.now.statement.now chunk.old }
+        ensures step { IfOk result (λ step. IsStep self.entry.now now.now present.now.visited present.now.statement.now chunk.old.shown.places step) }
         ensures all { chunk.new ≡ chunk.old }
     {
-        let reader = reader_of(alloc, self.shapes.as_slice(), statement)?;
         let parts = reader.parts.as_slice();
-        let number = visited / self.chunks;
+        let number = present.visited / self.chunks;
         let Some(part) = reader.part(number) else {
             unreachable!()
         };
         let gathered = now.gathered.as_slice();
         let piece = gather_part(alloc, chunk, &self.viewer(now), parts, part, gathered)?;
-        let next = visited.checked_add(1).ok_or(AllocError)?;
+        let next = present.visited.checked_add(1).ok_or(AllocError)?;
         if u128::from(next) < u128::from(self.chunks) * parts.len() as u128 {
             return Ok(ReadStep::More {
                 number,
@@ -124,14 +126,20 @@ impl Session {
             });
         }
         let found = found_with(gathered, number, &piece);
-        let (reply, records) = self.answer(alloc, statement, now, &reader, found)?;
+        let (reply, records) = self.answer(alloc, present.statement, now, reader, found)?;
         Ok(ReadStep::Answer { reply, records })
     }
 
-    /// What comes of a visit of the present statement of its open transaction, which is a SELECT.
-    fn read_step(&self, alloc: Global, chunk: &mut Chunk) -> Result<ReadStep, AllocError>
+    /// What comes of a visit of the present statement of its open transaction, a SELECT that is run so.
+    fn read_step(
+        &self,
+        alloc: Global,
+        reader: &Reader,
+        chunk: &mut Chunk,
+    ) -> Result<ReadStep, AllocError>
         requires near { NearChunk self.now chunk.old }
         requires reads { IsReading self.now }
+        requires way { IsWayFor self.now (Read reader.now) }
         ensures step { IfOk result (λ step. IsStepOf self.entry.now chunk.old.shown.places step) }
         ensures all { chunk.new ≡ chunk.old }
     {
@@ -143,8 +151,13 @@ impl Session {
             unreachable!()
         };
         match now.phase {
-            Phase::Working { visited, .. } => {
-                self.read_statement(alloc, statement, now, visited, chunk)
+            Phase::Working { visited, count } => {
+                let present = Present {
+                    statement,
+                    visited,
+                    count,
+                };
+                self.read_statement(alloc, &present, now, reader, chunk)
             }
             Phase::Stamping { .. } | Phase::Undoing { .. } => unreachable!(),
         }
@@ -208,12 +221,17 @@ impl Session {
         ensures kept { OnErr result (self.new ≡ self.old) }
         ensures all { chunk.new ≡ chunk.old }
     {
-        match self.read_step(alloc, chunk)? {
+        let answered = self.answered();
+        let reader = self.take_reader(alloc)?;
+        match self.read_step(alloc, &reader, chunk)? {
             ReadStep::More {
                 number,
                 piece,
                 visited,
-            } => self.keep(alloc, number, piece, visited),
+            } => {
+                self.keep_way(answered, Way::Read(reader));
+                self.keep(alloc, number, piece, visited)
+            }
             ReadStep::Answer { reply, records } => self.give(reply, records),
         }
     }

@@ -1,13 +1,15 @@
 //! Visits of chunks.
 
-ghost use Rattle.std.specs.Prelude.{◌≡◌, false, IfOk, OnErr, OnOk};
+ghost use Rattle.std.specs.Prelude.{◌≡◌, None, false, IfOk, OnErr, OnOk};
+ghost use Rattle.std.specs.Option.{option_copied};
 ghost use Rattle.hy_event.specs.Events.{ChunkEvent, StatementVisit};
 ghost use Rattle.hy_session.specs.Near.{NearChunk};
+ghost use Rattle.hy_session.specs.Preparing.{kind_in, kind_of};
 ghost use Rattle.hy_session.specs.Short.{LeavesShort};
 ghost use Rattle.hy_session.specs.Visitors.{CanWork, ForVisitor, ShortAt, gathers, is_reading};
 
-use crate::copying::copy_sets;
 use crate::inserting::{Insertion, insert};
+use crate::prepared::Way;
 use crate::stamping::{stamp, undo};
 use crate::visitors::{Present, Visitor};
 use crate::writing::{Write, write_rows};
@@ -29,15 +31,17 @@ fn gathers(statement: &Bound) -> bool
     }
 }
 
-/// A visit of the present statement, which writes. Err is for want of memory, and changes nothing.
+/// A visit of the present statement, which writes; an UPDATE does this with each row that it selects. Err is for want of memory, and changes nothing.
 fn work(
     alloc: Global,
     visitor: &Visitor,
     present: &Present,
+    kind: Option<&WriteKind>,
     now: &mut Running,
     chunk: &mut Chunk,
 ) -> Result<Progress, AllocError>
-    requires { CanWork visitor.now now.old.cover present.now.statement.now chunk.old }
+    requires can { CanWork visitor.now now.old.cover present.now.statement.now chunk.old }
+    requires kind { option_copied kind ≡ kind_of present.now.statement.now }
     ensures event { IfOk result (λ progress. ForVisitor visitor.now now.old now.new (λ session after.
         StatementVisit session now.old present.now.visited present.now.count present.now.statement.now
         chunk.old.shown progress after chunk.new.shown)) }
@@ -56,12 +60,12 @@ fn work(
             };
             insert(alloc, visitor, &insertion, now, chunk)
         }
-        Bound::Update { table, sets, pred } => {
-            let kind = WriteKind::Set(copy_sets(alloc, sets)?);
+        Bound::Update { table, pred, .. } => {
+            let Some(kind) = kind else { unreachable!() };
             let update = Write {
                 present: *present,
                 table: *table,
-                kind: &kind,
+                kind,
                 pred,
             };
             write_rows(alloc, visitor, &update, now, chunk)
@@ -96,12 +100,20 @@ impl Session {
         }
     }
 
-    /// A visit of a chunk that isn't one of a SELECT. Err is for want of memory, and changes nothing.
-    fn change(&mut self, alloc: Global, chunk: &mut Chunk) -> Result<Progress, AllocError>
+    /// A visit of a chunk that isn't one of a SELECT; an UPDATE does this with each row that it selects. Err is for want of
+    /// memory, and changes nothing.
+    fn change_by(
+        &mut self,
+        alloc: Global,
+        kind: Option<&WriteKind>,
+        chunk: &mut Chunk,
+    ) -> Result<Progress, AllocError>
         requires near { NearChunk self.old chunk.old }
         requires changes { is_reading self.old ≡ false }
+        requires kind { option_copied kind ≡ kind_in self.old }
         ensures event { IfOk result (λ progress. ChunkEvent self.old chunk.old.shown progress self.new chunk.new.shown) }
         ensures short { OnOk result (LeavesShort self.old self.old.now chunk.new.shown) }
+        ensures others { record self.new { now = None } ≡ record self.old { now = None } }
         ensures kept { OnErr result (self.new ≡ self.old) }
         ensures chunk_kept { OnErr result (chunk.new.shown ≡ chunk.old.shown) }
         ensures kinds { chunk.new.kinds ≡ chunk.old.kinds }
@@ -129,7 +141,7 @@ impl Session {
                             visited,
                             count,
                         };
-                        work(alloc, &visitor, &present, now, chunk)
+                        work(alloc, &visitor, &present, kind, now, chunk)
                     }
                     None => undo(&visitor, 0, Ending::RolledBack, now, chunk),
                 }
@@ -137,6 +149,27 @@ impl Session {
             Phase::Stamping { visited, time } => stamp(&visitor, visited, time, now, chunk),
             Phase::Undoing { visited, cause } => undo(&visitor, visited, cause, now, chunk),
         }
+    }
+
+    /// A visit of a chunk that isn't one of a SELECT. Err is for want of memory, and changes nothing.
+    fn change(&mut self, alloc: Global, chunk: &mut Chunk) -> Result<Progress, AllocError>
+        requires near { NearChunk self.old chunk.old }
+        requires changes { is_reading self.old ≡ false }
+        ensures event { IfOk result (λ progress. ChunkEvent self.old chunk.old.shown progress self.new chunk.new.shown) }
+        ensures short { OnOk result (LeavesShort self.old self.old.now chunk.new.shown) }
+        ensures kept { OnErr result (self.new ≡ self.old) }
+        ensures chunk_kept { OnErr result (chunk.new.shown ≡ chunk.old.shown) }
+        ensures kinds { chunk.new.kinds ≡ chunk.old.kinds }
+    {
+        let answered = self.answered();
+        let kind = self.take_kind(alloc)?;
+        let progress = self.change_by(alloc, kind.as_ref(), chunk)?;
+        if let Some(kind) = kind
+            && let Progress::Moved = progress
+        {
+            self.keep_way(answered, Way::Write(kind));
+        }
+        Ok(progress)
     }
 
     /// Visits a chunk, which it needs: it reads or writes there for the present statement, or stamps or undoes what its

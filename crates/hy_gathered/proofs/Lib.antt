@@ -1,0 +1,6 @@
+pub mod Piled
+pub mod Placed
+pub mod Summed
+mod Tallied
+mod Grouped
+mod RowGroups

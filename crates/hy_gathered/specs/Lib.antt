@@ -1,0 +1,6 @@
+pub mod Pieces
+pub mod Columns
+pub mod Sums
+pub mod Tally
+pub mod Groups
+pub mod Unasked

@@ -1,0 +1,119 @@
+//! Rows gathered of a table, piece by piece.
+
+ghost use Rattle.std.specs.Prelude.{◌≡◌, ◌+◌, ◌<◌, ◌≤◌, ◌*◌, ◌^◌, ◌++◌, [], IfOk, OnOk, OnErr, length, slice_index_or};
+ghost use Rattle.std.specs.Int.RustNames.{unsigned_abs};
+ghost use Rattle.hy_bound.specs.Projection.{spread};
+ghost use Rattle.hy_gathered.specs.Groups.{groups_by};
+ghost use Rattle.hy_gathered.specs.Sums.{sum_by};
+ghost use Rattle.hy_meaning.specs.Statement.{Table};
+
+use crate::sums::PartColumn;
+use crate::tally::{Grouping, Tally};
+use hy_plan::Gathered;
+use hy_value::{ColMask, Row};
+use std::alloc::{AllocError, Global};
+use std::marker::Model;
+
+/// Rows gathered of a table, a piece for each visit. A piece that is there never changes, so that a visit that wants
+/// for memory leaves what was gathered before. Contracts see the rows.
+#[derive(Drop)]
+pub struct Pieces {
+    len: usize,
+    pieces: Vec<Gathered>,
+}
+
+impl Model for Pieces {
+    ghost use Rattle.std.specs.Prelude.{◌≡◌, length};
+    ghost use Rattle.hy_meaning.specs.Statement.{Table};
+    ghost use Rattle.hy_gathered.specs.Pieces.{rows_in_pieces};
+
+    ghost Value = { Table };
+
+    ghost view = { λ a. rows_in_pieces a.pieces.items };
+
+    ghost invariant = { λ a. a.len ≡ length (rows_in_pieces a.pieces.items) };
+}
+
+impl Pieces {
+    /// No rows. It takes no memory.
+    pub fn new(alloc: Global) -> Pieces
+        ensures { result ≡ [] }
+    {
+        Pieces {
+            len: 0,
+            pieces: Vec::new(alloc),
+        }
+    }
+
+    /// How many rows there are.
+    pub fn len(&self) -> usize
+        ensures { result ≡ length self.now }
+    {
+        self.len
+    }
+
+    /// Puts the rows of a piece behind the others. Err is for want of memory, and changes nothing.
+    #[tactic(auto, using(crate::proofs::Piled::pieces_more))]
+    pub fn add(&mut self, piece: Gathered) -> Result<(), AllocError>
+        ensures ok { OnOk result (self.new ≡ self.old ++ piece.rows) }
+        ensures err { OnErr result (self.new ≡ self.old) }
+    {
+        let len = self.len.checked_add(piece.len()).ok_or(AllocError)?;
+        self.pieces.push(piece)?;
+        self.len = len;
+        Ok(())
+    }
+
+    /// The sum of a column over the rows. Err is for want of memory.
+    pub fn sum(&self, alloc: Global, column: PartColumn) -> Result<i128, AllocError>
+        ensures value { IfOk result (λ sum. sum ≡ sum_by column self.now) }
+        ensures small { IfOk result (λ sum. unsigned_abs sum ≤ 2 ^ 63 * length self.now) }
+    {
+        let _rows = self.len;
+        let mut sum = 0i128;
+        for piece in &self.pieces {
+            sum += column.sum(alloc, piece)?;
+        }
+        Ok(sum)
+    }
+
+    /// Adds the rows to a tally of others. Err is for want of memory.
+    pub fn add_rows(
+        &self,
+        alloc: Global,
+        grouping: Grouping,
+        tally: &mut Tally,
+    ) -> Result<(), AllocError>
+        requires { tally.old.rows + length self.now < 2 ^ 64 }
+        ensures rows { OnOk result (tally.new.rows ≡ tally.old.rows + length self.now) }
+        ensures groups { (rows : Table) → tally.old.groups ≡ groups_by grouping rows → OnOk result (tally.new.groups ≡ groups_by grouping (rows ++ self.now)) }
+    {
+        for piece in &self.pieces {
+            grouping.add_rows(alloc, piece, tally)?;
+        }
+        Ok(())
+    }
+
+    /// Puts a row behind other values, as a row of so many columns: those of a set have its values in their order, the
+    /// others are NULL.
+    pub fn push_spread(
+        &self,
+        index: usize,
+        columns: ColMask,
+        width: u32,
+        joined: &mut Row,
+    ) -> Result<(), AllocError>
+        requires { index < length self.now }
+        ensures { OnOk result (joined.new ≡ joined.old ++ spread columns width (slice_index_or self.now index [])) }
+    {
+        let mut left = index;
+        for piece in &self.pieces {
+            let rows = piece.len();
+            if left < rows {
+                return piece.push_spread(left, columns, width, joined);
+            }
+            left -= rows;
+        }
+        unreachable!()
+    }
+}

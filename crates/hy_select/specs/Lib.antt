@@ -1,0 +1,3 @@
+pub mod Parts
+pub mod Readers
+pub mod PlanParts

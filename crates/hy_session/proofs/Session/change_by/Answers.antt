@@ -1,0 +1,130 @@
+use Rattle.std.proofs.Common.{◌≡◌, None, Some, length, true, ap, sym, ◌∙◌, arith}
+use Rattle.std.specs.Prelude.{slice_get}
+use Rattle.hy_stamp.specs.Times.{id_of}
+use Rattle.hy_visit.specs.Pruning.{AllShort}
+use Rattle.hy_event.specs.declared.SessionData.{SessionData}
+use Rattle.hy_event.specs.declared.Open.{Open}
+use Rattle.hy_event.specs.declared.Phase.TheVariants.{Working, Stamping, Undoing}
+use Rattle.hy_event.specs.Sessions.{txn_at}
+use Rattle.hy_event.specs.Turns.{with_open}
+use Rattle.hy_session.specs.contracts.Session.{the_view}
+use Rattle.hy_session.specs.declared.visitors.Visitor.{Visitor}
+use Rattle.hy_session.specs.Short.{LeavesShort, visit_prunes}
+use Rattle.hy_session.specs.Visitors.{IsVisitor, ShortAt}
+use Rattle.hy_session.proofs.Changed.{closed, event_moves, stamped, undone, worked}
+use Rattle.hy_session.proofs.Dispatch.{close_prunes_nothing}
+use Rattle.hy_session.proofs.Leaving.{leaves_at, leaves_others, leaves_stamped, leaving_moves}
+use Rattle.hy_session.proofs.Results.{got, got_none, ok_gives, ok_holds}
+use Rattle.hy_session.proofs.Session.change_by.Goals as goal
+use Rattle.hy_session.proofs.Session.change_by.Goals.{in-Working+in-Some-get, in-Working+in-None, in-Stamping, in-Undoing}
+
+abbrev visitor_at : goal.Joined-now → Visitor
+visitor_at c = record {
+  label = c.label-label.result;
+  id = c.id.result;
+  shapes = c.as_slice-2.result;
+  chunks = c.self.inside.chunks;
+  prunes = c.self.inside.prunes;
+}
+
+visitor_is : (c : goal.Joined-now) → IsVisitor c.args.self.now (visitor_at c)
+visitor_is c = record {
+  label = c.label-label.ensures;
+  id = c.id.ensures ∙ ap id_of c.label-label.ensures;
+  shapes = c.as_slice-2.ensures ∙ ap (λ (v : SessionData). v.shapes) c.self.view_is;
+  chunks = ap (λ (v : SessionData). v.chunks) c.self.view_is;
+  prunes = ap (λ (v : SessionData). v.prunes) c.self.view_is;
+}
+
+txn_is : (c : goal.Joined-now) → txn_at c.args.self.now ≡ Some c.in-Some.txn.now
+txn_is c =
+    got c.args.self.now.program c.as_slice.result.now c.len.result (length c.args.self.now.done) c.in-Some.txn.now
+    (c.as_slice.ensures ∙ ap (λ (v : SessionData). v.program) c.self.view_is)
+    (omega (arith, c.len.ensures, c.self.inside.done.ok.0, ap (λ (v : SessionData). length v.done) c.self.view_is))
+    c.in-Some.ensures.lookup.0 c.in-Some.ensures.lookup.1
+
+open_is : (c : goal.Joined-now) → c.args.self.now.now ≡ Some c.in-Some-now.now
+open_is c = ap (λ (v : SessionData). v.now) (sym c.self.view_is) ∙ c.in-Some-now.is
+
+pub returns-clause-event : goal.returns-clause-event
+returns-clause-event c =
+    let session = c.args.self.now in
+    let now = c.in-Some-now.now in
+    let txn = c.in-Some.txn.now in
+    let chunk = c.args.chunk.now in
+    let seen = the_view c.self.inside in
+    elim c.match-now.branch [
+      | in-Working+in-Some-get w ↦
+          let works : now.phase ≡ Working w.in-Working.visited w.in-Working.count = ap (λ (v : Open). v.phase) (sym c.now.view_is) ∙ w.in-Working.is in
+          let present : slice_get txn.statements (length now.replies) ≡ Some w.in-Some-get.statement.now =
+          got txn.statements w.as_slice-in-Working.result.now w.len-in-Working.result (length now.replies) w.in-Some-get.statement.now w.as_slice-in-Working.ensures
+          (omega (arith, w.len-in-Working.ensures, c.now.inside.replies.ok.0, ap (λ (v : Open). length v.replies) c.now.view_is))
+          w.in-Some-get.ensures.lookup.0 w.in-Some-get.ensures.lookup.1 in
+          event_moves session chunk.shown c.match-now.result w.work.result _ (with_open w.work.new.now seen) c.match-now.chunk w.work.new.chunk
+          w.result-is (ap the_view w.self-inside-is) w.chunk-is
+          (worked session seen (visitor_at c) txn now w.work.new.now chunk w.work.new.chunk.shown w.work.result c.self.view_is (visitor_is c) (txn_is c) (open_is c)
+          w.in-Working.visited w.in-Working.count w.in-Some-get.statement.now works present w.work.ensures.event)
+      | in-Working+in-None w ↦
+          let works : now.phase ≡ Working w.in-Working.visited w.in-Working.count = ap (λ (v : Open). v.phase) (sym c.now.view_is) ∙ w.in-Working.is in
+          let none : slice_get txn.statements (length now.replies) ≡ None =
+          got_none txn.statements w.as_slice-in-Working.result.now w.len-in-Working.result (length now.replies) w.as_slice-in-Working.ensures
+          (omega (arith, w.len-in-Working.ensures, c.now.inside.replies.ok.0, ap (λ (v : Open). length v.replies) c.now.view_is))
+          w.in-None.ensures.lookup.0 in
+          event_moves session chunk.shown c.match-now.result w.undo.result _ (with_open w.undo.new.now seen) c.match-now.chunk w.undo.new.chunk
+          w.result-is (ap the_view w.self-inside-is) w.chunk-is
+          (closed session seen (visitor_at c) txn now w.undo.new.now chunk w.undo.new.chunk.shown w.undo.result c.self.view_is (visitor_is c) (txn_is c) (open_is c)
+          w.in-Working.visited w.in-Working.count c.requires.near works none w.undo.ensures.event)
+      | in-Stamping w ↦
+          let stands : now.phase ≡ Stamping w.in-Stamping.visited w.in-Stamping.time = ap (λ (v : Open). v.phase) (sym c.now.view_is) ∙ w.in-Stamping.is in
+          event_moves session chunk.shown c.match-now.result w.stamp.result _ (with_open w.stamp.new.now seen) c.match-now.chunk w.stamp.new.chunk
+          w.result-is (ap the_view w.self-inside-is) w.chunk-is
+          (stamped session seen (visitor_at c) txn now w.stamp.new.now chunk w.stamp.new.chunk.shown w.stamp.result c.self.view_is (visitor_is c) (txn_is c) (open_is c)
+          w.in-Stamping.visited w.in-Stamping.time stands w.stamp.ensures.event)
+      | in-Undoing w ↦
+          let stands : now.phase ≡ Undoing w.in-Undoing.visited w.in-Undoing.cause = ap (λ (v : Open). v.phase) (sym c.now.view_is) ∙ w.in-Undoing.is in
+          event_moves session chunk.shown c.match-now.result w.undo-in-Undoing.result _ (with_open w.undo-in-Undoing.new.now seen) c.match-now.chunk
+          w.undo-in-Undoing.new.chunk w.result-is (ap the_view w.self-inside-is) w.chunk-is
+          (undone session seen (visitor_at c) txn now w.undo-in-Undoing.new.now chunk w.undo-in-Undoing.new.chunk.shown w.undo-in-Undoing.result c.self.view_is
+          (visitor_is c) (txn_is c) (open_is c) w.in-Undoing.visited w.in-Undoing.cause stands w.undo-in-Undoing.ensures.event)
+    ]
+
+pub returns-clause-short : goal.returns-clause-short
+returns-clause-short c =
+    let session = c.args.self.now in
+    let now = c.in-Some-now.now in
+    let txn = c.in-Some.txn.now in
+    elim c.match-now.branch [
+      | in-Working+in-Some-get w ↦
+          let works : now.phase ≡ Working w.in-Working.visited w.in-Working.count = ap (λ (v : Open). v.phase) (sym c.now.view_is) ∙ w.in-Working.is in
+          let present : slice_get txn.statements (length now.replies) ≡ Some w.in-Some-get.statement.now =
+          got txn.statements w.as_slice-in-Working.result.now w.len-in-Working.result (length now.replies) w.in-Some-get.statement.now w.as_slice-in-Working.ensures
+          (omega (arith, w.len-in-Working.ensures, c.now.inside.replies.ok.0, ap (λ (v : Open). length v.replies) c.now.view_is))
+          w.in-Some-get.ensures.lookup.0 w.in-Some-get.ensures.lookup.1 in
+          leaving_moves session c.match-now.result w.work.result c.match-now.chunk w.work.new.chunk w.result-is w.chunk-is
+          (ok_gives w.work.result (ShortAt (visitor_at c) w.in-Working.visited w.in-Some-get.statement.now now.cover w.work.new.chunk.shown)
+          (LeavesShort session session.now w.work.new.chunk.shown)
+          (λ short. leaves_at session (visitor_at c) now w.work.new.chunk.shown (visitor_is c) (open_is c) txn w.in-Working.visited w.in-Working.count
+          w.in-Some-get.statement.now (txn_is c) works present short)
+          w.work.ensures.short)
+      | in-Working+in-None w ↦
+          let works : now.phase ≡ Working w.in-Working.visited w.in-Working.count = ap (λ (v : Open). v.phase) (sym c.now.view_is) ∙ w.in-Working.is in
+          let none : slice_get txn.statements (length now.replies) ≡ None =
+          got_none txn.statements w.as_slice-in-Working.result.now w.len-in-Working.result (length now.replies) w.as_slice-in-Working.ensures
+          (omega (arith, w.len-in-Working.ensures, c.now.inside.replies.ok.0, ap (λ (v : Open). length v.replies) c.now.view_is))
+          w.in-None.ensures.lookup.0 in
+          leaving_moves session c.match-now.result w.undo.result c.match-now.chunk w.undo.new.chunk w.result-is w.chunk-is
+          (ok_holds w.undo.result (LeavesShort session session.now w.undo.new.chunk.shown)
+          (leaves_others session now w.undo.new.chunk.shown (open_is c)
+          (close_prunes_nothing session txn now (txn_is c) (open_is c) w.in-Working.visited w.in-Working.count works none)))
+      | in-Stamping w ↦
+          leaving_moves session c.match-now.result w.stamp.result c.match-now.chunk w.stamp.new.chunk w.result-is w.chunk-is
+          (ok_gives w.stamp.result ((visitor_at c).prunes ≡ true → AllShort now.cover w.stamp.new.chunk.shown.places)
+          (LeavesShort session session.now w.stamp.new.chunk.shown)
+          (λ short. leaves_stamped session (visitor_at c) now w.stamp.new.chunk.shown (visitor_is c) (open_is c) short)
+          w.stamp.ensures.short)
+      | in-Undoing w ↦
+          let stands : now.phase ≡ Undoing w.in-Undoing.visited w.in-Undoing.cause = ap (λ (v : Open). v.phase) (sym c.now.view_is) ∙ w.in-Undoing.is in
+          leaving_moves session c.match-now.result w.undo-in-Undoing.result c.match-now.chunk w.undo-in-Undoing.new.chunk w.result-is w.chunk-is
+          (ok_holds w.undo-in-Undoing.result (LeavesShort session session.now w.undo-in-Undoing.new.chunk.shown)
+          (leaves_others session now w.undo-in-Undoing.new.chunk.shown (open_is c) (ap (visit_prunes session now) stands)))
+    ]

@@ -1,0 +1,120 @@
+//! How the present statement is run: made once for the statement, and kept from visit to visit.
+
+ghost use Rattle.std.specs.Prelude.{◌≡◌, Some, IfOk, IfSome, length};
+ghost use Rattle.std.specs.Option.{option_copied, option_map_or};
+ghost use Rattle.hy_event.specs.declared.Open.{Open};
+ghost use Rattle.hy_session.specs.declared.prepared.Way.TheVariants.{Read};
+ghost use Rattle.hy_session.specs.Preparing.{IsWayAt, IsWayFor, kind_in, statement_in};
+ghost use Rattle.hy_session.specs.Reading.{IsReading};
+
+use crate::Session;
+use crate::copying::copy_sets;
+use hy_bound::{Bound, WriteKind};
+use hy_event::Phase;
+use hy_select::{Reader, reader_of};
+use std::alloc::{AllocError, Global};
+
+/// How a statement is run.
+#[derive(Drop)]
+pub enum Way {
+    /// A SELECT, by this plan.
+    Read(Reader),
+    /// An UPDATE: this is done with each row that it selects.
+    Write(WriteKind),
+}
+
+/// How a statement of a program is run.
+#[derive(Drop)]
+pub struct Prepared {
+    /// The number of its transaction, from 0 on.
+    pub txn: usize,
+    /// Its number in the transaction, from 0 on.
+    pub statement: usize,
+    /// How it is run.
+    pub way: Way,
+}
+
+impl Session {
+    /// How many statements of its open transaction are answered; without one 0.
+    pub(crate) fn answered(&self) -> usize
+        ensures { result ≡ option_map_or (λ (now : Open). length now.replies) self.entry.now.now 0 }
+    {
+        match &self.now {
+            Some(now) => now.replies.len(),
+            None => 0,
+        }
+    }
+
+    /// The statement at which its open transaction works.
+    fn present(&self) -> Option<&Bound>
+        ensures { option_copied result ≡ statement_in self.entry.now }
+    {
+        let Some(now) = &self.now else {
+            return None;
+        };
+        match now.phase {
+            Phase::Working { .. } => self.statements().get(now.replies.len()),
+            Phase::Stamping { .. } | Phase::Undoing { .. } => None,
+        }
+    }
+
+    /// How its present statement is run, if that was kept. Nothing is kept then.
+    fn take_way(&mut self) -> Option<Way>
+        ensures way { IfSome result (IsWayFor self.old) }
+        ensures same { self.new ≡ self.old }
+    {
+        let number = self.answered();
+        let Some(kept) = self.prepared.take() else {
+            return None;
+        };
+        if kept.txn == self.done.len() && kept.statement == number {
+            Some(kept.way)
+        } else {
+            None
+        }
+    }
+
+    /// The statement of this number of its transaction is run so, which is kept.
+    pub(crate) fn keep_way(&mut self, number: usize, way: Way)
+        requires { IsWayAt self.old number way }
+        ensures { self.new ≡ self.old }
+    {
+        self.prepared = Some(Prepared {
+            txn: self.done.len(),
+            statement: number,
+            way,
+        });
+    }
+
+    /// How its present statement is run, which is a SELECT: what was kept of that, or else made now. Nothing is kept
+    /// then. Err is for want of memory.
+    pub(crate) fn take_reader(&mut self, alloc: Global) -> Result<Reader, AllocError>
+        requires { IsReading self.old }
+        ensures way { IfOk result (λ reader. IsWayFor self.old (Read reader)) }
+        ensures same { self.new ≡ self.old }
+    {
+        if let Some(Way::Read(reader)) = self.take_way() {
+            return Ok(reader);
+        }
+        match self.present() {
+            Some(statement) => reader_of(alloc, self.shapes.as_slice(), statement),
+            None => unreachable!(),
+        }
+    }
+
+    /// What its present statement does with a row that it selects, if that is an UPDATE: what was kept of that, or else
+    /// made now. Nothing is kept then. Err is for want of memory.
+    pub(crate) fn take_kind(&mut self, alloc: Global) -> Result<Option<WriteKind>, AllocError>
+        ensures kind { IfOk result (λ kind. kind ≡ kind_in self.old) }
+        ensures same { self.new ≡ self.old }
+    {
+        let way = self.take_way();
+        match self.present() {
+            Some(Bound::Update { sets, .. }) => match way {
+                Some(Way::Write(kind)) => Ok(Some(kind)),
+                _ => Ok(Some(WriteKind::Set(copy_sets(alloc, sets)?))),
+            },
+            _ => Ok(None),
+        }
+    }
+}

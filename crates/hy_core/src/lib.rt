@@ -160,6 +160,14 @@ impl Core {
         self.active.leave(start);
     }
 
+    /// The entries of its journal.
+    pub fn into_entries(self) -> Vec<Entry>
+        ensures { result.items ≡ self.entries }
+    {
+        let Core { journal, .. } = self;
+        journal.into_entries()
+    }
+
     /// The entries behind a prefix of so many.
     pub fn since(&self, prefix: usize) -> &[Entry]
         requires { prefix ≤ length self.now.entries }

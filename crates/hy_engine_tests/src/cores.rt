@@ -20,8 +20,8 @@ fn a_row_that_comes_and_goes_is_no_change(rt: HostRuntime) -> Result<(), Fail> {
     changes.note_reserved(0, 2, None, Some(&row));
     changes.note_reserved(0, 2, Some(&row), None);
     assert_eq!(rt; changes.len(), 1);
-    assert_eq!(rt; net(alloc, changes.notes())?.len(), 0);
     assert_eq!(rt; changes.places()?.len(), 1);
+    assert_eq!(rt; net(changes.take_all()?).len(), 0);
     Ok(())
 }
 

@@ -99,6 +99,13 @@ impl Journal {
         self.entries.is_empty()
     }
 
+    /// The entries.
+    pub fn into_entries(self) -> Vec<Entry>
+        ensures { result.items ≡ self.entries }
+    {
+        self.entries
+    }
+
     /// The entries behind a prefix of so many.
     pub fn since(&self, prefix: usize) -> &[Entry]
         requires { prefix ≤ length self.now.entries }

@@ -3,7 +3,7 @@
 //! Room for the rows is made before, so that a note needs no memory.
 #![tactic(auto)]
 
-ghost use Rattle.std.specs.Prelude.{◌≡◌, ◌<◌, ◌≤◌, ◌&&◌, ◌==◌, IfOk, length, filter, map};
+ghost use Rattle.std.specs.Prelude.{◌≡◌, ◌<◌, ◌≤◌, ◌&&◌, ◌==◌, length, filter, map};
 ghost use Rattle.hy_notes.specs.Notes.{Ascends, order_of, is_change, place_of};
 ghost use Rattle.hy_notes.specs.Telling.{NotesTell, TellingIsOne};
 
@@ -13,7 +13,6 @@ mod rows;
 pub use changes::Changes;
 use hy_change::{Change, Changes as ChangeList};
 use hy_value::Seq;
-use std::alloc::{AllocError, Global};
 
 /// A position of a table.
 #[derive(Clone, Copy, Debug, PartialEq, Eq)]
@@ -24,18 +23,20 @@ pub struct NotedPlace {
     pub pos: u32,
 }
 
-/// The notes of positions where a row was or is: those absent before and after are left out. Err is for want of
-/// memory.
-pub fn net(alloc: Global, notes: &[Change]) -> Result<ChangeList, AllocError>
-    ensures { IfOk result (λ changes. changes ≡ filter is_change notes.now) }
+/// Whether a row was or is at the position of a note.
+fn is_of_a_row(note: &Change) -> bool
+    ensures { result ≡ is_change note.now }
 {
-    let mut changes = Vec::new(alloc);
-    for note in notes {
-        if note.before.is_some() || note.after.is_some() {
-            changes.push(rows::copy_note(alloc, note)?)?;
-        }
-    }
-    Ok(Seq::from_vec(changes))
+    note.before.is_some() || note.after.is_some()
+}
+
+/// The notes of positions where a row was or is: those absent before and after are left out. It takes no memory.
+pub fn net(notes: ChangeList) -> ChangeList
+    ensures { result ≡ filter is_change notes }
+{
+    let mut changes = notes.into_vec();
+    changes.retain(|note| is_of_a_row(note));
+    Seq::from_vec(changes)
 }
 
 /// What is noted at a position after one more note, and that notes are one list where they tell the same.

@@ -123,22 +123,23 @@ fn all_rows(
 }
 
 /// An entry of the journal, with what is a change of its notes.
-fn committed(alloc: Global, entry: &Entry) -> Result<Committed, AllocError>
-    ensures { IfOk result (λ one. one ≡ told_entry entry.now) }
+fn committed(entry: Entry) -> Committed
+    ensures { result ≡ told_entry entry }
 {
-    Ok(Committed {
-        label: entry.label,
-        changes: net(alloc, entry.notes.as_slice())?,
-    })
+    let Entry { label, notes, .. } = entry;
+    Committed {
+        label,
+        changes: net(notes),
+    }
 }
 
 /// The commit order.
-fn all_committed(alloc: Global, entries: &[Entry]) -> Result<Seq<Committed>, AllocError>
-    ensures { IfOk result (λ all. all ≡ map told_entry entries.now) }
+fn all_committed(alloc: Global, entries: Vec<Entry>) -> Result<Seq<Committed>, AllocError>
+    ensures { IfOk result (λ all. all ≡ map told_entry entries.items) }
 {
     let mut all = Seq::new(alloc);
     for entry in entries {
-        all.push(committed(alloc, entry)?)?;
+        all.push(committed(entry))?;
     }
     Ok(all)
 }
@@ -186,8 +187,8 @@ impl World {
             start: next,
         };
         let tables = all_rows(alloc, &mut chunks, shapes.as_slice(), per_table, &viewer)?;
-        let order = all_committed(alloc, core.since(0))?;
         let txns = all_outcomes(alloc, sessions)?;
+        let order = all_committed(alloc, core.into_entries())?;
         Ok(Outcome {
             txns,
             order,

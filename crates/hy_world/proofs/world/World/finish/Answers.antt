@@ -24,7 +24,7 @@ returns c =
     (length c.as_slice.result.now)) c.next-next.ensures
     ∙ ap (λ (shapes : List Shape). tables_back (record { id = world.core.next; start = world.core.next }) world.chunks.items shapes world.per_table
     (length shapes)) c.as_slice.ensures) in
-    let order = c.in_ok-order.ensures ∙ ap (map told_entry) c.since.ensures in
+    let order = c.in_ok-order.ensures ∙ ap (map told_entry) c.into_entries.ensures in
     subst (λ (shown : WorldData). Tells shown outcome) c.self.view_is
     (tells c.outcomes_are_told.ensures c.reached_tables_fit.ensures world.shapes world.tables world.per_table world.chunks.items world.core
     world.sessions.items outcome c.self.invariant c.in_ok-txns.ensures order back)

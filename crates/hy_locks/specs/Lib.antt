@@ -1,0 +1,4 @@
+pub mod Laws
+pub mod Knowledge
+pub mod Rule
+pub mod Seats

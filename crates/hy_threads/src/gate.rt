@@ -1,0 +1,45 @@
+//! Where a visit stands, and who is told of it.
+
+/// When a gate is told of a visit.
+#[derive(Clone, Copy, Debug, PartialEq, Eq)]
+pub enum Moment {
+    /// Before the part is taken.
+    Before,
+    /// While the worker has the part.
+    Held,
+    /// After it was given back.
+    After,
+}
+
+/// A visit at a moment.
+#[derive(Clone, Copy, Debug, PartialEq, Eq)]
+pub struct Point {
+    /// The number of the session, from 0.
+    pub session: u32,
+    /// The number of its transaction, from 1.
+    pub txn: u32,
+    /// The number of the statement that it works on. BEGIN is 0; COMMIT and ROLLBACK have the number after the last
+    /// statement.
+    pub statement: u32,
+    /// The number of the part that it visits.
+    pub part: usize,
+    /// The moment.
+    pub moment: Moment,
+    /// Whether the visit answered the statement. False before it was made.
+    pub answered: bool,
+}
+
+/// Told of each visit of every worker, at three moments. It is shared by all workers, and a worker goes on once the
+/// call returns: one that holds a worker up while it has a part holds up all who need the part.
+pub trait Gate: Sync {
+    /// A worker stands at this point.
+    fn pass(&self, point: &Point);
+}
+
+/// A gate that holds no one up.
+#[derive(Clone, Copy, Debug)]
+pub struct OpenGate;
+
+impl Gate for OpenGate {
+    fn pass(&self, _point: &Point) {}
+}

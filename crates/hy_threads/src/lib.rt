@@ -1,0 +1,24 @@
+//! Sessions that run over shared parts, each in a thread of its own.
+//!
+//! A worker is a session with its seat. It asks its session which part it needs next, takes the part, lets the session
+//! visit it, and gives it back, until the session is at its end. A gate is told of each visit before the part is taken,
+//! while it is held, and after it was given, so that a caller may watch the run or bring about an order.
+//!
+//! A worker that finds no memory stops before its visit. Who is blocked once another found no memory stops too, since
+//! nobody may ever unblock it.
+//!
+//! An engine says by `Worked` what its sessions need and what a visit may do; `work` and `run_all` do the rest. What
+//! comes out is parts and sessions of which the engine's fact holds, and every session is at its end.
+#![tactic(auto)]
+
+mod gate;
+mod runs;
+mod threads;
+mod worked;
+mod worker;
+
+pub use gate::{Gate, Moment, OpenGate, Point};
+pub use runs::run_all;
+pub use threads::work;
+pub use worked::{Visited, Worked};
+pub use worker::Worker;

@@ -1,0 +1,153 @@
+//! A session with its seat, and its way to the end.
+ghost use Rattle.std.specs.Prelude.{◌≡◌, true, false, MatchBool, IfOk, OnErr};
+ghost use Rattle.hy_locks.specs.Seats.{number_of};
+ghost use Rattle.hy_threads.specs.declared.worked.Visited.TheVariants.{Blocked};
+ghost use Rattle.hy_threads.specs.Tasks.{IsReady, Fits, IsSameWorker, HasStopped};
+
+use crate::gate::{Gate, Moment, Point};
+use crate::worked::{Visited, Worked};
+use hy_locks::{Parts, Seat};
+use std::alloc::{AllocError, Global};
+use std::marker::Model;
+use std::sync::Wait;
+use std::sync::atomic::{AtomicBool, Ordering};
+use std::thread;
+
+// Whether a worker stops after this visit. It does where it found no memory, and raises the flag for the others; where
+// it is blocked, it does once the flag is up, since whom it waits for may have stopped.
+fn must_stop(visited: &Result<Visited, AllocError>, shortage: &AtomicBool) -> bool
+    ensures err { OnErr visited.now (result ≡ true) }
+    ensures blocked { result ≡ true → IfOk visited.now (λ v. v ≡ Blocked) }
+{
+    match visited {
+        Ok(Visited::Moved | Visited::Answered) => false,
+        Ok(Visited::Blocked) => shortage.load(Ordering::SeqCst),
+        Err(_) => {
+            shortage.store(true, Ordering::SeqCst);
+            true
+        }
+    }
+}
+
+/// A session, the seat that knows it and has no part, and whether its last run ended for want of memory, its own or
+/// another's. A clause sees it as its `Task`.
+#[derive(Drop)]
+pub struct Worker<P: Worked> {
+    seat: Seat<P>,
+    session: P::Session,
+    starved: bool,
+}
+
+impl<P: Worked> Model for Worker<P> {
+    ghost use Rattle.hy_locks.specs.Seats.{number_of};
+    ghost use Rattle.hy_threads.specs.Tasks.{Task, IsReady};
+
+    ghost Value = { Task P.Session };
+
+    ghost view = { λ w. record { home = w.seat.home; number = number_of w.seat.knows; session = w.session; starved = w.starved } };
+
+    ghost invariant = { λ w. IsReady w.seat.knows w.session };
+}
+
+impl<P: Worked> Worker<P> {
+    /// A worker of the session that this seat knows.
+    pub fn new(seat: Seat<P>, session: P::Session) -> Worker<P>
+        requires { IsReady seat.knows session }
+        ensures seat { (result.home ≡ seat.home) × (result.number ≡ number_of seat.knows) }
+        ensures session { (result.session ≡ session) × (result.starved ≡ false) }
+    {
+        Worker {
+            seat,
+            session,
+            starved: false,
+        }
+    }
+
+    /// The session's number.
+    pub fn number(&self) -> u64
+        ensures { result ≡ self.now.number }
+    {
+        self.seat.number()
+    }
+
+    /// Whether its last run ended for want of memory: it found none, or was blocked once another worker had found none.
+    pub fn is_starved(&self) -> bool
+        ensures { result ≡ self.now.starved }
+    {
+        self.starved
+    }
+
+    /// Takes it apart: the seat knows the session, and has no part.
+    pub fn end(self) -> (Seat<P>, P::Session)
+        ensures ready { IsReady result.0.knows result.1 }
+        ensures seat { (result.0.home ≡ self.home) × (number_of result.0.knows ≡ self.number) }
+        ensures session { result.1 ≡ self.session }
+    {
+        let Worker {
+            seat,
+            session,
+            starved: _,
+        } = self;
+        (seat, session)
+    }
+
+    // One visit of the part that the session needs. False where it needs none, or the worker stops before that visit.
+    fn visit_once<T: Wait, G: Gate>(
+        &mut self,
+        rt: &T,
+        alloc: Global,
+        parts: &Parts<P>,
+        gate: &G,
+        shortage: &AtomicBool,
+    ) -> bool
+        requires fits { Fits P.width_of parts.now self.old }
+        requires fed { self.old.starved ≡ false }
+        ensures same { IsSameWorker P.width_of self.old self.new }
+        ensures more { MatchBool result (self.new.starved ≡ false) (HasStopped P.point_of self.new) }
+    {
+        let Some(point) = P::need(&self.session) else {
+            return false;
+        };
+        gate.pass(&point);
+        let mut part = parts.take(rt, &mut self.seat, point.part);
+        gate.pass(&Point {
+            moment: Moment::Held,
+            ..point
+        });
+        let visited = P::visit(alloc, point.part, &mut self.session, &mut part);
+        parts.give(&mut self.seat, &self.session, point.part, part);
+        gate.pass(&Point {
+            moment: Moment::After,
+            answered: matches!(visited, Ok(Visited::Answered)),
+            ..point
+        });
+        if matches!(visited, Ok(Visited::Blocked)) {
+            thread::yield_now();
+        }
+        self.starved = must_stop(&visited, shortage);
+        !self.starved
+    }
+
+    /// Visits what the session needs, until it is at its end, finds no memory, or is blocked while the flag is up that
+    /// another worker found none. Whoever finds none raises it.
+    pub(crate) fn run<T: Wait, G: Gate>(
+        &mut self,
+        rt: &T,
+        alloc: Global,
+        parts: &Parts<P>,
+        gate: &G,
+        shortage: &AtomicBool,
+    )
+        requires { Fits P.width_of parts.now self.old }
+        ensures same { IsSameWorker P.width_of self.old self.new }
+        ensures stopped { HasStopped P.point_of self.new }
+    {
+        self.starved = false;
+        for _ in rt.forever() {
+            if !self.visit_once(rt, alloc, parts, gate, shortage) {
+                return;
+            }
+        }
+        unreachable!()
+    }
+}

@@ -7,3 +7,4 @@ pub mod Preparing
 pub mod Reading
 pub mod Visitors
 pub mod Written
+pub mod Standing

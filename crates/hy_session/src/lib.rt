@@ -4,6 +4,7 @@
 ghost use Rattle.std.specs.Prelude.{◌≡◌, ◌<◌, ◌≤◌, [], None, length};
 ghost use Rattle.hy_limits.specs.declared.TheConstants.{MOST_TABLES, MOST_TXNS};
 ghost use Rattle.hy_event.specs.Needs.{need_of};
+ghost use Rattle.hy_session.specs.Standing.{standing_of};
 
 mod answers;
 mod copying;
@@ -119,6 +120,19 @@ pub struct Layout {
     pub rows: u32,
 }
 
+/// Where a session stands in its script.
+#[derive(Clone, Copy, Debug, PartialEq, Eq)]
+pub struct Standing {
+    /// The session's number, from 0.
+    pub session: u32,
+    /// The number of its transaction that is open or comes next, from 1. At the end of its script none comes, and the
+    /// number is one more than that of the last.
+    pub txn: u32,
+    /// The number of the statement that comes next, from 1; 0 is BEGIN. COMMIT and ROLLBACK come after the last one, and an
+    /// undo has the number of what began it. The number stands still at `u32::MAX`.
+    pub statement: u32,
+}
+
 impl Session {
     /// A session of this number that has run nothing of its program. It takes no memory.
     pub fn new(
@@ -167,6 +181,23 @@ impl Session {
                 None => Need::Core,
                 Some(now) => self.needed_by(txn, now),
             },
+        }
+    }
+
+    /// Where it stands in its script.
+    pub fn standing(&self) -> Standing
+        ensures { result ≡ standing_of self.entry.now }
+    {
+        let statement = match &self.now {
+            None => 0,
+            Some(now) => u32::try_from(now.replies.len())
+                .unwrap_or(u32::MAX)
+                .saturating_add(1),
+        };
+        Standing {
+            session: self.number,
+            txn: self.done.len() as u32 + 1,
+            statement,
         }
     }
 }

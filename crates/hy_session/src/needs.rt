@@ -3,6 +3,7 @@
 ghost use Rattle.std.specs.Prelude.{◌≡◌, slice_index_or};
 ghost use Rattle.hy_bound.specs.Records.{shape_of};
 ghost use Rattle.hy_event.specs.Needs.{checks_of, insert_need, statement_need, phase_need};
+ghost use Rattle.hy_session.specs.Standing.{needed_number};
 
 use crate::{Running, Session};
 use hy_bound::{Bound, Txn, table_shape};
@@ -76,5 +77,20 @@ impl Session {
                 self.left_of_written(now, visited)
             }
         }
+    }
+
+    /// The number of the part that it needs for its next visit: the chunks come by table and then chunk, the core is
+    /// behind them. None at the end of its script, and where it needs none of its tables' parts.
+    pub fn needed_part(&self) -> Option<usize>
+        ensures { result ≡ needed_number self.entry.now }
+    {
+        let per_table = self.chunks as usize;
+        let chunks = self.shapes.len() * per_table;
+        let number = match self.next() {
+            Need::Core => chunks,
+            Need::Chunk { table, chunk } => table as usize * per_table + chunk as usize,
+            Need::Done => return None,
+        };
+        if number <= chunks { Some(number) } else { None }
     }
 }

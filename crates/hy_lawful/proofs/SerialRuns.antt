@@ -22,7 +22,6 @@ use Rattle.hy_machine.specs.Sessions.{session_at, snapshot}
 use Rattle.hy_machine.specs.Writes.{written}
 use Rattle.hy_machine.specs.Validation.{committed_of}
 use Rattle.hy_machine.specs.Outcomes.{txn_outcome_of, outcome_of}
-use Rattle.hy_machine.specs.Runs.{IsReached, RunsAreSteps, RunsEnd, run_of}
 use Rattle.hy_replay.specs.Ran.{ran}
 use Rattle.hy_replay.specs.Laws.{RunsAgain, RunsKeepWidths, bags_of}
 use Rattle.hy_replay.specs.BagLaws.{RunsAreAlone, RunsLogAlone, alone_as}
@@ -34,7 +33,7 @@ use Rattle.hy_lawful.specs.Serial.{AreFirstOf, IsSerial, RepliesAreOfStart, Repl
 use Rattle.hy_lawful.specs.Passing.{PassesBy, ChangesLieIn}
 use Rattle.hy_lawful.specs.Written.{ReadersWriteNothing, PlacesWhatItInserts, WritesWhatItPlaces, WritesWhatItSelects}
 use Rattle.hy_lawful.specs.Written.{ChangesWhatWasWritten, LeavesWhatFollows}
-use Rattle.hy_lawful.specs.Laws.{SerialRuns}
+use Rattle.hy_lawful.specs.Laws.{SerialEnds}
 use Rattle.hy_lawful.proofs.Followers.{done_fits}
 use Rattle.hy_lawful.proofs.Outcomes.{each_outcome}
 use Rattle.hy_lawful.proofs.Over.{is_over}
@@ -197,16 +196,14 @@ end_serial laws setting state end = record {
       selected_written setting state.order number before finished (is_ended setting state end number before finished at));
 }
 
--- ---- runs
+-- ---- the end
 
-pub serial_runs : RunsAreSteps → RunsEnd → ReachedHaveRun → ReachedPassUnseen → RunsAgain → RunsKeepWidths → RunsAreAlone → RunsLogAlone
-    → SerialRuns
-serial_runs steps ends ran unseen again keeps alone logs setting schedule chunked script =
-    let state : State = run_of setting schedule in
-    let reached : IsReached setting state = steps setting schedule in
+-- a state that the machine comes to, and in which every session has ended, has a serializable outcome
+pub serial_ends : ReachedHaveRun → ReachedPassUnseen → RunsAgain → RunsKeepWidths → RunsAreAlone → RunsLogAlone → SerialEnds
+serial_ends ran unseen again keeps alone logs setting state reached ended chunked script =
     end_serial (record { again = again; keeps = keeps; alone = alone; logs = logs }) setting state
     (record {
-      over = is_over setting state (reached_fits setting state reached) (ends setting schedule);
+      over = is_over setting state (reached_fits setting state reached) ended;
       ran = ran setting state chunked reached;
       unseen = unseen setting state reached;
       passes = reached_passes setting state reached;

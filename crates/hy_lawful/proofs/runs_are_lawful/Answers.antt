@@ -1,13 +1,10 @@
 use Rattle.hy_machine.specs.Runs.{run_of}
-use Rattle.hy_lawful.proofs.Laws.{lawful}
-use Rattle.hy_lawful.proofs.SerialRuns.{serial_runs}
 use Rattle.hy_lawful.proofs.runs_are_lawful.Goals as goal
 
 pub returns-clause-lawful : goal.returns-clause-lawful
-returns-clause-lawful c = λ setting schedule. lawful setting (run_of setting schedule) (c.runs_are_steps.ensures.steps setting schedule)
-    (c.runs_are_steps.ensures.ends setting schedule)
+returns-clause-lawful c = λ setting schedule. c.ends_are_lawful.ensures.lawful setting (run_of setting schedule)
+    (c.runs_are_steps.ensures.steps setting schedule) (c.runs_are_steps.ensures.ends setting schedule)
 
 pub returns-clause-serial : goal.returns-clause-serial
-returns-clause-serial c = serial_runs c.runs_are_steps.ensures.steps c.runs_are_steps.ensures.ends c.transactions_have_run.ensures
-    c.the_committed_passed_unseen.ensures c.what_is_unseen_leaves_a_run.ensures c.a_run_keeps_widths.ensures c.a_run_over_cells_is_alone.ensures.alone
-    c.a_run_over_cells_is_alone.ensures.records
+returns-clause-serial c = λ setting schedule. c.ends_are_lawful.ensures.serial setting (run_of setting schedule)
+    (c.runs_are_steps.ensures.steps setting schedule) (c.runs_are_steps.ensures.ends setting schedule)

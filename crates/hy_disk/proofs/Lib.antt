@@ -1,0 +1,3 @@
+mod Crashes
+mod Offers
+mod Replays

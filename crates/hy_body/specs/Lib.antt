@@ -1,0 +1,4 @@
+pub mod Bytes
+pub mod Bodies
+pub mod Reading
+pub mod Laws

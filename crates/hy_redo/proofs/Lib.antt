@@ -1,0 +1,7 @@
+pub mod Deciding
+pub mod Fronts
+pub mod Touching
+pub mod Writing
+pub mod Appending
+pub mod Redoing
+pub mod Outcomes

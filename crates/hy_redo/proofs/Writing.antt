@@ -1,0 +1,15 @@
+-- A write and a sync after it are one write.
+use Rattle.std.proofs.Common.{◌≡◌, ℕ, List, Option, Some, sym, ◌∙◌, arith, inr, ⊎_elim}
+use Rattle.hy_disk.specs.Calls.{Writes, Syncs}
+
+module _ {D : Type 0} (held : D → Option (List ℕ)) (clock : D → ℕ) (image : D → List ℕ → Type 0) (image_since : D → ℕ → List ℕ → Type 0) where
+  pub surely : ((disk : D) (bytes : List ℕ) → held disk ≡ Some bytes → image disk bytes) → (at count : ℕ) (before between after : D)
+      → Writes clock image image_since at count before between → Syncs held clock image image_since between after → held after ≡ held between
+      → Writes clock image image_since at count before after
+  surely held_is_image at count before between after w s same = record {
+    later = omega (arith, w.later, s.later);
+    images = λ bytes now. w.images bytes (s.images bytes now);
+    moments = λ time bytes le since.
+        ⊎_elim (λ past. w.moments time bytes le past) (λ is. inr (w.images bytes (held_is_image between bytes (sym same ∙ is))))
+        (s.moments time bytes (omega (arith, le, w.later)) since);
+  }

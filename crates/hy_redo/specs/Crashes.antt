@@ -1,0 +1,30 @@
+-- What the calls on a log leave, whatever moment a crash comes at.
+use Rattle.std.specs.Prelude.{◌⊎◌, ℕ, ◌+◌, ◌≤◌, List, [], ◌∷◌, ◌++◌, length}
+use Rattle.hy_journal.specs.declared.Entry.{Entry}
+use Rattle.hy_body.specs.Bytes.{record_of}
+use Rattle.hy_redo.specs.Logs.{IsLogOf}
+
+-- the offset of the next gate, behind the record of an entry
+abbrev pub next_gate : ℕ → Entry → ℕ
+next_gate gate entry = gate + 1 + length (record_of entry)
+
+-- each of these images is the log of the entries, with the closed gate at this offset
+abbrev pub AreLogsOf : (List ℕ → Type 0) → List Entry → ℕ → Type 0
+AreLogsOf images entries gate = (bytes : List ℕ) → images bytes → IsLogOf entries gate bytes
+
+-- each of these images is the log of some entries, with the closed gate at this offset
+abbrev pub AreClosedAt : (List ℕ → Type 0) → ℕ → Type 0
+AreClosedAt images gate = (bytes : List ℕ) → images bytes → (entries : List Entry) × IsLogOf entries gate bytes
+
+-- the log of the entries without one more, or with it
+abbrev pub IsBeforeOrAfter : List Entry → Entry → ℕ → List ℕ → Type 0
+IsBeforeOrAfter entries entry gate bytes = IsLogOf entries gate bytes ⊎ IsLogOf (entries ++ entry ∷ []) (next_gate gate entry) bytes
+
+-- A crash at any moment of the call leaves the log of the entries without one more, or with it.
+pub record Appends {D : Type 0} (clock : D → ℕ) (image_since : D → ℕ → List ℕ → Type 0) (entries : List Entry) (entry : Entry) (gate : ℕ)
+    (before after : D) : Type 0 where
+  pub later : clock before ≤ clock after
+  pub each : (bytes : List ℕ) → image_since after (clock before) bytes → IsBeforeOrAfter entries entry gate bytes
+  -- for a run that began earlier
+  pub moments : (time : ℕ) (bytes : List ℕ) → time ≤ clock before → image_since after time bytes
+      → image_since before time bytes ⊎ IsBeforeOrAfter entries entry gate bytes

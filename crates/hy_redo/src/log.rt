@@ -1,0 +1,138 @@
+//! The log on a disk.
+
+ghost use Rattle.std.specs.Prelude.{◌≡◌, ℕ, ◌+◌, ◌^◌, ◌<◌, ◌≤◌, List, [], ◌∷◌, ◌++◌, length, option_map, IfSome, IfOk, OnOk, OnErr, IsErrOf};
+ghost use Rattle.hy_outside.specs.Faults.{Rose};
+ghost use Rattle.hy_journal.specs.declared.Entry.{Entry};
+ghost use Rattle.hy_disk.specs.Bytes.{overwritten, ReachesTo};
+ghost use Rattle.hy_disk.specs.Calls.{Stays, Writes, IsDurable};
+ghost use Rattle.hy_redo.specs.Logs.{log_of, IsWholeLog};
+ghost use Rattle.hy_redo.specs.Crashes.{next_gate, AreLogsOf, AreClosedAt, Appends};
+
+use crate::{AppendError, CreateError};
+use hy_body::encode;
+use hy_disk::{Disk, DiskError};
+use hy_journal::Entry;
+use std::alloc::Global;
+use std::marker::Model;
+
+/// The first bytes of a log, with a closed gate behind them.
+const EMPTY_LOG: [u8; 9] = *b"HYREDO1\n\0";
+
+/// Where the closed gate stands behind those.
+const FIRST_GATE: u64 = 8;
+
+/// A gate that is open.
+const OPEN: u8 = 1;
+
+/// A log that is written. Contracts see the offset of its closed gate, in bytes.
+#[derive(Drop, Debug)]
+pub struct Log {
+    gate: u64,
+}
+
+impl Model for Log {
+    ghost use Rattle.std.specs.Prelude.{ℕ};
+
+    ghost Value = { ℕ };
+
+    ghost view = { λ log. log.gate };
+}
+
+/// Writes bytes at an offset, and makes them sure.
+fn write_surely<D: Disk>(disk: &mut D, at: u64, from: &[u8]) -> Result<(), DiskError>
+    requires within { ReachesTo (D.held disk.old) at }
+    requires in_range { at + length from.now < 2 ^ 64 }
+    ensures written { OnOk result (D.held disk.new ≡ option_map (λ bytes. overwritten bytes at from.now) (D.held disk.old)) }
+    ensures durable { OnOk result (IsDurable (D.held disk.new) (D.image disk.new)) }
+    ensures writes { Writes D.clock D.image D.image_since at (length from.now) disk.old disk.new }
+    ensures stays { IsErrOf result DiskError.OutOfMemory → Stays D.clock D.image D.image_since disk.old disk.new }
+    ensures fault { IsErrOf result DiskError.Failed → Rose (D.faults disk.old) (D.faults disk.new) }
+    ensures steady { ¬ IsErrOf result DiskError.Failed → D.faults disk.new ≡ D.faults disk.old }
+    ensures never_fell { D.faults disk.old ≤ D.faults disk.new }
+{
+    disk.write_at(at, from)?;
+    match disk.sync() {
+        Ok(()) => Ok(()),
+        Err(_) => Err(DiskError::Failed),
+    }
+}
+
+/// Makes an empty log on an empty disk: the header and a closed gate.
+pub fn create<D: Disk>(disk: &mut D) -> Result<Log, CreateError>
+    ensures logs { IfOk result (λ log. AreLogsOf (D.image disk.new) [] log) }
+    ensures held { OnOk result (D.held disk.new ≡ option_map (λ _. log_of []) (D.held disk.old)) }
+    ensures gate { IfOk result (λ log. log + 1 ≡ length (log_of [])) }
+    ensures empty { ¬ (IsErrOf result CreateError.NotEmpty) → ¬ (IsErrOf result CreateError.DiskFault) → IfSome (D.held disk.old) (λ bytes. bytes ≡ []) }
+    ensures not_empty { IsErrOf result CreateError.NotEmpty → IfSome (D.held disk.old) (λ bytes. 0 < length bytes) }
+    ensures untouched { IsErrOf result CreateError.NotEmpty → Stays D.clock D.image D.image_since disk.old disk.new }
+    ensures as_it_was { IsErrOf result CreateError.NotEmpty → D.held disk.new ≡ D.held disk.old }
+    ensures fault { IsErrOf result CreateError.DiskFault → Rose (D.faults disk.old) (D.faults disk.new) }
+    ensures steady { ¬ IsErrOf result CreateError.DiskFault → D.faults disk.new ≡ D.faults disk.old }
+    ensures never_fell { D.faults disk.old ≤ D.faults disk.new }
+{
+    let len = disk.len()?;
+    if len != 0 {
+        return Err(CreateError::NotEmpty);
+    }
+    write_surely(disk, 0, &EMPTY_LOG)?;
+    Ok(Log { gate: FIRST_GATE })
+}
+
+/// Writes the record of an entry and a new closed gate behind the gate at this offset, and opens that once they are
+/// sure. Gives the offset of the new one.
+fn append_at<D: Disk>(
+    alloc: Global,
+    gate: u64,
+    disk: &mut D,
+    entry: &Entry,
+) -> Result<u64, AppendError>
+    requires closed { AreClosedAt (D.image disk.old) gate }
+    requires in_range { next_gate gate entry.now < 2 ^ 63 }
+    ensures moments { (entries : List Entry) → AreLogsOf (D.image disk.old) entries gate
+        → Appends D.clock D.image_since entries entry.now gate disk.old disk.new }
+    ensures done { OnOk result ((entries : List Entry) → AreLogsOf (D.image disk.old) entries gate
+        → AreLogsOf (D.image disk.new) (entries ++ entry.now ∷ []) (next_gate gate entry.now)) }
+    ensures bytes { OnOk result ((entries : List Entry) → IsWholeLog (D.held disk.old) entries gate
+        → IsWholeLog (D.held disk.new) (entries ++ entry.now ∷ []) (next_gate gate entry.now)) }
+    ensures gate { IfOk result (λ next. next ≡ next_gate gate entry.now) }
+    ensures still { IsErrOf result AppendError.OutOfMemory → (entries : List Entry) → AreLogsOf (D.image disk.old) entries gate
+        → AreLogsOf (D.image disk.new) entries gate }
+    ensures fault { IsErrOf result AppendError.DiskFault → Rose (D.faults disk.old) (D.faults disk.new) }
+    ensures steady { ¬ IsErrOf result AppendError.DiskFault → D.faults disk.new ≡ D.faults disk.old }
+    ensures never_fell { D.faults disk.old ≤ D.faults disk.new }
+{
+    let record = encode(alloc, entry)?;
+    write_surely(disk, gate + 1, record.as_slice())?;
+    write_surely(disk, gate, &[OPEN])?;
+    Ok(gate + record.len() as u64)
+}
+
+/// Adds an entry at the end. It writes the record and a new closed gate behind the closed one, and once they are sure
+/// it opens that. Of a disk that has answered a fault no other entry may be added.
+pub fn append<D: Disk>(
+    alloc: Global,
+    log: &mut Log,
+    disk: &mut D,
+    entry: &Entry,
+) -> Result<(), AppendError>
+    requires closed { AreClosedAt (D.image disk.old) log.old }
+    requires in_range { next_gate log.old entry.now < 2 ^ 63 }
+    // A crash at any moment leaves the log as it was, or with the entry.
+    ensures moments { (entries : List Entry) → AreLogsOf (D.image disk.old) entries log.old
+        → Appends D.clock D.image_since entries entry.now log.old disk.old disk.new }
+    ensures done { OnOk result ((entries : List Entry) → AreLogsOf (D.image disk.old) entries log.old
+        → AreLogsOf (D.image disk.new) (entries ++ entry.now ∷ []) log.new) }
+    ensures bytes { OnOk result ((entries : List Entry) → IsWholeLog (D.held disk.old) entries log.old
+        → IsWholeLog (D.held disk.new) (entries ++ entry.now ∷ []) log.new) }
+    ensures gate { OnOk result (log.new ≡ next_gate log.old entry.now) }
+    // After an error the log is as it was, and where memory ran out an append may follow.
+    ensures same { OnErr result (log.new ≡ log.old) }
+    ensures still { IsErrOf result AppendError.OutOfMemory → (entries : List Entry) → AreLogsOf (D.image disk.old) entries log.old
+        → AreLogsOf (D.image disk.new) entries log.new }
+    ensures fault { IsErrOf result AppendError.DiskFault → Rose (D.faults disk.old) (D.faults disk.new) }
+    ensures steady { ¬ IsErrOf result AppendError.DiskFault → D.faults disk.new ≡ D.faults disk.old }
+    ensures never_fell { D.faults disk.old ≤ D.faults disk.new }
+{
+    log.gate = append_at(alloc, log.gate, disk, entry)?;
+    Ok(())
+}

@@ -1,0 +1,116 @@
+//! One transaction that changes the row at position 0 of the one table from 1 to 5. The bytes come from outside.
+
+use hy_body::{HeldTable, HeldTables, encode};
+use hy_change::Change;
+use hy_disk::MemDisk;
+use hy_journal::Entry;
+use hy_redo::{RecoverError, append, create, recover};
+use hy_stamp::Label;
+use hy_value::{Kind, Row, Seq, Value};
+use std::alloc::{AllocError, Global};
+use std::test::*;
+
+/// The log of that transaction.
+const LOG: [u8; 74] = [
+    72, 89, 82, 69, 68, 79, 49, 10, 1, 0, 0, 0, 0, 0, 0, 0, 56, 0, 0, 0, 0, 0, 0, 0, 1, 0, 0, 0, 0,
+    0, 0, 0, 2, 0, 0, 0, 0, 0, 0, 0, 3, 0, 0, 0, 1, 0, 0, 0, 0, 0, 0, 0, 0, 1, 1, 0, 0, 0, 0, 0, 0,
+    0, 1, 1, 1, 0, 0, 0, 0, 0, 0, 0, 5, 0,
+];
+
+/// A row of one number.
+fn row(alloc: Global, number: i64) -> Result<Row, AllocError> {
+    let mut values = Vec::new(alloc);
+    values.push(Value::Int(number))?;
+    Ok(Seq::from_vec(values))
+}
+
+/// A table of one column, with one row of this number and a position that has none.
+fn tables(alloc: Global, number: i64) -> Result<HeldTables, AllocError> {
+    let mut rows = Vec::new(alloc);
+    rows.push(Some(row(alloc, number)?))?;
+    rows.push(None)?;
+    let mut tables = Vec::new(alloc);
+    tables.push(HeldTable {
+        kinds: Seq::from_slice(alloc, &[Kind::Int])?,
+        rows: Seq::from_vec(rows),
+    })?;
+    Ok(Seq::from_vec(tables))
+}
+
+/// The entry of the transaction: it noted a position too that had no row and has none.
+fn entry(alloc: Global) -> Result<Entry, AllocError> {
+    let mut notes = Vec::new(alloc);
+    notes.push(Change {
+        table: 0,
+        pos: 0,
+        before: Some(row(alloc, 1)?),
+        after: Some(row(alloc, 5)?),
+    })?;
+    notes.push(Change {
+        table: 0,
+        pos: 1,
+        before: None,
+        after: None,
+    })?;
+    Ok(Entry {
+        label: Label { session: 0, txn: 1 },
+        start: 2,
+        time: 3,
+        notes: Seq::from_vec(notes),
+    })
+}
+
+/// A disk of these bytes, of which no call fails.
+fn disk_of(alloc: Global, bytes: &[u8]) -> Result<MemDisk, AllocError> {
+    MemDisk::new(alloc, Vec::from_slice(alloc, bytes)?, Vec::new(alloc))
+}
+
+/// Whether the one table has this number at position 0, and no row at position 1.
+fn has_number(tables: &HeldTables, number: i64) -> bool {
+    match tables.as_slice() {
+        [held] => match held.rows.as_slice() {
+            [Some(row), None] => match row.as_slice() {
+                [Value::Int(found)] => *found == number,
+                _ => false,
+            },
+            _ => false,
+        },
+        _ => false,
+    }
+}
+
+#[test]
+fn recovers_one_change(rt: HostRuntime) -> Result<(), Fail> {
+    let mut disk = disk_of(rt.alloc(), &LOG)?;
+    let found = recover(rt.alloc(), &mut disk, tables(rt.alloc(), 1)?)?;
+    assert!(rt; has_number(&found, 5));
+    Ok(())
+}
+
+#[test]
+fn refuses_a_log_that_is_cut(rt: HostRuntime) -> Result<(), Fail> {
+    let mut disk = disk_of(rt.alloc(), &LOG[..40])?;
+    let found = recover(rt.alloc(), &mut disk, tables(rt.alloc(), 1)?);
+    assert!(rt; matches!(found, Err(RecoverError::Damaged { at: 8 })));
+    Ok(())
+}
+
+#[test]
+fn refuses_another_row_before(rt: HostRuntime) -> Result<(), Fail> {
+    let mut disk = disk_of(rt.alloc(), &LOG)?;
+    let found = recover(rt.alloc(), &mut disk, tables(rt.alloc(), 2)?);
+    assert!(rt; matches!(found, Err(RecoverError::Damaged { at: 8 })));
+    Ok(())
+}
+
+#[test]
+fn writes_one_change(rt: HostRuntime) -> Result<(), Fail> {
+    let mut disk = disk_of(rt.alloc(), &[])?;
+    let mut log = create(&mut disk)?;
+    let entry = entry(rt.alloc())?;
+    let record = encode(rt.alloc(), &entry)?;
+    assert!(rt; record.len() < 100);
+    append(rt.alloc(), &mut log, &mut disk, &entry)?;
+    assert_eq!(rt; disk.bytes(), LOG.as_slice());
+    Ok(())
+}

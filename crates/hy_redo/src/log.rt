@@ -46,6 +46,7 @@ fn write_surely<D: Disk>(disk: &mut D, at: u64, from: &[u8]) -> Result<(), DiskE
     ensures durable { OnOk result (IsDurable (D.held disk.new) (D.image disk.new)) }
     ensures writes { Writes D.clock D.image D.image_since at (length from.now) disk.old disk.new }
     ensures stays { IsErrOf result DiskError.OutOfMemory → Stays D.clock D.image D.image_since disk.old disk.new }
+    ensures kept { IsErrOf result DiskError.OutOfMemory → D.held disk.new ≡ D.held disk.old }
     ensures fault { IsErrOf result DiskError.Failed → Rose (D.faults disk.old) (D.faults disk.new) }
     ensures steady { ¬ IsErrOf result DiskError.Failed → D.faults disk.new ≡ D.faults disk.old }
     ensures never_fell { D.faults disk.old ≤ D.faults disk.new }
@@ -66,6 +67,9 @@ pub fn create<D: Disk>(disk: &mut D) -> Result<Log, CreateError>
     ensures not_empty { IsErrOf result CreateError.NotEmpty → IfSome (D.held disk.old) (λ bytes. 0 < length bytes) }
     ensures untouched { IsErrOf result CreateError.NotEmpty → Stays D.clock D.image D.image_since disk.old disk.new }
     ensures as_it_was { IsErrOf result CreateError.NotEmpty → D.held disk.new ≡ D.held disk.old }
+    // Where memory ran out the disk is as it was too.
+    ensures unchanged { IsErrOf result CreateError.OutOfMemory → Stays D.clock D.image D.image_since disk.old disk.new }
+    ensures kept { IsErrOf result CreateError.OutOfMemory → D.held disk.new ≡ D.held disk.old }
     ensures fault { IsErrOf result CreateError.DiskFault → Rose (D.faults disk.old) (D.faults disk.new) }
     ensures steady { ¬ IsErrOf result CreateError.DiskFault → D.faults disk.new ≡ D.faults disk.old }
     ensures never_fell { D.faults disk.old ≤ D.faults disk.new }

@@ -9,11 +9,13 @@ ghost use Rattle.hy_disk.specs.declared.DiskError.TheVariants.{OutOfMemory};
 ghost use Rattle.hy_disk.specs.Bytes.{overwritten, HasLength, ReachesTo, ReadsAt, TouchedWhereTold};
 ghost use Rattle.hy_disk.specs.Calls.{Stays, Writes, Syncs, IsDurable};
 
+mod absent;
 mod bytes;
 mod file;
 mod memory;
 mod replay;
 
+pub use absent::NoDisk;
 pub use file::FileDisk;
 use hy_outside::Failed;
 pub use memory::MemDisk;

@@ -16,6 +16,10 @@ AreLogsOf images entries gate = (bytes : List ℕ) → images bytes → IsLogOf 
 abbrev pub AreClosedAt : (List ℕ → Type 0) → ℕ → Type 0
 AreClosedAt images gate = (bytes : List ℕ) → images bytes → (entries : List Entry) × IsLogOf entries gate bytes
 
+-- images that are the log of some entries are closed at its gate
+pub closed_of : (images : List ℕ → Type 0) (entries : List Entry) (gate : ℕ) → AreLogsOf images entries gate → AreClosedAt images gate
+closed_of images entries gate logs bytes image = (entries, logs bytes image)
+
 -- the log of the entries without one more, or with it
 abbrev pub IsBeforeOrAfter : List Entry → Entry → ℕ → List ℕ → Type 0
 IsBeforeOrAfter entries entry gate bytes = IsLogOf entries gate bytes ⊎ IsLogOf (entries ++ entry ∷ []) (next_gate gate entry) bytes

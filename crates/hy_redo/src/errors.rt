@@ -26,7 +26,7 @@ pub enum CreateError {
 pub enum AppendError {
     /// A call of the disk failed. The entry may be in the log or not; no other may be appended.
     DiskFault,
-    /// Memory ran out. The entry is not in the log.
+    /// Memory ran out; where the log would grow past 2^63 bytes too. The entry is not in the log.
     OutOfMemory,
 }
 

@@ -12,7 +12,7 @@ use crate::{AppendError, CreateError};
 use hy_body::encode;
 use hy_disk::{Disk, DiskError};
 use hy_journal::Entry;
-use std::alloc::Global;
+use std::alloc::{AllocError, Global};
 use std::marker::Model;
 
 /// The first bytes of a log, with a closed gate behind them.
@@ -23,6 +23,9 @@ const FIRST_GATE: u64 = 8;
 
 /// A gate that is open.
 const OPEN: u8 = 1;
+
+/// The most bytes that a log has.
+const LONGEST: u64 = 1 << 63;
 
 /// A log that is written. Contracts see the offset of its closed gate, in bytes.
 #[derive(Drop, Debug)]
@@ -70,6 +73,7 @@ pub fn create<D: Disk>(disk: &mut D) -> Result<Log, CreateError>
     // Where memory ran out the disk is as it was too.
     ensures unchanged { IsErrOf result CreateError.OutOfMemory → Stays D.clock D.image D.image_since disk.old disk.new }
     ensures kept { IsErrOf result CreateError.OutOfMemory → D.held disk.new ≡ D.held disk.old }
+    ensures later { D.clock disk.old ≤ D.clock disk.new }
     ensures fault { IsErrOf result CreateError.DiskFault → Rose (D.faults disk.old) (D.faults disk.new) }
     ensures steady { ¬ IsErrOf result CreateError.DiskFault → D.faults disk.new ≡ D.faults disk.old }
     ensures never_fell { D.faults disk.old ≤ D.faults disk.new }
@@ -82,8 +86,21 @@ pub fn create<D: Disk>(disk: &mut D) -> Result<Log, CreateError>
     Ok(Log { gate: FIRST_GATE })
 }
 
+/// The offset of the last of so many bytes behind the gate at this offset. Where the log would grow past 2^63 bytes that
+/// is want of memory.
+fn last_behind(gate: u64, count: usize) -> Result<u64, AllocError>
+    ensures last { IfOk result (λ last. last ≡ gate + count) }
+    ensures within { OnOk result (gate + count < 2 ^ 63) }
+    ensures past { OnErr result (2 ^ 63 ≤ gate + count) }
+{
+    match gate.checked_add(count as u64) {
+        Some(last) if last < LONGEST => Ok(last),
+        _ => Err(AllocError),
+    }
+}
+
 /// Writes the record of an entry and a new closed gate behind the gate at this offset, and opens that once they are
-/// sure. Gives the offset of the new one.
+/// sure. Gives the offset of the new one. Nothing is written where the log would grow past 2^63 bytes.
 fn append_at<D: Disk>(
     alloc: Global,
     gate: u64,
@@ -91,9 +108,9 @@ fn append_at<D: Disk>(
     entry: &Entry,
 ) -> Result<u64, AppendError>
     requires closed { AreClosedAt (D.image disk.old) gate }
-    requires in_range { next_gate gate entry.now < 2 ^ 63 }
     ensures moments { (entries : List Entry) → AreLogsOf (D.image disk.old) entries gate
         → Appends D.clock D.image_since entries entry.now gate disk.old disk.new }
+    ensures later { D.clock disk.old ≤ D.clock disk.new }
     ensures done { OnOk result ((entries : List Entry) → AreLogsOf (D.image disk.old) entries gate
         → AreLogsOf (D.image disk.new) (entries ++ entry.now ∷ []) (next_gate gate entry.now)) }
     ensures bytes { OnOk result ((entries : List Entry) → IsWholeLog (D.held disk.old) entries gate
@@ -106,13 +123,15 @@ fn append_at<D: Disk>(
     ensures never_fell { D.faults disk.old ≤ D.faults disk.new }
 {
     let record = encode(alloc, entry)?;
+    let next = last_behind(gate, record.len())?;
     write_surely(disk, gate + 1, record.as_slice())?;
     write_surely(disk, gate, &[OPEN])?;
-    Ok(gate + record.len() as u64)
+    Ok(next)
 }
 
 /// Adds an entry at the end. It writes the record and a new closed gate behind the closed one, and once they are sure
-/// it opens that. Of a disk that has answered a fault no other entry may be added.
+/// it opens that. Of a disk that has answered a fault no other entry may be added. Want of room is told as want of
+/// memory: OutOfMemory is the answer where the log would grow past 2^63 bytes too, and then nothing was written.
 pub fn append<D: Disk>(
     alloc: Global,
     log: &mut Log,
@@ -120,10 +139,10 @@ pub fn append<D: Disk>(
     entry: &Entry,
 ) -> Result<(), AppendError>
     requires closed { AreClosedAt (D.image disk.old) log.old }
-    requires in_range { next_gate log.old entry.now < 2 ^ 63 }
     // A crash at any moment leaves the log as it was, or with the entry.
     ensures moments { (entries : List Entry) → AreLogsOf (D.image disk.old) entries log.old
         → Appends D.clock D.image_since entries entry.now log.old disk.old disk.new }
+    ensures later { D.clock disk.old ≤ D.clock disk.new }
     ensures done { OnOk result ((entries : List Entry) → AreLogsOf (D.image disk.old) entries log.old
         → AreLogsOf (D.image disk.new) (entries ++ entry.now ∷ []) log.new) }
     ensures bytes { OnOk result ((entries : List Entry) → IsWholeLog (D.held disk.old) entries log.old

@@ -126,11 +126,14 @@ table_lines names table (rows ∷ tables) =
     ++ flat_map row_line rows
     ++ table_lines names (suc table) tables
 
+-- the tables, and the last line
+abbrev pub tables_text : Names → List (List (List Value)) → List ℕ
+tables_text names tables = table_lines names 0 tables ++ line (codes "end")
+
 -- what `run` writes of an outcome
 abbrev pub text : Names → Outcome → List ℕ
 text names outcome =
     flat_map (txn_text names) outcome.txns
     ++ line (codes "order " ++ decimal (length outcome.order))
     ++ order_lines names 0 outcome.order
-    ++ table_lines names 0 outcome.tables
-    ++ line (codes "end")
+    ++ tables_text names outcome.tables

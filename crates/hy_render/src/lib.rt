@@ -8,7 +8,7 @@ ghost use Rattle.std.specs.Fmt.{decimal, signed_decimal};
 ghost use Rattle.hy_value.specs.Print.{BeginsWith};
 ghost use Rattle.hy_render.specs.Report.{line, word, table_name, label_name, place_name, row_line, group_line, reply_text, ending_text, wrote_line};
 ghost use Rattle.hy_render.specs.Report.{placed_line, placed_lines, start_line, txn_text, row_or_none, versions, change_line, entry_line};
-ghost use Rattle.hy_render.specs.Report.{order_lines, table_line, table_lines, text};
+ghost use Rattle.hy_render.specs.Report.{order_lines, table_line, table_lines, tables_text, text};
 
 mod laws;
 mod summary;
@@ -151,7 +151,28 @@ fn print_outcome(names: &Names, outcome: &Outcome, out: &mut Vec<u8>) -> Result<
     print_txns(names, outcome.txns.as_slice(), out)?;
     print_count(b"order ", outcome.order.len(), out)?;
     print_order(names, outcome.order.as_slice(), out)?;
-    print_tables(names, outcome.tables.as_slice(), out)?;
+    print_last(names, outcome.tables.as_slice(), out)
+}
+
+/// Appends tables as the text of an outcome ends with them. Without memory the buffer is as it was.
+pub fn render_tables(names: &Names, tables: &[Rows], out: &mut Vec<u8>) -> Result<(), AllocError>
+    ensures ok { OnOk result (out.new.items ≡ out.old.items ++ tables_text names.now tables.now) }
+    ensures err { OnErr result (out.new.items ≡ out.old.items) }
+{
+    let before = out.len();
+    let done = print_last(names, tables, out);
+    if done.is_err() {
+        out.truncate(before);
+    }
+    done
+}
+
+/// Appends the tables and the last line.
+fn print_last(names: &Names, tables: &[Rows], out: &mut Vec<u8>) -> Result<(), AllocError>
+    ensures ok { OnOk result (out.new.items ≡ out.old.items ++ tables_text names.now tables.now) }
+    ensures begun { BeginsWith out.old.items out.new.items }
+{
+    print_tables(names, tables, out)?;
     print_line(b"end", out)
 }
 

@@ -16,6 +16,11 @@ returns-in_err-record-clause-moments g c =
     let d = g.D.Disk in let m = g.met.D.Disk in
     λ entries logs. nothing_yet d.held d.clock d.image d.image_since m.held_is_image m.now_alone c.args.entry.now c.args.gate c.args.disk.now entries logs
 
+pub returns-in_err-next-clause-moments : goal.returns-in_err-next-clause-moments
+returns-in_err-next-clause-moments g c =
+    let d = g.D.Disk in let m = g.met.D.Disk in
+    λ entries logs. nothing_yet d.held d.clock d.image d.image_since m.held_is_image m.now_alone c.args.entry.now c.args.gate c.args.disk.now entries logs
+
 pub returns-in_err-write_surely-clause-moments : goal.returns-in_err-write_surely-clause-moments
 returns-in_err-write_surely-clause-moments g c =
     let d = g.D.Disk in let m = g.met.D.Disk in

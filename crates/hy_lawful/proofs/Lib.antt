@@ -75,6 +75,7 @@ pub mod KeptRanks
 pub mod KeptEntries
 pub mod KeptCounts
 pub mod KeptStates
-pub mod ViewWidths
+pub mod ViewRows
 pub mod ViewTurns
 pub mod ViewSteps
+pub mod ViewWidths

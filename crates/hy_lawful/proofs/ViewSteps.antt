@@ -1,15 +1,11 @@
--- In each state that the machine comes to, entries and open transactions have written rows of the tables' columns, so that
--- what an open one sees fits: what holds of the opening and stays true along steps.
-use Rattle.std.proofs.Common.{◌≡◌, ℕ, ◌<◌, ◌≤◌, List, [], ◌∷◌, Option, None, Some, length, map, refl, sym, subst, arith}
+-- In each state that the machine comes to, the rows that entries and open transactions have written meet a demand, where the
+-- first rows and the statements do: what holds of the opening and stays true along steps.
+use Rattle.std.proofs.Common.{◌≡◌, ℕ, ◌<◌, List, [], ◌∷◌, Option, None, Some, length, refl, sym, subst, ◌∙◌}
 use Rattle.std.specs.Prelude.{slice_get, IfSome}
 use Rattle.std.specs.Option.{option_map}
 use Rattle.std.specs.List.{All, AllByRecursion}
 use Rattle.std.proofs.lemmas.List.Elements.{recursion_from_All}
-use Rattle.hy_bound.specs.declared.Shape.{Shape}
 use Rattle.hy_bound.specs.declared.Txn.{Txn}
-use Rattle.hy_bound.specs.Agreement.{FitTable, FitTables, HasItsKey, HaveTheirKeys}
-use Rattle.hy_bound.specs.Fits.{FitsShape, FitsStatement}
-use Rattle.hy_bound.specs.Records.{no_shape, shape_of}
 use Rattle.hy_stamp.specs.declared.Label.{Label}
 use Rattle.hy_machine.specs.declared.Setting.{Setting}
 use Rattle.hy_machine.specs.declared.State.{State}
@@ -20,186 +16,166 @@ use Rattle.hy_machine.specs.declared.Entry.{Entry}
 use Rattle.hy_machine.specs.declared.Phase.TheVariants.{Working, Stamping}
 use Rattle.hy_machine.specs.declared.Turn.{Turn}
 use Rattle.hy_machine.specs.declared.Turn.TheVariants.{Done, Waits, Begins, Visits, Answers, Enters, Ends}
-use Rattle.hy_machine.specs.Tables.{Cell, Tables}
+use Rattle.hy_machine.specs.Tables.{Cell}
 use Rattle.hy_machine.specs.Sessions.{session_at, program_of, txn_at, blocker, snapshot, view, entry_of}
-use Rattle.hy_machine.specs.Turns.{rows_seen, unless_blocked, session_turn, phase_turn}
+use Rattle.hy_machine.specs.Turns.{unless_blocked, session_turn, phase_turn}
 use Rattle.hy_machine.specs.Steps.{with_session, beginning, after_visit, after_answer, done_with, order_with, after_turn, step_of}
 use Rattle.hy_machine.specs.Runs.{opening_of, after_steps, IsReached}
-use Rattle.hy_kept.specs.Kept.{IsNow}
-use Rattle.hy_lawful.specs.Views.{TablesAreFitted, SeenFits}
-use Rattle.hy_lawful.proofs.Fits.{Fits}
+use Rattle.hy_lawful.specs.Rows.{Demand, StatementMeets, SettingMeets, RowsMeet, ReachedEntriesStand}
+use Rattle.hy_lawful.proofs.Fits.{Fits, FitsTables}
 use Rattle.hy_lawful.proofs.Lists.{all_more, one_of}
 use Rattle.hy_lawful.proofs.Moves.{moved_to, sessions_moved}
-use Rattle.hy_lawful.proofs.Reached.{fresh_at, is_there, opening_fits, step_fits}
+use Rattle.hy_lawful.proofs.PassSteps.{reached_passes}
+use Rattle.hy_lawful.proofs.PrintedTables.{pair_there}
+use Rattle.hy_lawful.proofs.Reached.{fresh_at, is_there, opening_fits, reached_fits, step_fits}
 use Rattle.hy_lawful.proofs.Tables.{got_of}
-use Rattle.hy_lawful.proofs.ViewWidths.{TablesWide, OwnWide, EntryWide, writes_wide, blank_wide, over_wide, snapshot_wide, entry_wide, rows_wide}
-use Rattle.hy_lawful.proofs.ViewTurns.{TurnWide, phase_wide}
+use Rattle.hy_lawful.proofs.ViewRows.{TablesMeet, OwnMeets, EntryMeets, writes_meet, blank_meets, over_meets, snapshot_meets, entry_meets}
+use Rattle.hy_lawful.proofs.ViewRows.{cell_meets, after_meets}
+use Rattle.hy_lawful.proofs.ViewTurns.{TurnMeets, phase_meets}
 
--- what an open transaction wrote has the widths, if one is open
-abbrev NowWide : Setting → Option Open → Type 0
-NowWide setting now = IfSome now (λ (current : Open). OwnWide setting.shapes current.begun.own)
+-- what an open transaction wrote meets the demand, if one is open
+abbrev pub NowMeets : Demand → Option Open → Type 0
+NowMeets P now = IfSome now (λ (current : Open). OwnMeets P current.begun.own)
 
-record AllWide (setting : Setting) (state : State) : Type 0 where
-  order : AllByRecursion (EntryWide setting.shapes) state.order
-  opens : (number : ℕ) → NowWide setting (session_at state number).now
+-- what each entry and each open transaction wrote does
+pub record StateMeets (P : Demand) (state : State) : Type 0 where
+  pub order : AllByRecursion (EntryMeets P) state.order
+  pub opens : (number : ℕ) → NowMeets P (session_at state number).now
 
-view_wide : (setting : Setting) (state : State) (begun : Begun) → TablesAreFitted setting → AllWide setting state → OwnWide setting.shapes begun.own
-    → TablesWide setting.shapes (view setting state begun)
-view_wide setting state begun fit all own =
-    over_wide setting.shapes (λ (cell : Cell). cell) (snapshot setting state begun.prefix) begun.own
-    (snapshot_wide setting state.order begun.prefix fit.first_rows all.order) own
+pub view_meets : (P : Demand) (setting : Setting) (state : State) (begun : Begun) → SettingMeets P setting → StateMeets P state → OwnMeets P begun.own
+    → TablesMeet P (view setting state begun)
+view_meets P setting state begun fit all own =
+    over_meets P (λ (cell : Cell). cell) (snapshot setting state begun.prefix) begun.own
+    (snapshot_meets P setting state.order begun.prefix fit.first_rows all.order) own
 
 -- ---- turns of an open transaction
 
-moves_wide : (setting : Setting) (state : State) (order : List Entry) (mark : Option ℕ) (number : ℕ) (session : Session) → AllWide setting state
-    → number < length state.sessions → AllByRecursion (EntryWide setting.shapes) order → NowWide setting session.now
-    → AllWide setting (moved_to state order mark number session)
-moves_wide setting state order mark number session all there entries now = record {
+moves_meet : (P : Demand) (state : State) (order : List Entry) (mark : Option ℕ) (number : ℕ) (session : Session) → StateMeets P state
+    → number < length state.sessions → AllByRecursion (EntryMeets P) order → NowMeets P session.now
+    → StateMeets P (moved_to state order mark number session)
+moves_meet P state order mark number session all there entries now = record {
   order = entries;
-  opens = sessions_moved (λ other one. NowWide setting one.now) state order mark number session there now (λ other apart. all.opens other);
+  opens = sessions_moved (λ other one. NowMeets P one.now) state order mark number session there now (λ other apart. all.opens other);
 }
 
--- a turn of an open transaction that writes rows of the tables' columns leaves all so
-turn_wide : (setting : Setting) (state : State) (number : ℕ) (current : Open) → AllWide setting state → number < length state.sessions
-    → (session_at state number).now ≡ Some current → OwnWide setting.shapes current.begun.own → (turn : Turn) → TurnWide setting.shapes turn
-    → AllWide setting (after_turn setting state number turn).0
-turn_wide setting state number current all there is own Done h = all
-turn_wide setting state number current all there is own (Waits by) h = all
-turn_wide setting state number current all there is own Begins h = absurd h
-turn_wide setting state number current all there is own (Visits writes phase) h =
-    subst (λ (now : Option Open). AllWide setting
+-- a turn of an open transaction leaves all so, if the rows that it writes meet the demand
+turn_meets : (P : Demand) (setting : Setting) (state : State) (number : ℕ) (current : Open) → StateMeets P state → number < length state.sessions
+    → (session_at state number).now ≡ Some current → OwnMeets P current.begun.own → (turn : Turn) → TurnMeets P turn
+    → StateMeets P (after_turn setting state number turn).0
+turn_meets P setting state number current all there is own Done h = all
+turn_meets P setting state number current all there is own (Waits by) h = all
+turn_meets P setting state number current all there is own Begins h = absurd h
+turn_meets P setting state number current all there is own (Visits writes phase) h =
+    subst (λ (now : Option Open). StateMeets P
     (with_session state number (record { done = (session_at state number).done; now = option_map (after_visit writes phase) now })))
     (sym is)
-    (moves_wide setting state state.order state.mark number
+    (moves_meet P state state.order state.mark number
     (record { done = (session_at state number).done; now = Some (after_visit writes phase current) }) all there all.order
-    (writes_wide setting.shapes current.begun.own writes own h))
-turn_wide setting state number current all there is own (Answers writes reply took records) h =
-    subst (λ (now : Option Open). AllWide setting
+    (writes_meet P current.begun.own writes own h))
+turn_meets P setting state number current all there is own (Answers writes reply took records) h =
+    subst (λ (now : Option Open). StateMeets P
     (with_session state number (record { done = (session_at state number).done; now = option_map (after_answer writes reply took records) now })))
     (sym is)
-    (moves_wide setting state state.order state.mark number
+    (moves_meet P state state.order state.mark number
     (record { done = (session_at state number).done; now = Some (after_answer writes reply took records current) }) all there all.order
-    (writes_wide setting.shapes current.begun.own writes own h))
-turn_wide setting state number current all there is own Enters h =
-    subst (λ (now : Option Open). AllWide setting (moved_to state (order_with setting state number now) (Some number) number
+    (writes_meet P current.begun.own writes own h))
+turn_meets P setting state number current all there is own Enters h =
+    subst (λ (now : Option Open). StateMeets P (moved_to state (order_with setting state number now) (Some number) number
     (record { done = (session_at state number).done; now = option_map (after_visit [] (Stamping 0)) now })))
     (sym is)
-    (moves_wide setting state (order_with setting state number (Some current)) (Some number) number
+    (moves_meet P state (order_with setting state number (Some current)) (Some number) number
     (record { done = (session_at state number).done; now = Some (after_visit [] (Stamping 0) current) }) all there
-    (all_more (EntryWide setting.shapes) state.order (entry_of setting state number current.begun) all.order
-    (entry_wide setting.shapes (snapshot setting state current.begun.prefix) current.begun.own own))
+    (all_more (EntryMeets P) state.order (entry_of setting state number current.begun) all.order
+    (entry_meets P (snapshot setting state current.begun.prefix) current.begun.own own))
     own)
-turn_wide setting state number current all there is own (Ends ending) h =
-    moves_wide setting state state.order None number
+turn_meets P setting state number current all there is own (Ends ending) h =
+    moves_meet P state state.order None number
     (record { done = done_with ending (session_at state number).done (session_at state number).now; now = None }) all there all.order tt
 
 -- ---- a transaction begins
 
-begins_wide : (setting : Setting) (state : State) (number : ℕ) (by : Option Label) → AllWide setting state → number < length state.sessions
-    → AllWide setting (after_turn setting state number (unless_blocked by Begins)).0
-begins_wide setting state number None all there =
-    moves_wide setting state state.order state.mark number
+begins_meet : (P : Demand) (setting : Setting) (state : State) (number : ℕ) (by : Option Label) → StateMeets P state → number < length state.sessions
+    → StateMeets P (after_turn setting state number (unless_blocked by Begins)).0
+begins_meet P setting state number None all there =
+    moves_meet P state state.order state.mark number
     (record { done = (session_at state number).done; now = Some (record { begun = beginning setting state; phase = Working 0 0 }) }) all there all.order
-    (blank_wide setting)
-begins_wide setting state number (Some by) all there = all
+    (blank_meets P setting)
+begins_meet P setting state number (Some by) all there = all
 
 -- ---- steps
 
--- the statements of a session's transaction fit
-statements_fit : (setting : Setting) (number before : ℕ) (txn : Txn) → TablesAreFitted setting → slice_get (program_of setting number) before ≡ Some txn
-    → AllByRecursion (FitsStatement setting.shapes) txn.statements
-statements_fit setting number before txn fit e =
-    recursion_from_All (FitsStatement setting.shapes) txn.statements
-    (one_of (λ (txn : Txn). All (FitsStatement setting.shapes) txn.statements) (program_of setting number)
-    (got_of (AllByRecursion (λ (txn : Txn). All (FitsStatement setting.shapes) txn.statements)) setting.programs number [] sessions tt) before txn e)
+-- the statements of a session's transaction meet it
+statements_meet : (P : Demand) (setting : Setting) (number before : ℕ) (txn : Txn) → SettingMeets P setting
+    → slice_get (program_of setting number) before ≡ Some txn → AllByRecursion (StatementMeets P) txn.statements
+statements_meet P setting number before txn fit e =
+    recursion_from_All (StatementMeets P) txn.statements
+    (one_of (λ (txn : Txn). All (StatementMeets P) txn.statements) (program_of setting number)
+    (got_of (AllByRecursion (λ (txn : Txn). All (StatementMeets P) txn.statements)) setting.programs number [] sessions tt) before txn e)
   where
-    each : (txns : List (List Txn)) → AllByRecursion (λ (txns : List Txn). All (λ (txn : Txn). All (FitsStatement setting.shapes) txn.statements) txns) txns
-        → AllByRecursion (AllByRecursion (λ (txn : Txn). All (FitsStatement setting.shapes) txn.statements)) txns
+    each : (txns : List (List Txn)) → AllByRecursion (λ (txns : List Txn). All (λ (txn : Txn). All (StatementMeets P) txn.statements) txns) txns
+        → AllByRecursion (AllByRecursion (λ (txn : Txn). All (StatementMeets P) txn.statements)) txns
     each [] h = tt
-    each (txns ∷ others) h = (recursion_from_All (λ (txn : Txn). All (FitsStatement setting.shapes) txn.statements) txns h.0, each others h.1)
+    each (txns ∷ others) h = (recursion_from_All (λ (txn : Txn). All (StatementMeets P) txn.statements) txns h.0, each others h.1)
 
-    sessions : AllByRecursion (AllByRecursion (λ (txn : Txn). All (FitsStatement setting.shapes) txn.statements)) setting.programs
+    sessions : AllByRecursion (AllByRecursion (λ (txn : Txn). All (StatementMeets P) txn.statements)) setting.programs
     sessions = each setting.programs
-        (recursion_from_All (λ (txns : List Txn). All (λ (txn : Txn). All (FitsStatement setting.shapes) txn.statements) txns) setting.programs fit.statements)
+        (recursion_from_All (λ (txns : List Txn). All (λ (txn : Txn). All (StatementMeets P) txn.statements) txns) setting.programs fit.statements)
 
-session_wide : (setting : Setting) (state : State) (number : ℕ) (txn : Txn) → TablesAreFitted setting → Fits setting state → AllWide setting state
+session_meets : (P : Demand) (setting : Setting) (state : State) (number : ℕ) (txn : Txn) → SettingMeets P setting → Fits setting state → StateMeets P state
     → txn_at setting number (session_at state number) ≡ Some txn → (now : Option Open) → (session_at state number).now ≡ now
-    → AllWide setting (after_turn setting state number (session_turn setting state number (Some txn) now)).0
-session_wide setting state number txn fit fits all e None is =
-    begins_wide setting state number (blocker state number) all (is_there setting state number txn fits e)
-session_wide setting state number txn fit fits all e (Some current) is =
-    let own : OwnWide setting.shapes current.begun.own = subst (NowWide setting) is (all.opens number) in
-    turn_wide setting state number current all (is_there setting state number txn fits e) is own
+    → StateMeets P (after_turn setting state number (session_turn setting state number (Some txn) now)).0
+session_meets P setting state number txn fit fits all e None is =
+    begins_meet P setting state number (blocker state number) all (is_there setting state number txn fits e)
+session_meets P setting state number txn fit fits all e (Some current) is =
+    let own : OwnMeets P current.begun.own = subst (NowMeets P) is (all.opens number) in
+    turn_meets P setting state number current all (is_there setting state number txn fits e) is own
     (phase_turn setting state number txn current.begun current.phase)
-    (phase_wide setting state number txn current.begun current.phase
-    (statements_fit setting number (length (session_at state number).done) txn fit e)
-    (view_wide setting state current.begun fit all own))
+    (phase_meets P setting state number txn current.begun current.phase
+    (statements_meet P setting number (length (session_at state number).done) txn fit e)
+    (view_meets P setting state current.begun fit all own))
 
-by_txn : (setting : Setting) (state : State) (number : ℕ) → TablesAreFitted setting → Fits setting state → AllWide setting state → (txn : Option Txn)
+by_txn : (P : Demand) (setting : Setting) (state : State) (number : ℕ) → SettingMeets P setting → Fits setting state → StateMeets P state → (txn : Option Txn)
     → txn_at setting number (session_at state number) ≡ txn
-    → AllWide setting (after_turn setting state number (session_turn setting state number txn (session_at state number).now)).0
-by_txn setting state number fit fits all None e = all
-by_txn setting state number fit fits all (Some txn) e = session_wide setting state number txn fit fits all e (session_at state number).now refl
+    → StateMeets P (after_turn setting state number (session_turn setting state number txn (session_at state number).now)).0
+by_txn P setting state number fit fits all None e = all
+by_txn P setting state number fit fits all (Some txn) e = session_meets P setting state number txn fit fits all e (session_at state number).now refl
 
-steps_wide : (setting : Setting) (state : State) (numbers : List ℕ) → TablesAreFitted setting → Fits setting state → AllWide setting state
-    → AllWide setting (after_steps setting state numbers)
-steps_wide setting state [] fit fits all = all
-steps_wide setting state (number ∷ numbers) fit fits all =
-    steps_wide setting (step_of setting state number).0 numbers fit (step_fits setting state number fits)
-    (by_txn setting state number fit fits all (txn_at setting number (session_at state number)) refl)
+steps_meet : (P : Demand) (setting : Setting) (state : State) (numbers : List ℕ) → SettingMeets P setting → Fits setting state → StateMeets P state
+    → StateMeets P (after_steps setting state numbers)
+steps_meet P setting state [] fit fits all = all
+steps_meet P setting state (number ∷ numbers) fit fits all =
+    steps_meet P setting (step_of setting state number).0 numbers fit (step_fits setting state number fits)
+    (by_txn P setting state number fit fits all (txn_at setting number (session_at state number)) refl)
 
-opening_wide : (setting : Setting) → AllWide setting (opening_of setting)
-opening_wide setting = record {
+opening_meets : (P : Demand) (setting : Setting) → StateMeets P (opening_of setting)
+opening_meets P setting = record {
   order = tt;
-  opens = λ number. subst (λ (session : Session). NowWide setting session.now) (sym (fresh_at setting number)) tt;
+  opens = λ number. subst (λ (session : Session). NowMeets P session.now) (sym (fresh_at setting number)) tt;
 }
 
-reached_wide : (setting : Setting) (state : State) → TablesAreFitted setting → IsReached setting state → AllWide setting state
-reached_wide setting state fit r =
-    subst (AllWide setting) (sym r.1) (steps_wide setting (opening_of setting) r.0 fit (opening_fits setting) (opening_wide setting))
+pub reached_state_meets : (P : Demand) (setting : Setting) (state : State) → SettingMeets P setting → IsReached setting state → StateMeets P state
+reached_state_meets P setting state fit r =
+    subst (StateMeets P) (sym r.1) (steps_meet P setting (opening_of setting) r.0 fit (opening_fits setting) (opening_meets P setting))
 
--- ---- what is seen
+-- ---- what is told of a state
 
--- a table that isn't there has no columns, and no key
-shape_fits : (P : Shape → Type 0) (setting : Setting) → TablesAreFitted setting → ((shape : Shape) → FitsShape shape → P shape) → P no_shape
-    → (table : ℕ) → P (shape_of setting.shapes table)
-shape_fits P setting fit each none table =
-    got_of P setting.shapes table no_shape (weaker setting.shapes (recursion_from_All FitsShape setting.shapes fit.shapes)) none
+pub reached_rows_meet : (P : Demand) (setting : Setting) (state : State) → SettingMeets P setting → IsReached setting state → RowsMeet P setting state
+reached_rows_meet P setting state fit r = record {
+  tables = λ prefix table pos.
+      cell_meets P (snapshot setting state prefix) table pos (snapshot_meets P setting state.order prefix fit.first_rows all.order);
+  entries = λ rank entry stands table pos pair e. after_meets P entry (one_of (EntryMeets P) state.order all.order rank entry stands) table pos pair e;
+}
   where
-    weaker : (shapes : List Shape) → AllByRecursion FitsShape shapes → AllByRecursion P shapes
-    weaker [] h = tt
-    weaker (shape ∷ shapes) h = (each shape h.0, weaker shapes h.1)
+    all : StateMeets P state
+    all = reached_state_meets P setting state fit r
 
-all_tables : (shapes : List Shape) (seen : Tables) → ((table : ℕ) → FitTable (shape_of shapes table) (rows_seen seen table)) → (tables : List ℕ)
-    → FitTables shapes tables (map (rows_seen seen) tables)
-all_tables shapes seen h [] = tt
-all_tables shapes seen h (table ∷ tables) = (h table, all_tables shapes seen h tables)
-
-all_keys : (shapes : List Shape) → ((table : ℕ) → HasItsKey (shape_of shapes table)) → (tables : List ℕ) → HaveTheirKeys shapes tables
-all_keys shapes h [] = tt
-all_keys shapes h (table ∷ tables) = (h table, all_keys shapes h tables)
-
-seen_fits : (setting : Setting) (seen : Tables) → TablesAreFitted setting → TablesWide setting.shapes seen → SeenFits setting seen
-seen_fits setting seen fit wide = record { one = one; joined = all_tables setting.shapes seen one; keys = all_keys setting.shapes key }
+pub entries_stand : ReachedEntriesStand
+entries_stand setting state r rank entry stands = record {
+  tables = fits.tables;
+  positions = fits.positions;
+  befores = λ table pos pair e.
+      (reached_passes setting state r).befores rank table pos pair (pair_there state.order rank entry stands table pos ∙ e);
+}
   where
-    one : (table : ℕ) → FitTable (shape_of setting.shapes table) (rows_seen seen table)
-    one table = (
-      shape_fits (λ (shape : Shape). shape.width ≤ 32) setting fit (λ shape fits. fits.few) (omega arith) table,
-      rows_wide setting.shapes seen table wide,
-    )
-
-    key : (table : ℕ) → HasItsKey (shape_of setting.shapes table)
-    key table = shape_fits HasItsKey setting fit (λ shape fits. fits.key) (λ column e. absurd cc) table
-
-pub reached_see : (setting : Setting) (state : State) → TablesAreFitted setting → IsReached setting state → (number : ℕ) (current : Open)
-    → IsNow state number current → SeenFits setting (view setting state current.begun)
-reached_see setting state fit r number current is =
-    let all : AllWide setting state = reached_wide setting state fit r in
-    seen_fits setting (view setting state current.begun) fit
-    (view_wide setting state current.begun fit all (subst (NowWide setting) is (all.opens number)))
-
-pub reached_tables : (setting : Setting) (state : State) → TablesAreFitted setting → IsReached setting state → (prefix : ℕ)
-    → SeenFits setting (snapshot setting state prefix)
-reached_tables setting state fit r prefix =
-    seen_fits setting (snapshot setting state prefix) fit
-    (snapshot_wide setting state.order prefix fit.first_rows (reached_wide setting state fit r).order)
+    fits : FitsTables setting entry.cells
+    fits = one_of (λ (one : Entry). FitsTables setting one.cells) state.order (reached_fits setting state r).cells rank entry stands

@@ -1,175 +1,95 @@
--- Tables, entries and writes whose rows have the columns of their tables, and what is laid over them.
-use Rattle.std.proofs.Common.{◌≡◌, ℕ, zero, suc, ◌+◌, List, [], ◌∷◌, Option, None, Some, length, map, take, get_or, replicate}
+-- In each state that the machine comes to the rows have the columns of their tables, so that what an open transaction sees
+-- fits: an UPDATE leaves a row's columns as they are, and the row of an INSERT has its table's.
+use Rattle.std.proofs.Common.{◌≡◌, ℕ, zero, suc, ◌≤◌, List, [], ◌∷◌, Option, None, Some, Result, Ok, Err, length, map, get_or, subst, arith, ◌∙◌}
 use Rattle.std.proofs.Math.ListN.{set}
-use Rattle.std.specs.Prelude.{slice_get, IfSome}
-use Rattle.std.specs.List.{AllByRecursion, AllZip, range_with_len}
+use Rattle.std.specs.Prelude.{IfSome}
+use Rattle.std.specs.List.{All, AllByRecursion, AllZip}
+use Rattle.std.proofs.lemmas.List.{length-set}
+use Rattle.std.proofs.lemmas.List.Elements.{recursion_from_All, All-weaker}
 use Rattle.hy_value.specs.declared.Value.{Value}
+use Rattle.hy_bound.specs.declared.Assign.{Assign}
+use Rattle.hy_bound.specs.declared.Bound.{Bound}
+use Rattle.hy_bound.specs.declared.Bound.TheVariants.{Select, Group, Insert, Update, Delete}
+use Rattle.hy_bound.specs.declared.Range.{Range}
 use Rattle.hy_bound.specs.declared.Shape.{Shape}
-use Rattle.hy_bound.specs.Agreement.{HaveWidth}
+use Rattle.hy_bound.specs.declared.Txn.{Txn}
+use Rattle.hy_bound.specs.Agreement.{FitTable, FitTables, HasItsKey, HaveTheirKeys, HaveWidth}
+use Rattle.hy_bound.specs.Assignment.{assigned_to, set_column, value_of}
 use Rattle.hy_bound.specs.Changes.{present}
+use Rattle.hy_bound.specs.Fits.{FitsShape, FitsStatement}
 use Rattle.hy_bound.specs.Records.{no_shape, shape_of}
 use Rattle.hy_machine.specs.declared.Setting.{Setting}
-use Rattle.hy_machine.specs.declared.Entry.{Entry}
-use Rattle.hy_machine.specs.declared.Pair.{Pair}
-use Rattle.hy_machine.specs.declared.Write.{Write}
-use Rattle.hy_machine.specs.Positions.{item_at}
-use Rattle.hy_machine.specs.Tables.{Cell, Tables, Own, capacity, overlaid, covered, covered_tables, after_entry, history, laid_out, opening_tables}
-use Rattle.hy_machine.specs.Writes.{blank_own, with_write, with_writes}
-use Rattle.hy_machine.specs.Sessions.{pairs_from, entry_cells}
+use Rattle.hy_machine.specs.declared.State.{State}
+use Rattle.hy_machine.specs.declared.Open.{Open}
+use Rattle.hy_machine.specs.Tables.{Cell, Tables}
+use Rattle.hy_machine.specs.Sessions.{snapshot, view}
 use Rattle.hy_machine.specs.Turns.{rows_seen}
-use Rattle.hy_lawful.proofs.Tables.{got_of, set_all}
+use Rattle.hy_machine.specs.Runs.{IsReached}
+use Rattle.hy_kept.specs.Kept.{IsNow}
+use Rattle.hy_lawful.specs.Rows.{Demand, StatementMeets, SettingMeets}
+use Rattle.hy_lawful.specs.Views.{TablesAreFitted, SeenFits}
+use Rattle.hy_lawful.proofs.Tables.{got_of}
+use Rattle.hy_lawful.proofs.ViewRows.{TablesMeet, snapshot_meets}
+use Rattle.hy_lawful.proofs.ViewSteps.{NowMeets, StateMeets, view_meets, reached_state_meets}
 
--- a cell of a table has a row of its columns, or none
-abbrev pub IsWide : List Shape → ℕ → Cell → Type 0
-IsWide shapes table cell = IfSome cell (λ (row : List Value). length row ≡ (shape_of shapes table).width)
+-- a row has its table's columns
+abbrev pub IsWide : List Shape → Demand
+IsWide shapes table row = length row ≡ (shape_of shapes table).width
 
--- so it is for what stands at the positions of tables, by the cell that each thing there makes
-abbrev pub AreWide : {A : Type 0} → List Shape → (A → Cell) → List (List A) → Type 0
-AreWide shapes f lists = (table : ℕ) → AllByRecursion (λ item. IsWide shapes table (f item)) (get_or lists table [])
+-- ---- what is written
 
--- the cell that a thing makes, if there is one
-abbrev pub cell_in : {B : Type 0} → (B → Cell) → Option B → Cell
-cell_in f None = None
-cell_in f (Some item) = f item
+-- what follows for each statement of programs
+each_statement : (P Q : Bound → Type 0) → ((statement : Bound) → P statement → Q statement) → (programs : List (List Txn))
+    → All (λ (txns : List Txn). All (λ (txn : Txn). All P txn.statements) txns) programs
+    → All (λ (txns : List Txn). All (λ (txn : Txn). All Q txn.statements) txns) programs
+each_statement P Q so programs all =
+    All-weaker (λ (txns : List Txn). All (λ (txn : Txn). All P txn.statements) txns) (λ (txns : List Txn). All (λ (txn : Txn). All Q txn.statements) txns)
+    (λ txns. All-weaker (λ (txn : Txn). All P txn.statements) (λ (txn : Txn). All Q txn.statements)
+    (λ txn. All-weaker P Q so txn.statements) txns) programs all
 
-abbrev pub TablesWide : List Shape → Tables → Type 0
-TablesWide shapes tables = AreWide shapes (λ (cell : Cell). cell) tables
+-- a row, if there is one, has so many columns
+abbrev HasWidth : ℕ → Option (List Value) → Type 0
+HasWidth width row = IfSome row (λ (row : List Value). length row ≡ width)
 
-abbrev pub OwnWide : List Shape → Own → Type 0
-OwnWide shapes own = AreWide shapes (cell_in (λ (cell : Cell). cell)) own
+none_assigned : (sets : List Assign) (old : List Value) (width : ℕ) → HasWidth width (assigned_to sets old None)
+none_assigned [] old width = tt
+none_assigned (assign ∷ sets) old width = tt
 
-abbrev pub EntryWide : List Shape → Entry → Type 0
-EntryWide shapes entry = AreWide shapes (cell_in (λ (pair : Pair). pair.after)) entry.cells
+assigned_wide : (sets : List Assign) (old new : List Value) (width : ℕ) → length new ≡ width → HasWidth width (assigned_to sets old (Some new))
+assigned_wide [] old new width h = h
+assigned_wide (assign ∷ sets) old new width h =
+    by_value (value_of assign.value old)
+    (λ value. assigned_wide sets old (set new assign.column value) width (length-set new assign.column value ∙ h))
+  where
+    by_value : (value : Result Value Range) → ((value : Value) → HasWidth width (assigned_to sets old (Some (set new assign.column value))))
+        → HasWidth width (assigned_to sets old (set_column new assign.column value))
+    by_value (Err range) more = none_assigned sets old width
+    by_value (Ok value) more = more value
 
-abbrev pub WritesWide : List Shape → List Write → Type 0
-WritesWide shapes writes = AllByRecursion (λ (write : Write). IsWide shapes write.table write.cell) writes
+writes_wide : (shapes : List Shape) (statement : Bound) → FitsStatement shapes statement → StatementMeets (IsWide shapes) statement
+writes_wide shapes (Select tables ons pred items) fits = tt
+writes_wide shapes (Group table pred key aggregate) fits = tt
+writes_wide shapes (Insert table row) fits = fits.1.width
+writes_wide shapes (Update table sets pred) fits = λ row h. assigned_wide sets row row (shape_of shapes table).width h
+writes_wide shapes (Delete table pred) fits = tt
 
--- ---- writes
-
-set_each : {X : Type 0} (Q : ℕ → X → Type 0) (xs : List X) (d : X) (at : ℕ) (x : X) → ((n : ℕ) → Q n (get_or xs n d)) → Q at x → (n : ℕ)
-    → Q n (get_or (set xs at x) n d)
-set_each Q [] d at x h q n = h n
-set_each Q (y ∷ xs) d zero x h q zero = q
-set_each Q (y ∷ xs) d zero x h q (suc n) = h (suc n)
-set_each Q (y ∷ xs) d (suc at) x h q zero = h zero
-set_each Q (y ∷ xs) d (suc at) x h q (suc n) = set_each (λ n. Q (suc n)) xs d at x (λ n. h (suc n)) q n
-
-write_wide : (shapes : List Shape) (own : Own) (write : Write) → OwnWide shapes own → IsWide shapes write.table write.cell
-    → OwnWide shapes (with_write own write)
-write_wide shapes own write h w =
-    set_each (λ table. AllByRecursion (λ (item : Option Cell). IsWide shapes table (cell_in (λ (cell : Cell). cell) item)))
-    own [] write.table (set (get_or own write.table []) write.pos (Some write.cell)) h
-    (set_all (λ (item : Option Cell). IsWide shapes write.table (cell_in (λ (cell : Cell). cell) item)) (get_or own write.table []) write.pos
-    (Some write.cell) (h write.table) w)
-
-pub writes_wide : (shapes : List Shape) (own : Own) (writes : List Write) → OwnWide shapes own → WritesWide shapes writes
-    → OwnWide shapes (with_writes own writes)
-writes_wide shapes own [] h w = h
-writes_wide shapes own (write ∷ writes) h w = writes_wide shapes (with_write own write) writes (write_wide shapes own write h w.0) w.1
-
-none_wide : (shapes : List Shape) (table many : ℕ)
-    → AllByRecursion (λ (item : Option Cell). IsWide shapes table (cell_in (λ (cell : Cell). cell) item)) (replicate many None)
-none_wide shapes table zero = tt
-none_wide shapes table (suc many) = (tt, none_wide shapes table many)
-
-blank_rows : (shapes : List Shape) (most table at : ℕ) (first : List (List (List Value)))
-    → AllByRecursion (λ (item : Option Cell). IsWide shapes table (cell_in (λ (cell : Cell). cell) item))
-    (get_or (map (λ rows. replicate {A = Option Cell} most None) first) at [])
-blank_rows shapes most table at [] = tt
-blank_rows shapes most table zero (rows ∷ first) = none_wide shapes table most
-blank_rows shapes most table (suc at) (rows ∷ first) = blank_rows shapes most table at first
-
-pub blank_wide : (setting : Setting) → OwnWide setting.shapes (blank_own setting)
-blank_wide setting table = blank_rows setting.shapes (capacity setting) table table setting.first
-
--- ---- tables with others laid over them
-
-cells_over : {B : Type 0} (P : Cell → Type 0) (f : B → Cell) (cells : List Cell) (items : List (Option B)) → P None
-    → AllByRecursion P cells → AllByRecursion (λ item. P (cell_in f item)) items → AllByRecursion P (overlaid (covered f) cells items)
-cells_over P f [] items n h k = tt
-cells_over P f (cell ∷ cells) [] n h k = h
-cells_over P f (cell ∷ cells) (None ∷ items) n h k = (h.0, cells_over P f cells items n h.1 k.1)
-cells_over P f (cell ∷ cells) (Some item ∷ items) n h k = (k.0, cells_over P f cells items n h.1 k.1)
-
-tables_over : {B : Type 0} (P : ℕ → Cell → Type 0) (f : B → Cell) (tables : Tables) (lists : List (List (Option B))) → ((table : ℕ) → P table None)
-    → ((table : ℕ) → AllByRecursion (P table) (get_or tables table []))
-    → ((table : ℕ) → AllByRecursion (λ item. P table (cell_in f item)) (get_or lists table [])) → (table : ℕ)
-    → AllByRecursion (P table) (get_or (covered_tables f tables lists) table [])
-tables_over P f [] lists n h k table = tt
-tables_over P f (cells ∷ tables) [] n h k table = h table
-tables_over P f (cells ∷ tables) (items ∷ lists) n h k zero = cells_over (P zero) f cells items (n zero) (h zero) (k zero)
-tables_over P f (cells ∷ tables) (items ∷ lists) n h k (suc table) =
-    tables_over (λ at. P (suc at)) f tables lists (λ at. n (suc at)) (λ at. h (suc at)) (λ at. k (suc at)) table
-
-pub over_wide : {B : Type 0} (shapes : List Shape) (f : B → Cell) (tables : Tables) (lists : List (List (Option B))) → TablesWide shapes tables
-    → AreWide shapes (cell_in f) lists → TablesWide shapes (covered_tables f tables lists)
-over_wide shapes f tables lists h k = tables_over (IsWide shapes) f tables lists (λ table. tt) h k
-
-history_wide : (shapes : List Shape) (tables : Tables) (entries : List Entry) → TablesWide shapes tables → AllByRecursion (EntryWide shapes) entries
-    → TablesWide shapes (history tables entries)
-history_wide shapes tables [] h k = h
-history_wide shapes tables (entry ∷ entries) h k =
-    history_wide shapes (after_entry tables entry) entries (over_wide shapes (λ (pair : Pair). pair.after) tables entry.cells h k.0) k.1
-
-all_taken : {X : Type 0} (P : X → Type 0) (n : ℕ) (xs : List X) → AllByRecursion P xs → AllByRecursion P (take n xs)
-all_taken P zero xs h = tt
-all_taken P (suc n) [] h = tt
-all_taken P (suc n) (x ∷ xs) h = (h.0, all_taken P n xs h.1)
-
--- ---- the tables before any commit
-
-row_wide : (width : ℕ) (rows : List (List Value)) (i : ℕ) → HaveWidth width rows → IfSome (slice_get rows i) (λ (row : List Value). length row ≡ width)
-row_wide width [] i h = tt
-row_wide width (row ∷ rows) zero h = h.0
-row_wide width (row ∷ rows) (suc i) h = row_wide width rows i h.1
-
-laid_wide : (width : ℕ) (rows : List (List Value)) (first many : ℕ) → HaveWidth width rows
-    → AllByRecursion (λ (cell : Cell). IfSome cell (λ (row : List Value). length row ≡ width)) (map (slice_get rows) (range_with_len first many))
-laid_wide width rows first zero h = tt
-laid_wide width rows first (suc many) h = (row_wide width rows first h, laid_wide width rows (first + 1) many h)
-
-all_laid : (positions : ℕ) (shapes : List Shape) (first : List (List (List Value)))
+first_wide : (shapes : List Shape) (first : List (List (List Value)))
     → AllZip (λ (shape : Shape) (rows : List (List Value)). HaveWidth shape.width rows) shapes first → (table : ℕ)
-    → AllByRecursion (λ (cell : Cell). IfSome cell (λ (row : List Value). length row ≡ (get_or shapes table no_shape).width))
-    (get_or (map (laid_out positions) first) table [])
-all_laid positions [] [] fit table = tt
-all_laid positions [] (rows ∷ first) fit table = absurd fit
-all_laid positions (shape ∷ shapes) [] fit table = absurd fit
-all_laid positions (shape ∷ shapes) (rows ∷ first) fit zero = laid_wide shape.width rows 0 positions fit.0
-all_laid positions (shape ∷ shapes) (rows ∷ first) fit (suc table) = all_laid positions shapes first fit.1 table
+    → AllByRecursion (IsWide shapes table) (get_or first table [])
+first_wide [] [] fit table = tt
+first_wide [] (rows ∷ first) fit table = absurd fit
+first_wide (shape ∷ shapes) [] fit table = absurd fit
+first_wide (shape ∷ shapes) (rows ∷ first) fit zero = fit.0
+first_wide (shape ∷ shapes) (rows ∷ first) fit (suc table) = first_wide shapes first fit.1 table
 
--- the tables after the first entries of an order
-pub snapshot_wide : (setting : Setting) (order : List Entry) (rank : ℕ)
-    → AllZip (λ (shape : Shape) (rows : List (List Value)). HaveWidth shape.width rows) setting.shapes setting.first
-    → AllByRecursion (EntryWide setting.shapes) order → TablesWide setting.shapes (history (opening_tables setting) (take rank order))
-snapshot_wide setting order rank fit h =
-    history_wide setting.shapes (opening_tables setting) (take rank order)
-    (all_laid (capacity setting) setting.shapes setting.first fit)
-    (all_taken (EntryWide setting.shapes) rank order h)
+begins_wide : (setting : Setting) → TablesAreFitted setting → SettingMeets (IsWide setting.shapes) setting
+begins_wide setting fit = record {
+  first_rows = first_wide setting.shapes setting.first fit.first_rows;
+  statements = each_statement (FitsStatement setting.shapes) (StatementMeets (IsWide setting.shapes)) (writes_wide setting.shapes)
+      setting.programs fit.statements;
+}
 
--- ---- entries
-
-pairs_wide : (P : Cell → Type 0) (before : ℕ → Cell) (pos : ℕ) (items : List (Option Cell)) → P None
-    → AllByRecursion (λ (item : Option Cell). P (cell_in (λ (cell : Cell). cell) item)) items
-    → AllByRecursion (λ (item : Option Pair). P (cell_in (λ (pair : Pair). pair.after) item)) (pairs_from before pos items)
-pairs_wide P before pos [] n h = tt
-pairs_wide P before pos (None ∷ items) n h = (n, pairs_wide P before (suc pos) items n h.1)
-pairs_wide P before pos (Some item ∷ items) n h = (h.0, pairs_wide P before (suc pos) items n h.1)
-
-cells_wide : (P : ℕ → Cell → Type 0) (tables : Tables) (first : ℕ) (own : Own) → ((table : ℕ) → P table None)
-    → ((table : ℕ) → AllByRecursion (λ (item : Option Cell). P table (cell_in (λ (cell : Cell). cell) item)) (get_or own table [])) → (table : ℕ)
-    → AllByRecursion (λ (item : Option Pair). P table (cell_in (λ (pair : Pair). pair.after) item)) (get_or (entry_cells tables first own) table [])
-cells_wide P tables first [] n h table = tt
-cells_wide P tables first (items ∷ own) n h zero = pairs_wide (P zero) (item_at tables first) 0 items (n zero) (h zero)
-cells_wide P tables first (items ∷ own) n h (suc table) =
-    cells_wide (λ at. P (suc at)) tables (suc first) own (λ at. n (suc at)) (λ at. h (suc at)) table
-
--- what a transaction wrote, as the cells of an entry
-pub entry_wide : (shapes : List Shape) (tables : Tables) (own : Own) → OwnWide shapes own
-    → AreWide shapes (cell_in (λ (pair : Pair). pair.after)) (entry_cells tables 0 own)
-entry_wide shapes tables own h = cells_wide (IsWide shapes) tables 0 own (λ table. tt) h
-
--- ---- what is seen
+-- ---- the rows of a table
 
 present_wide : (width : ℕ) (cells : List Cell) → AllByRecursion (λ (cell : Cell). IfSome cell (λ (row : List Value). length row ≡ width)) cells
     → HaveWidth width (present cells)
@@ -177,9 +97,55 @@ present_wide width [] h = tt
 present_wide width (None ∷ cells) h = present_wide width cells h.1
 present_wide width (Some row ∷ cells) h = (h.0, present_wide width cells h.1)
 
-pub rows_wide : (shapes : List Shape) (tables : Tables) (table : ℕ) → TablesWide shapes tables
+rows_wide : (shapes : List Shape) (tables : Tables) (table : ℕ) → TablesMeet (IsWide shapes) tables
     → HaveWidth (shape_of shapes table).width (rows_seen tables table)
 rows_wide shapes tables table h = present_wide (shape_of shapes table).width (get_or tables table []) (h table)
 
-pub cell_wide : (shapes : List Shape) (tables : Tables) (table pos : ℕ) → TablesWide shapes tables → IsWide shapes table (item_at tables table pos)
-cell_wide shapes tables table pos h = got_of (IsWide shapes table) (get_or tables table []) pos None (h table) tt
+-- ---- what is seen
+
+-- a table that isn't there has no columns, and no key
+shape_fits : (P : Shape → Type 0) (setting : Setting) → TablesAreFitted setting → ((shape : Shape) → FitsShape shape → P shape) → P no_shape
+    → (table : ℕ) → P (shape_of setting.shapes table)
+shape_fits P setting fit each none table =
+    got_of P setting.shapes table no_shape (weaker setting.shapes (recursion_from_All FitsShape setting.shapes fit.shapes)) none
+  where
+    weaker : (shapes : List Shape) → AllByRecursion FitsShape shapes → AllByRecursion P shapes
+    weaker [] h = tt
+    weaker (shape ∷ shapes) h = (each shape h.0, weaker shapes h.1)
+
+all_tables : (shapes : List Shape) (seen : Tables) → ((table : ℕ) → FitTable (shape_of shapes table) (rows_seen seen table)) → (tables : List ℕ)
+    → FitTables shapes tables (map (rows_seen seen) tables)
+all_tables shapes seen h [] = tt
+all_tables shapes seen h (table ∷ tables) = (h table, all_tables shapes seen h tables)
+
+all_keys : (shapes : List Shape) → ((table : ℕ) → HasItsKey (shape_of shapes table)) → (tables : List ℕ) → HaveTheirKeys shapes tables
+all_keys shapes h [] = tt
+all_keys shapes h (table ∷ tables) = (h table, all_keys shapes h tables)
+
+seen_fits : (setting : Setting) (seen : Tables) → TablesAreFitted setting → TablesMeet (IsWide setting.shapes) seen → SeenFits setting seen
+seen_fits setting seen fit wide = record { one = one; joined = all_tables setting.shapes seen one; keys = all_keys setting.shapes key }
+  where
+    one : (table : ℕ) → FitTable (shape_of setting.shapes table) (rows_seen seen table)
+    one table = (
+      shape_fits (λ (shape : Shape). shape.width ≤ 32) setting fit (λ shape fits. fits.few) (omega arith) table,
+      rows_wide setting.shapes seen table wide,
+    )
+
+    key : (table : ℕ) → HasItsKey (shape_of setting.shapes table)
+    key table = shape_fits HasItsKey setting fit (λ shape fits. fits.key) (λ column e. absurd cc) table
+
+pub reached_see : (setting : Setting) (state : State) → TablesAreFitted setting → IsReached setting state → (number : ℕ) (current : Open)
+    → IsNow state number current → SeenFits setting (view setting state current.begun)
+reached_see setting state fit r number current is =
+    let begins : SettingMeets (IsWide setting.shapes) setting = begins_wide setting fit in
+    let all : StateMeets (IsWide setting.shapes) state = reached_state_meets (IsWide setting.shapes) setting state begins r in
+    seen_fits setting (view setting state current.begun) fit
+    (view_meets (IsWide setting.shapes) setting state current.begun begins all (subst (NowMeets (IsWide setting.shapes)) is (all.opens number)))
+
+pub reached_tables : (setting : Setting) (state : State) → TablesAreFitted setting → IsReached setting state → (prefix : ℕ)
+    → SeenFits setting (snapshot setting state prefix)
+reached_tables setting state fit r prefix =
+    let begins : SettingMeets (IsWide setting.shapes) setting = begins_wide setting fit in
+    seen_fits setting (snapshot setting state prefix) fit
+    (snapshot_meets (IsWide setting.shapes) setting state.order prefix begins.first_rows
+    (reached_state_meets (IsWide setting.shapes) setting state begins r).order)

@@ -16,3 +16,4 @@ pub mod Kept
 pub mod Laws
 pub mod EffectRows
 pub mod Views
+pub mod Rows

@@ -6,6 +6,7 @@ ghost use Rattle.hy_lawful.specs.Rooms.{ReachedPlaced};
 ghost use Rattle.hy_lawful.specs.EffectRows.{InsertsCountPositions, RowsAreFollowed};
 ghost use Rattle.hy_lawful.specs.Kept.{ReachedAreKept};
 ghost use Rattle.hy_lawful.specs.Views.{ReachedTablesFit, ReachedViewsFit};
+ghost use Rattle.hy_lawful.specs.Rows.{ReachedEntriesStand, ReachedRowsMeetDemands};
 
 /// What a transaction did until it ended is what its answered statements come to over the tables of its start, each
 /// INSERT at the position that it took: its replies, its records, and where it committed its writes.
@@ -58,4 +59,15 @@ pub fn reached_views_fit()
 /// So do the tables after any first entries of the commit order.
 pub fn reached_tables_fit()
     ensures { ReachedTablesFit }
+{}
+
+/// Whatever a test demands of the rows of each table: where the first rows meet it, and so do the rows that the statements
+/// write, every row meets it that is in the tables after any first entries of the commit order, or that an entry leaves.
+pub fn reached_rows_meet_demands()
+    ensures { ReachedRowsMeetDemands }
+{}
+
+/// Each entry fits the tables that stand before it, and what it says of a position begins from the cell that stands there.
+pub fn reached_entries_stand()
+    ensures { ReachedEntriesStand }
 {}

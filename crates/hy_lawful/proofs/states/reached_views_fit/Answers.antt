@@ -1,4 +1,4 @@
-use Rattle.hy_lawful.proofs.ViewSteps.{reached_see}
+use Rattle.hy_lawful.proofs.ViewWidths.{reached_see}
 use Rattle.hy_lawful.proofs.states.reached_views_fit.Goals as goal
 
 pub returns : goal.returns

@@ -1,14 +1,22 @@
 -- The words that `hy` takes, in clap's own terms.
-use Rattle.std.specs.Prelude.{ℕ, ℤ, true, false, [], ◌∷◌, Some, codes, pos}
+use Rattle.std.specs.Prelude.{ℕ, ℤ, true, false, [], ◌∷◌, ◌++◌, Some, codes, pos}
 use Rattle.clap.specs.Walk.{Rule, Text}
 use Rattle.clap.specs.Simple.{App, Shape, new_rule, new_shape}
 use Rattle.clap.specs.declared.builder.action.ArgAction.TheVariants.{Set, SetTrue}
 use Rattle.clap.specs.declared.builder.value_parser.ValueParser.TheVariants.{Signed}
 
--- the flag `--no-prune`
+-- a flag: it takes no value, and is true exactly where it is given
+abbrev pub flag : Text → Rule
+flag name = record (new_rule name) { long = Some name; action = Some SetTrue }
+
+abbrev pub threads_flag : Rule
+threads_flag = flag (codes "threads")
+
 abbrev pub prune_flag : Rule
-prune_flag =
-    record (new_rule (codes "no-prune")) { long = Some (codes "no-prune"); action = Some SetTrue }
+prune_flag = flag (codes "no-prune")
+
+abbrev pub log_flag : Rule
+log_flag = flag (codes "log")
 
 -- an option that takes one number from 1 to `most`
 abbrev pub number_option : Text → ℤ → Text → Rule
@@ -34,11 +42,18 @@ chunks = number_option (codes "chunks") (pos 64) (codes "4")
 abbrev pub rows : Rule
 rows = number_option (codes "rows") (pos 1024) (codes "1024")
 
+-- a subcommand with the options for the sizes of a table added, behind its own
+abbrev pub sized : Shape → Shape
+sized shape = record shape { rules = shape.rules ++ chunks ∷ rows ∷ [] }
+
 abbrev pub run : Shape
-run = record (new_shape (codes "run")) { rules = prune_flag ∷ chunks ∷ rows ∷ [] }
+run = sized (record (new_shape (codes "run")) { rules = threads_flag ∷ prune_flag ∷ log_flag ∷ [] })
 
 abbrev pub check : Shape
-check = record (new_shape (codes "check")) { rules = chunks ∷ rows ∷ [] }
+check = sized (new_shape (codes "check"))
+
+abbrev pub recover : Shape
+recover = sized (new_shape (codes "recover"))
 
 abbrev pub seed : Rule
 seed = needed_number (codes "seed") 0 4294967295
@@ -50,21 +65,23 @@ abbrev pub transactions : Rule
 transactions = needed_number (codes "transactions") 1 1000
 
 abbrev pub generate : Shape
-generate = record (new_shape (codes "gen")) { rules = seed ∷ sessions ∷ transactions ∷ [] }
-
--- the commands that take a script: one of these subcommands is wanted, and no call for help or for a version answered
-abbrev pub script_words : App
-script_words = record {
-  top = record (new_shape (codes "hy")) {
-    is_leaf = false;
-    subcommand_required = true;
-    disable_help_flag = true;
-    disable_help_subcommand = true;
-    disable_version_flag = true;
-  };
-  subs = run ∷ check ∷ [];
+generate = record (new_shape (codes "gen")) {
+  rules = seed ∷ sessions ∷ transactions ∷ threads_flag ∷ [];
 }
+
+-- the program with no subcommand yet: one is wanted, and no call for help or for a version answered
+abbrev pub bare : Shape
+bare = record (new_shape (codes "hy")) {
+  subcommand_required = true;
+  disable_help_flag = true;
+  disable_help_subcommand = true;
+  disable_version_flag = true;
+}
+
+-- the commands that take a script
+abbrev pub script_words : App
+script_words = record { top = record bare { is_leaf = false }; subs = run ∷ check ∷ recover ∷ [] }
 
 -- the program: these and `gen`
 abbrev pub hy : App
-hy = record script_words { subs = run ∷ check ∷ generate ∷ [] }
+hy = record script_words { subs = run ∷ check ∷ recover ∷ generate ∷ [] }

@@ -1,6 +1,7 @@
 -- Which command the words are.
 use Rattle.std.specs.Prelude.{ℕ, ◌<◌, ◌≤◌, ◌&&◌, nat_le, Bool, true, false, not, List, Option, Some, None, codes}
-use Rattle.std.specs.Prelude.{if◌then◌else◌, option_and_then}
+use Rattle.std.specs.Prelude.{if◌then◌else◌, option_and_then, option_map}
+use Rattle.std.specs.Option.{option_zip}
 use Rattle.std.specs.Str.{bytes_eq}
 use Rattle.std.specs.Str.Parse.{digits_value, without_leading_plus}
 use Rattle.clap.specs.Faults.{fault_of}
@@ -11,7 +12,7 @@ use Rattle.clap.specs.declared.error.kind.ErrorKind.{ErrorKind}
 use Rattle.clap.specs.declared.error.kind.ErrorKind.TheVariants as kind
 use Rattle.hy_words.specs.Grammar.{hy}
 use Rattle.hy_words.specs.declared.Command.{Command}
-use Rattle.hy_words.specs.declared.Command.TheVariants.{Run, Check, Gen}
+use Rattle.hy_words.specs.declared.Command.TheVariants.{Run, Check, Recover, Gen}
 use Rattle.hy_words.specs.declared.WordsError.{WordsError}
 use Rattle.hy_words.specs.declared.WordsError.TheVariants.{Refused, OutOfMemory}
 
@@ -37,43 +38,46 @@ number_in name matches = option_and_then number_of (one_of name matches)
 abbrev pub number_within : ℕ → ℕ → Text → List Row → Option ℕ
 number_within least most name matches = option_and_then (bounded least most) (number_in name matches)
 
-abbrev pub chunks_in : List Row → Option ℕ
-chunks_in matches = number_within 1 64 (codes "chunks") matches
-
-abbrev pub rows_in : List Row → Option ℕ
-rows_in matches = number_within 1 1024 (codes "rows") matches
+-- how many chunks a table has and how many positions a chunk has, where the matches have both
+abbrev pub sizes_in : List Row → Option (ℕ × ℕ)
+sizes_in matches = option_zip (number_within 1 64 (codes "chunks") matches) (number_within 1 1024 (codes "rows") matches)
 
 abbrev pub truth_in : Text → List Row → Option Bool
 truth_in name matches = option_and_then truth_of (one_of name matches)
 
--- `run` with these, where the matches have each
-abbrev pub run_with : Option Bool → Option ℕ → Option ℕ → Option Command
-run_with (Some keeps) (Some chunks) (Some rows) = Some (Run (not keeps) chunks rows)
-run_with _ _ _ = None
+-- `run` with these, where the matches have each; a run on threads keeps no log
+abbrev pub run_with : Option Bool → Option Bool → Option Bool → Option (ℕ × ℕ) → Option Command
+run_with (Some threads) (Some keeps) (Some log) (Some (chunks, rows)) =
+    if threads && log then None else Some (Run threads (not keeps) log chunks rows)
+run_with _ _ _ _ = None
 
-abbrev pub check_with : Option ℕ → Option ℕ → Option Command
-check_with (Some chunks) (Some rows) = Some (Check chunks rows)
-check_with _ _ = None
-
-abbrev pub gen_with : Option ℕ → Option ℕ → Option ℕ → Option Command
-gen_with (Some seed) (Some sessions) (Some txns) = Some (Gen seed sessions txns)
-gen_with _ _ _ = None
+-- `gen` with these, where the matches have each
+abbrev pub gen_with : Option ℕ → Option ℕ → Option ℕ → Option Bool → Option Command
+gen_with (Some seed) (Some sessions) (Some txns) (Some threads) = Some (Gen seed sessions txns threads)
+gen_with _ _ _ _ = None
 
 -- what the matches of each command ask for
 abbrev pub run_by : List Row → Option Command
-run_by matches = run_with (truth_in (codes "no-prune") matches) (chunks_in matches) (rows_in matches)
+run_by matches =
+    run_with (truth_in (codes "threads") matches) (truth_in (codes "no-prune") matches)
+    (truth_in (codes "log") matches) (sizes_in matches)
 
 abbrev pub check_by : List Row → Option Command
-check_by matches = check_with (chunks_in matches) (rows_in matches)
+check_by matches = option_map (λ sizes. Check sizes.0 sizes.1) (sizes_in matches)
+
+abbrev pub recover_by : List Row → Option Command
+recover_by matches = option_map (λ sizes. Recover sizes.0 sizes.1) (sizes_in matches)
 
 abbrev pub gen_by : List Row → Option Command
 gen_by matches =
-    gen_with (number_in (codes "seed") matches) (number_within 1 64 (codes "sessions") matches) (number_within 1 1000 (codes "transactions") matches)
+    gen_with (number_in (codes "seed") matches) (number_within 1 64 (codes "sessions") matches)
+    (number_within 1 1000 (codes "transactions") matches) (truth_in (codes "threads") matches)
 
 -- what a subcommand with its matches asks for
 abbrev pub asked_by : Option (Text × List Row) → Option Command
 asked_by = option_and_then (λ s. if bytes_eq s.0 (codes "run") then run_by s.1
     else if bytes_eq s.0 (codes "check") then check_by s.1
+    else if bytes_eq s.0 (codes "recover") then recover_by s.1
     else if bytes_eq s.0 (codes "gen") then gen_by s.1 else None)
 
 -- The command that the words are: where clap finds no fault with them, what it makes of them asks for
@@ -81,11 +85,16 @@ asked_by = option_and_then (λ s. if bytes_eq s.0 (codes "run") then run_by s.1
 abbrev pub command_of : List Text → Option Command
 command_of words = if is_empty (fault_of hy words) then asked_by (subcommand_of hy words) else None
 
+-- a table has from 1 to 64 chunks of 1 to 1024 positions
+abbrev pub AreSizes : ℕ → ℕ → Type 0
+AreSizes chunks rows = (0 < chunks) × (chunks ≤ 64) × (0 < rows) × (rows ≤ 1024)
+
 -- the numbers that a command asks for lie within their bounds
 abbrev pub IsWithin : Command → Type 0
-IsWithin (Run prune chunks rows) = (0 < chunks) × (chunks ≤ 64) × (0 < rows) × (rows ≤ 1024)
-IsWithin (Check chunks rows) = (0 < chunks) × (chunks ≤ 64) × (0 < rows) × (rows ≤ 1024)
-IsWithin (Gen seed sessions txns) = (0 < sessions) × (sessions ≤ 64) × (0 < txns) × (txns ≤ 1000)
+IsWithin (Run threads prune log chunks rows) = AreSizes chunks rows
+IsWithin (Check chunks rows) = AreSizes chunks rows
+IsWithin (Recover chunks rows) = AreSizes chunks rows
+IsWithin (Gen seed sessions txns threads) = (0 < sessions) × (sessions ≤ 64) × (0 < txns) × (txns ≤ 1000)
 
 -- what a failed parse comes to
 abbrev pub refusal_of : ErrorKind → WordsError

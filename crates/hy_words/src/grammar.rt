@@ -1,8 +1,9 @@
 //! The words that `hy` takes, as clap has them.
-ghost use Rattle.std.specs.Prelude.{◌≡◌, ◌≤◌, ◌≤ℤ◌, pos, IfOk, false};
+ghost use Rattle.std.specs.Prelude.{◌≡◌, ◌≤◌, ◌≤ℤ◌, pos, IfOk, false, []};
 ghost use Rattle.clap.specs.Words.{app_of, rule_of, shape_of};
 ghost use Rattle.clap.specs.declared.Command.TheViews.{out-Command as fields_of};
-ghost use Rattle.hy_words.specs.Grammar.{check, chunks, generate, hy, needed_number, number_option, prune_flag, rows, run, script_words, seed, sessions, transactions};
+ghost use Rattle.hy_words.specs.Grammar.{bare, check, chunks, generate, hy, recover, rows, run, script_words, seed, sessions, sized, transactions};
+ghost use Rattle.hy_words.specs.Grammar.{flag, needed_number, number_option};
 
 use clap::{Arg, ArgAction, Command, value_parser};
 use std::alloc::{AllocError, Global};
@@ -19,13 +20,22 @@ fn script_words<'a>(alloc: Global) -> Result<Command<'a>, AllocError>
     ensures app { IfOk result (λ c. app_of c ≡ script_words) }
     ensures local { IfOk result (λ c. (fields_of c).has_globals ≡ false) }
 {
+    bare(alloc)
+        .subcommand(run(alloc)?)?
+        .subcommand(check(alloc)?)?
+        .subcommand(recover(alloc)?)
+}
+
+/// The program with no subcommand yet.
+fn bare<'a>(alloc: Global) -> Command<'a>
+    ensures app { app_of result ≡ record { top = bare; subs = [] } }
+    ensures local { (fields_of result).has_globals ≡ false }
+{
     Command::new(alloc, "hy")
         .subcommand_required(true)
         .disable_help_flag(true)
         .disable_help_subcommand(true)
         .disable_version_flag(true)
-        .subcommand(run(alloc)?)?
-        .subcommand(check(alloc)?)
 }
 
 /// The words that `run` takes.
@@ -33,10 +43,11 @@ fn run<'a>(alloc: Global) -> Result<Command<'a>, AllocError>
     ensures shape { IfOk result (λ c. shape_of c ≡ run) }
     ensures local { IfOk result (λ c. (fields_of c).has_globals ≡ false) }
 {
-    Command::new(alloc, "run")
-        .arg(prune_flag(alloc))?
-        .arg(chunks(alloc))?
-        .arg(rows(alloc))
+    let flags = Command::new(alloc, "run")
+        .arg(flag(alloc, "threads"))?
+        .arg(flag(alloc, "no-prune"))?
+        .arg(flag(alloc, "log"))?;
+    sized(alloc, flags)
 }
 
 /// The words that `check` takes.
@@ -44,9 +55,24 @@ fn check<'a>(alloc: Global) -> Result<Command<'a>, AllocError>
     ensures shape { IfOk result (λ c. shape_of c ≡ check) }
     ensures local { IfOk result (λ c. (fields_of c).has_globals ≡ false) }
 {
-    Command::new(alloc, "check")
-        .arg(chunks(alloc))?
-        .arg(rows(alloc))
+    sized(alloc, Command::new(alloc, "check"))
+}
+
+/// The words that `recover` takes.
+fn recover<'a>(alloc: Global) -> Result<Command<'a>, AllocError>
+    ensures shape { IfOk result (λ c. shape_of c ≡ recover) }
+    ensures local { IfOk result (λ c. (fields_of c).has_globals ≡ false) }
+{
+    sized(alloc, Command::new(alloc, "recover"))
+}
+
+/// A subcommand with the options for the sizes of a table added, behind its own.
+#[tactic(auto, using(crate::proofs::Added::added_twice))]
+fn sized<'a>(alloc: Global, command: Command<'a>) -> Result<Command<'a>, AllocError>
+    ensures shape { IfOk result (λ c. shape_of c ≡ sized (shape_of command.entry)) }
+    ensures local { (fields_of command.entry).has_globals ≡ false → IfOk result (λ c. (fields_of c).has_globals ≡ false) }
+{
+    command.arg(chunks(alloc))?.arg(rows(alloc))
 }
 
 /// The words that `gen` takes.
@@ -57,17 +83,16 @@ fn generate<'a>(alloc: Global) -> Result<Command<'a>, AllocError>
     Command::new(alloc, "gen")
         .arg(seed(alloc))?
         .arg(sessions(alloc))?
-        .arg(transactions(alloc))
+        .arg(transactions(alloc))?
+        .arg(flag(alloc, "threads"))
 }
 
-/// The flag `--no-prune`.
-fn prune_flag<'a>(alloc: Global) -> Arg<'a>
-    ensures rule { rule_of result ≡ prune_flag }
+/// A flag: it takes no value, and is true exactly where it is given.
+fn flag<'a>(alloc: Global, name: &'a str) -> Arg<'a>
+    ensures rule { rule_of result ≡ flag name.entry.now }
     ensures local { result.global ≡ false }
 {
-    Arg::new(alloc, "no-prune")
-        .long("no-prune")
-        .action(ArgAction::SetTrue)
+    Arg::new(alloc, name).long(name).action(ArgAction::SetTrue)
 }
 
 /// The option `--chunks`.

@@ -4,7 +4,8 @@
 ghost use Rattle.std.specs.Prelude.{◌≡◌, ◌≤◌, Some, None, Err, IfOk, IfSome, map};
 ghost use Rattle.std.specs.String.{string_bytes};
 ghost use Rattle.clap.specs.Words.{found_of, rows_of, subcommand_rows_of};
-ghost use Rattle.hy_words.specs.Words.{IsWithin, asked_by, check_by, command_of, gen_by, number_in, number_within, refusal_of, run_by, truth_in};
+ghost use Rattle.hy_words.specs.Words.{AreSizes, IsWithin, asked_by, check_by, command_of, gen_by, number_in, number_within};
+ghost use Rattle.hy_words.specs.Words.{recover_by, refusal_of, run_by, sizes_in, truth_in};
 
 mod grammar;
 
@@ -18,8 +19,12 @@ use std::alloc::{AllocError, Global};
 pub enum Command {
     /// Run a script.
     Run {
+        /// Whether each session runs on a thread of its own.
+        threads: bool,
         /// Whether chains of versions are pruned.
         prune: bool,
+        /// Whether each entry of the commit order is kept in a redo log.
+        log: bool,
         /// How many chunks a table has.
         chunks: u32,
         /// How many positions a chunk has.
@@ -27,6 +32,13 @@ pub enum Command {
     },
     /// Read a script and count what it has.
     Check {
+        /// How many chunks a table has.
+        chunks: u32,
+        /// How many positions a chunk has.
+        rows: u32,
+    },
+    /// Make the tables of a script again from a redo log.
+    Recover {
         /// How many chunks a table has.
         chunks: u32,
         /// How many positions a chunk has.
@@ -40,6 +52,8 @@ pub enum Command {
         sessions: u32,
         /// How many transactions each has.
         txns: u32,
+        /// Whether each session runs on a thread of its own.
+        threads: bool,
     },
 }
 
@@ -95,6 +109,7 @@ fn asked(matches: &ArgMatches<'_>) -> Option<Command>
     match name {
         "run" => run_asked(given),
         "check" => check_asked(given),
+        "recover" => recover_asked(given),
         "gen" => gen_asked(given),
         _ => None,
     }
@@ -105,11 +120,17 @@ fn run_asked(given: &ArgMatches<'_>) -> Option<Command>
     ensures asked { result ≡ run_by (rows_of (found_of given.now)) }
     ensures within { IfSome result (λ command. IsWithin command) }
 {
+    let threads = truth(given, "threads")?;
     let keeps = truth(given, "no-prune")?;
-    let chunks = number_between(given, "chunks", 1, 64)?;
-    let rows = number_between(given, "rows", 1, 1024)?;
+    let log = truth(given, "log")?;
+    let (chunks, rows) = sizes(given)?;
+    if threads && log {
+        return None;
+    }
     Some(Command::Run {
+        threads,
         prune: !keeps,
+        log,
         chunks,
         rows,
     })
@@ -120,9 +141,17 @@ fn check_asked(given: &ArgMatches<'_>) -> Option<Command>
     ensures asked { result ≡ check_by (rows_of (found_of given.now)) }
     ensures within { IfSome result (λ command. IsWithin command) }
 {
-    let chunks = number_between(given, "chunks", 1, 64)?;
-    let rows = number_between(given, "rows", 1, 1024)?;
+    let (chunks, rows) = sizes(given)?;
     Some(Command::Check { chunks, rows })
+}
+
+/// What the matches of `recover` ask for.
+fn recover_asked(given: &ArgMatches<'_>) -> Option<Command>
+    ensures asked { result ≡ recover_by (rows_of (found_of given.now)) }
+    ensures within { IfSome result (λ command. IsWithin command) }
+{
+    let (chunks, rows) = sizes(given)?;
+    Some(Command::Recover { chunks, rows })
 }
 
 /// What the matches of `gen` ask for.
@@ -133,11 +162,23 @@ fn gen_asked(given: &ArgMatches<'_>) -> Option<Command>
     let seed = number(given, "seed")?;
     let sessions = number_between(given, "sessions", 1, 64)?;
     let txns = number_between(given, "transactions", 1, 1000)?;
+    let threads = truth(given, "threads")?;
     Some(Command::Gen {
         seed,
         sessions,
         txns,
+        threads,
     })
+}
+
+/// How many chunks a table has and how many positions a chunk has, as the matches have them.
+fn sizes(given: &ArgMatches<'_>) -> Option<(u32, u32)>
+    ensures sizes { result ≡ sizes_in (rows_of (found_of given.now)) }
+    ensures within { IfSome result (λ sizes. AreSizes sizes.0 sizes.1) }
+{
+    let chunks = number_between(given, "chunks", 1, 64)?;
+    let rows = number_between(given, "rows", 1, 1024)?;
+    Some((chunks, rows))
 }
 
 /// The number that the matches have for an option.

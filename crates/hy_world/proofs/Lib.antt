@@ -4,6 +4,7 @@ pub mod Opened
 pub mod Widths
 pub mod ReadBack
 pub mod Told
+mod SentSessions
 mod Parts
 mod Visits
 mod Kept
@@ -11,3 +12,7 @@ mod Finds
 mod Ahead
 mod Loops
 mod Runs
+pub mod Growing
+pub mod Logs
+pub mod SharedWorlds
+pub mod Turned

@@ -34,7 +34,8 @@ use Rattle.hy_shows.specs.Parts.{ChunkIs, PartsAre, OfPlaces}
 use Rattle.hy_shows.specs.Shows.{IsFresh, IsLaidOut, IsOpening, blank_core}
 use Rattle.hy_near.specs.Runnable.{IsRunnable}
 use Rattle.hy_near.specs.Typed.{AreTyped, kinds_of}
-use Rattle.hy_world.specs.Openings.{places_with, first_rows, rows_in, laid_chunk, IsLaid, AreLaid, new_session, sessions_from}
+use Rattle.hy_world.specs.Openings.{places_with, first_rows, rows_in, laid_chunk, IsLaid, AreLaid, new_session, sessions_from, layout_of, IsOpened}
+use Rattle.hy_world.specs.declared.opening.Opened.{Opened}
 use Rattle.hy_world.specs.Worlds.{ShowsState, IsWorld, HaveTypes, parts_of, plain}
 use Rattle.hy_world.proofs.Gets.{got, below, in_front, at_end, got_map, got_take, got_drop, as_long, both_at}
 use Rattle.hy_world.proofs.Laying.{places_long, laid_at}
@@ -186,9 +187,6 @@ session_is shapes layout prunes first (suc n) (program ∷ programs) session e =
     ap (λ (number : ℕ). new_session shapes layout prunes number (get_or programs n [])) there
     ∙ session_is shapes layout prunes (suc first) n programs session e
 
-abbrev pub layout_of : Setting → Layout
-layout_of setting = record { chunks = setting.chunks; rows = setting.rows }
-
 fresh_is : (setting : Setting) (prunes : Bool) (number : ℕ) (session : SessionData)
     → slice_get (sessions_from setting.shapes (layout_of setting) prunes 0 setting.programs) number ≡ Some session → IsFresh setting number session
 fresh_is setting prunes number session e =
@@ -330,3 +328,32 @@ txns_few setting runnable =
     let few : List Txn → Type 0 = λ program. length program ≤ MOST_TXNS in
     recursion_from_All few setting.programs
     (All-weaker (FitsSession setting.shapes) few (λ program fits. fits.few) setting.programs runnable.fits.sessions)
+
+-- ---- of what was opened
+
+-- what was opened shows the opening
+pub shown_opened : OpeningIsShown → (setting : Setting) (kinds : List (List Kind)) (prunes : Bool) (tables : ℕ) (opened : Opened) → IsRunnable setting
+    → AreTyped kinds setting.shapes setting.first setting.programs → IsOpened setting kinds prunes opened → tables ≡ length opened.shapes
+    → ShowsState setting (opening_of setting)
+    (record { tables = tables; per_table = opened.per_table; chunks = plain opened.chunks.items; core = opened.core; sessions = opened.sessions.items })
+shown_opened law setting kinds prunes tables opened runnable typed is count =
+    subst (λ (per : ℕ). ShowsState setting (opening_of setting)
+    (record { tables = tables; per_table = per; chunks = plain opened.chunks.items; core = opened.core; sessions = opened.sessions.items }))
+    (sym is.per_table)
+    (opened_shows law setting kinds prunes tables opened.chunks.items opened.core opened.sessions.items runnable typed is.laid is.core is.sessions
+    (count ∙ ap length is.shapes))
+
+-- and is a world
+pub world_opened : OpeningIsShown → (setting : Setting) (kinds : List (List Kind)) (prunes : Bool) (tables : ℕ) (opened : Opened) → IsRunnable setting
+    → AreTyped kinds setting.shapes setting.first setting.programs → IsOpened setting kinds prunes opened → tables ≡ length opened.shapes
+    → IsWorld opened.shapes tables opened.per_table opened.chunks.items opened.core opened.sessions.items
+world_opened law setting kinds prunes tables opened runnable typed is count =
+    subst (λ (shapes : List Shape). IsWorld shapes tables opened.per_table opened.chunks.items opened.core opened.sessions.items) (sym is.shapes)
+    (subst (λ (per : ℕ). IsWorld setting.shapes tables per opened.chunks.items opened.core opened.sessions.items) (sym is.per_table)
+    (opened_world law setting kinds prunes tables opened.chunks.items opened.core opened.sessions.items runnable typed is.laid is.core is.sessions
+    (count ∙ ap length is.shapes)))
+
+-- its chunks have the types of their tables
+pub types_opened : (setting : Setting) (kinds : List (List Kind)) (prunes : Bool) (opened : Opened) → IsOpened setting kinds prunes opened
+    → HaveTypes kinds setting.chunks opened.chunks.items
+types_opened setting kinds prunes opened is = have_types setting kinds (length setting.shapes * setting.chunks) opened.chunks.items is.laid

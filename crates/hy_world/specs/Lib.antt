@@ -3,3 +3,9 @@ pub mod Asks
 pub mod Follows
 pub mod Openings
 pub mod Finished
+pub mod Shared
+pub mod Kinds
+pub mod SharedLaws
+pub mod SomeRuns
+pub mod Points
+pub mod Logged

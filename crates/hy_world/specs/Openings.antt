@@ -14,6 +14,8 @@ use Rattle.hy_event.specs.declared.SessionData.{SessionData}
 use Rattle.hy_machine.specs.declared.Setting.{Setting}
 use Rattle.hy_session.specs.declared.Layout.{Layout}
 use Rattle.hy_near.specs.Typed.{kinds_of}
+use Rattle.hy_shows.specs.Shows.{blank_core}
+use Rattle.hy_world.specs.declared.opening.Opened.{Opened}
 
 -- ---- chunks
 
@@ -73,3 +75,16 @@ abbrev pub sessions_from : List Shape → Layout → Bool → ℕ → List (List
 sessions_from shapes layout prunes number [] = []
 sessions_from shapes layout prunes number (program ∷ programs) =
     new_session shapes layout prunes number program ∷ sessions_from shapes layout prunes (suc number) programs
+
+-- ---- all of them
+
+abbrev pub layout_of : Setting → Layout
+layout_of setting = record { chunks = setting.chunks; rows = setting.rows }
+
+-- the chunks have the first rows, the core is blank, and the sessions have done nothing
+pub record IsOpened (setting : Setting) (kinds : List (List Kind)) (prunes : Bool) (opened : Opened) : Type 0 where
+  pub shapes : opened.shapes ≡ setting.shapes
+  pub per_table : opened.per_table ≡ setting.chunks
+  pub laid : AreLaid setting kinds (length setting.shapes * setting.chunks) opened.chunks.items
+  pub core : opened.core ≡ blank_core
+  pub sessions : opened.sessions.items ≡ sessions_from setting.shapes (layout_of setting) prunes 0 setting.programs

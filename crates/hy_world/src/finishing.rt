@@ -169,7 +169,8 @@ impl World {
     /// What its sessions came to, the commit order and the last rows of its tables: where all sessions are at their
     /// end that is the machine's outcome. Err is for want of memory.
     pub fn finish(self, alloc: Global) -> Result<Outcome, AllocError>
-        ensures { IfOk result (λ outcome. Tells self outcome) }
+        ensures tells { IfOk result (λ outcome. Tells self outcome) }
+        ensures order { IfOk result (λ outcome. outcome.order ≡ map told_entry self.core.entries) }
     {
         hy_near::outcomes_are_told();
         hy_lawful::reached_tables_fit();

@@ -12,16 +12,21 @@ ghost use Rattle.hy_near.specs.Runnable.{IsRunnable};
 ghost use Rattle.hy_near.specs.Typed.{AreTyped};
 
 mod finishing;
+mod logging;
 mod opening;
+mod shared;
 mod steps;
+mod threads;
 mod visiting;
 mod world;
 
+use hy_disk::NoDisk;
 use hy_machine::Setting;
 use hy_render::Outcome;
 use hy_schedule::Item;
 use hy_value::{Kind, Seq};
 use std::alloc::{AllocError, Global};
+pub use threads::run_threads;
 pub use world::World;
 
 /// The types of a table's columns.
@@ -43,6 +48,8 @@ pub fn run(
     hy_near::ends_are_the_machines();
     hy_machine::runs_are_steps();
     let mut world = World::open(alloc, setting, kinds, prunes)?;
-    world.run(alloc, schedule)?;
-    world.finish(alloc)
+    match world.run(alloc, schedule, &mut None, &mut NoDisk) {
+        Ok(()) => world.finish(alloc),
+        Err(_) => Err(AllocError),
+    }
 }

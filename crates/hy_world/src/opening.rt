@@ -1,6 +1,6 @@
 //! A world before anything has happened.
 
-ghost use Rattle.std.specs.Prelude.{◌≡◌, ◌+◌, ◌*◌, ◌<◌, ◌≤◌, ◌^◌, List, IfOk, OnOk, length, take, drop, replicate};
+ghost use Rattle.std.specs.Prelude.{◌≡◌, ◌+◌, ◌*◌, ◌<◌, ◌≤◌, ◌^◌, List, [], IfOk, OnOk, length, take, drop, replicate};
 ghost use Rattle.std.specs.List.{All, AllByRecursion};
 ghost use Rattle.hy_bound.specs.declared.Txn.{Txn};
 ghost use Rattle.hy_chunk.specs.Fields.{blank_place};
@@ -10,11 +10,11 @@ ghost use Rattle.hy_limits.specs.declared.TheConstants.{MOST_TABLES, MOST_TXNS};
 ghost use Rattle.hy_machine.specs.Runs.{opening_of};
 ghost use Rattle.hy_near.specs.Runnable.{IsRunnable};
 ghost use Rattle.hy_near.specs.Typed.{AreTyped, kinds_of};
-ghost use Rattle.hy_world.specs.Openings.{places_with, first_rows, IsLaid, AreLaid, sessions_from};
+ghost use Rattle.hy_world.specs.Openings.{places_with, first_rows, IsLaid, AreLaid, sessions_from, IsOpened};
 ghost use Rattle.hy_world.specs.Worlds.{ShowsState};
 
 use crate::{Kinds, World};
-use hy_bound::{Rows, Shape, Txns, table_shape};
+use hy_bound::{Rows, Shape, Shapes, Txns, table_shape};
 use hy_chunk::Chunk;
 use hy_core::Core;
 use hy_machine::Setting;
@@ -141,6 +141,43 @@ fn all_sessions(
     Ok(sessions)
 }
 
+/// The parts and the sessions of a setting before anything has happened.
+#[derive(Drop)]
+pub(crate) struct Opened {
+    pub(crate) shapes: Shapes,
+    pub(crate) per_table: u32,
+    pub(crate) chunks: Vec<Chunk>,
+    pub(crate) core: Core,
+    pub(crate) sessions: Vec<Session>,
+}
+
+/// The parts and the sessions of a setting: its chunks have the first rows, and its sessions have done nothing.
+pub(crate) fn open_all(
+    alloc: Global,
+    setting: Setting,
+    kinds: &[Kinds],
+    prunes: bool,
+) -> Result<Opened, AllocError>
+    requires runnable { IsRunnable setting }
+    requires typed { AreTyped kinds.now setting.shapes setting.first setting.programs }
+    ensures { IfOk result (λ opened. IsOpened setting kinds.now prunes opened) }
+{
+    let chunks = all_chunks(alloc, &setting, kinds)?;
+    let layout = Layout {
+        chunks: setting.chunks,
+        rows: setting.rows,
+    };
+    let shapes = setting.shapes;
+    let sessions = all_sessions(alloc, setting.programs, shapes.as_slice(), layout, prunes)?;
+    Ok(Opened {
+        shapes,
+        per_table: layout.chunks,
+        chunks,
+        core: Core::new(alloc),
+        sessions,
+    })
+}
+
 impl World {
     /// The world of a setting: its chunks have the first rows, and its sessions have done nothing. They prune the
     /// chunks that they write, or do not. Err is for want of memory.
@@ -152,23 +189,24 @@ impl World {
     ) -> Result<World, AllocError>
         requires runnable { IsRunnable setting }
         requires typed { AreTyped kinds.now setting.shapes setting.first setting.programs }
-        ensures { IfOk result (λ world. ShowsState setting (opening_of setting) world) }
+        ensures shows { IfOk result (λ world. ShowsState setting (opening_of setting) world) }
+        ensures entries { IfOk result (λ world. world.core.entries ≡ []) }
     {
         hy_shows::the_opening_is_shown();
-        let chunks = all_chunks(alloc, &setting, kinds)?;
-        let layout = Layout {
-            chunks: setting.chunks,
-            rows: setting.rows,
-        };
-        let shapes = setting.shapes;
-        let sessions = all_sessions(alloc, setting.programs, shapes.as_slice(), layout, prunes)?;
+        let Opened {
+            shapes,
+            per_table,
+            chunks,
+            core,
+            sessions,
+        } = open_all(alloc, setting, kinds, prunes)?;
         let tables = shapes.len() as u32;
         Ok(World {
             shapes,
             tables,
-            per_table: layout.chunks,
+            per_table,
             chunks,
-            core: Core::new(alloc),
+            core,
             sessions,
         })
     }

@@ -1,15 +1,21 @@
-//! Steps of sessions, items of a schedule, and rounds.
+//! Steps of sessions, items of a schedule, and rounds. Where a log is kept, it has each entry of the journal before anybody
+//! takes another step.
 
-ghost use Rattle.std.specs.Prelude.{◌≡◌, IfOk, OnOk, OnErr, length};
+ghost use Rattle.std.specs.Prelude.{◌≡◌, IfOk, OnOk, IsErrOf, is_some, length};
+ghost use Rattle.hy_outside.specs.Faults.{Rose};
 ghost use Rattle.hy_near.specs.Outcomes.{is_done, are_done};
 ghost use Rattle.hy_machine.specs.Runs.{is_moved, whole_of, item_of, items_of, round_of, rounds_of};
 ghost use Rattle.hy_world.specs.Follows.{Follows, Steps};
+ghost use Rattle.hy_world.specs.Logged.{IsKept, Logs};
 
 use crate::World;
+use crate::logging::keep;
+use hy_disk::Disk;
 use hy_event::Need;
 use hy_machine::Stepped;
+use hy_redo::{AppendError, Log};
 use hy_schedule::Item;
-use std::alloc::{AllocError, Global};
+use std::alloc::Global;
 
 /// Whether a session went on without an answer.
 fn has_moved(stepped: Stepped) -> bool
@@ -26,13 +32,47 @@ fn is_at_end(need: Need) -> bool
 }
 
 impl World {
+    /// A step of a session. Where it enters a transaction into the journal, the log has that entry after it.
+    fn step_logged<D: Disk>(
+        &mut self,
+        alloc: Global,
+        number: u32,
+        log: &mut Option<Log>,
+        disk: &mut D,
+    ) -> Result<Stepped, AppendError>
+        requires kept { IsKept D.image self.old.core.entries log.old disk.old }
+        ensures step { IfOk result (λ stepped. Steps number stepped self.old self.new) }
+        ensures kept { OnOk result (IsKept D.image self.new.core.entries log.new disk.new) }
+        ensures stays { is_some log.new ≡ is_some log.old }
+        ensures logs { Logs D.clock D.image_since self.old.core.entries self.new.core.entries disk.old disk.new }
+        ensures fault { IsErrOf result AppendError.DiskFault → Rose (D.faults disk.old) (D.faults disk.new) }
+        ensures steady { ¬ IsErrOf result AppendError.DiskFault → D.faults disk.new ≡ D.faults disk.old }
+    {
+        let before = self.core.since(0).len();
+        let stepped = self.step(alloc, number)?;
+        keep(alloc, log, disk, self.core.since(before).first())?;
+        Ok(stepped)
+    }
+
     /// A session's steps until it answers, is blocked or has ended.
-    fn step_whole(&mut self, alloc: Global, number: u32) -> Result<(), AllocError>
-        ensures { OnOk result (Follows (λ setting state. whole_of setting state number) self.old self.new) }
+    fn step_whole<D: Disk>(
+        &mut self,
+        alloc: Global,
+        number: u32,
+        log: &mut Option<Log>,
+        disk: &mut D,
+    ) -> Result<(), AppendError>
+        requires kept { IsKept D.image self.old.core.entries log.old disk.old }
+        ensures follows { OnOk result (Follows (λ setting state. whole_of setting state number) self.old self.new) }
+        ensures kept { OnOk result (IsKept D.image self.new.core.entries log.new disk.new) }
+        ensures stays { is_some log.new ≡ is_some log.old }
+        ensures logs { Logs D.clock D.image_since self.old.core.entries self.new.core.entries disk.old disk.new }
+        ensures fault { IsErrOf result AppendError.DiskFault → Rose (D.faults disk.old) (D.faults disk.new) }
+        ensures steady { ¬ IsErrOf result AppendError.DiskFault → D.faults disk.new ≡ D.faults disk.old }
     {
         hy_near::bounds_are_enough();
         for _turn in 0..u64::MAX {
-            let stepped = self.step(alloc, number)?;
+            let stepped = self.step_logged(alloc, number, log, disk)?;
             if !has_moved(stepped) {
                 return Ok(());
             }
@@ -41,22 +81,46 @@ impl World {
     }
 
     /// An item of a schedule.
-    fn run_item(&mut self, alloc: Global, item: Item) -> Result<(), AllocError>
-        ensures { OnOk result (Follows (λ setting state. item_of setting state item) self.old self.new) }
+    fn run_item<D: Disk>(
+        &mut self,
+        alloc: Global,
+        item: Item,
+        log: &mut Option<Log>,
+        disk: &mut D,
+    ) -> Result<(), AppendError>
+        requires kept { IsKept D.image self.old.core.entries log.old disk.old }
+        ensures follows { OnOk result (Follows (λ setting state. item_of setting state item) self.old self.new) }
+        ensures kept { OnOk result (IsKept D.image self.new.core.entries log.new disk.new) }
+        ensures stays { is_some log.new ≡ is_some log.old }
+        ensures logs { Logs D.clock D.image_since self.old.core.entries self.new.core.entries disk.old disk.new }
+        ensures fault { IsErrOf result AppendError.DiskFault → Rose (D.faults disk.old) (D.faults disk.new) }
+        ensures steady { ¬ IsErrOf result AppendError.DiskFault → D.faults disk.new ≡ D.faults disk.old }
     {
         if item.whole {
-            return self.step_whole(alloc, item.session);
+            return self.step_whole(alloc, item.session, log, disk);
         }
-        let _ = self.step(alloc, item.session)?;
+        let _ = self.step_logged(alloc, item.session, log, disk)?;
         Ok(())
     }
 
     /// The items of a schedule, one after another.
-    fn run_items(&mut self, alloc: Global, items: &[Item]) -> Result<(), AllocError>
-        ensures { OnOk result (Follows (λ setting state. items_of setting state items.now) self.old self.new) }
+    fn run_items<D: Disk>(
+        &mut self,
+        alloc: Global,
+        items: &[Item],
+        log: &mut Option<Log>,
+        disk: &mut D,
+    ) -> Result<(), AppendError>
+        requires kept { IsKept D.image self.old.core.entries log.old disk.old }
+        ensures follows { OnOk result (Follows (λ setting state. items_of setting state items.now) self.old self.new) }
+        ensures kept { OnOk result (IsKept D.image self.new.core.entries log.new disk.new) }
+        ensures stays { is_some log.new ≡ is_some log.old }
+        ensures logs { Logs D.clock D.image_since self.old.core.entries self.new.core.entries disk.old disk.new }
+        ensures fault { IsErrOf result AppendError.DiskFault → Rose (D.faults disk.old) (D.faults disk.new) }
+        ensures steady { ¬ IsErrOf result AppendError.DiskFault → D.faults disk.new ≡ D.faults disk.old }
     {
         for item in items {
-            self.run_item(alloc, *item)?;
+            self.run_item(alloc, *item, log, disk)?;
         }
         Ok(())
     }
@@ -69,12 +133,23 @@ impl World {
     }
 
     /// A round: each session, in order, as far as it answers.
-    fn run_round(&mut self, alloc: Global) -> Result<(), AllocError>
-        ensures { OnOk result (Follows (λ setting state. round_of setting state) self.old self.new) }
+    fn run_round<D: Disk>(
+        &mut self,
+        alloc: Global,
+        log: &mut Option<Log>,
+        disk: &mut D,
+    ) -> Result<(), AppendError>
+        requires kept { IsKept D.image self.old.core.entries log.old disk.old }
+        ensures follows { OnOk result (Follows (λ setting state. round_of setting state) self.old self.new) }
+        ensures kept { OnOk result (IsKept D.image self.new.core.entries log.new disk.new) }
+        ensures stays { is_some log.new ≡ is_some log.old }
+        ensures logs { Logs D.clock D.image_since self.old.core.entries self.new.core.entries disk.old disk.new }
+        ensures fault { IsErrOf result AppendError.DiskFault → Rose (D.faults disk.old) (D.faults disk.new) }
+        ensures steady { ¬ IsErrOf result AppendError.DiskFault → D.faults disk.new ≡ D.faults disk.old }
     {
         hy_lawful::reached_states_are_kept();
         for number in 0..self.session_count() {
-            self.step_whole(alloc, number)?;
+            self.step_whole(alloc, number, log, disk)?;
         }
         Ok(())
     }
@@ -92,8 +167,19 @@ impl World {
     }
 
     /// Rounds until every session has ended.
-    fn run_rounds(&mut self, alloc: Global) -> Result<(), AllocError>
-        ensures { OnOk result (Follows (λ setting state. rounds_of setting state) self.old self.new) }
+    fn run_rounds<D: Disk>(
+        &mut self,
+        alloc: Global,
+        log: &mut Option<Log>,
+        disk: &mut D,
+    ) -> Result<(), AppendError>
+        requires kept { IsKept D.image self.old.core.entries log.old disk.old }
+        ensures follows { OnOk result (Follows (λ setting state. rounds_of setting state) self.old self.new) }
+        ensures kept { OnOk result (IsKept D.image self.new.core.entries log.new disk.new) }
+        ensures stays { is_some log.new ≡ is_some log.old }
+        ensures logs { Logs D.clock D.image_since self.old.core.entries self.new.core.entries disk.old disk.new }
+        ensures fault { IsErrOf result AppendError.DiskFault → Rose (D.faults disk.old) (D.faults disk.new) }
+        ensures steady { ¬ IsErrOf result AppendError.DiskFault → D.faults disk.new ≡ D.faults disk.old }
     {
         hy_near::bounds_are_enough();
         hy_near::ends_are_the_machines();
@@ -101,16 +187,29 @@ impl World {
             if self.is_done() {
                 return Ok(());
             }
-            self.run_round(alloc)?;
+            self.run_round(alloc, log, disk)?;
         }
         Ok(())
     }
 
-    /// Runs a schedule, and then rounds until every session has ended. Err is for want of memory.
-    pub fn run(&mut self, alloc: Global, schedule: &[Item]) -> Result<(), AllocError>
-        ensures { OnOk result (Follows (λ setting state. rounds_of setting (items_of setting state schedule.now)) self.old self.new) }
+    /// Runs a schedule, and then rounds until every session has ended, with each entry in the log, where one is kept. Err
+    /// is for want of memory, or a fault of the disk.
+    pub fn run<D: Disk>(
+        &mut self,
+        alloc: Global,
+        schedule: &[Item],
+        log: &mut Option<Log>,
+        disk: &mut D,
+    ) -> Result<(), AppendError>
+        requires kept { IsKept D.image self.old.core.entries log.old disk.old }
+        ensures follows { OnOk result (Follows (λ setting state. rounds_of setting (items_of setting state schedule.now)) self.old self.new) }
+        ensures kept { OnOk result (IsKept D.image self.new.core.entries log.new disk.new) }
+        ensures stays { is_some log.new ≡ is_some log.old }
+        ensures logs { Logs D.clock D.image_since self.old.core.entries self.new.core.entries disk.old disk.new }
+        ensures fault { IsErrOf result AppendError.DiskFault → Rose (D.faults disk.old) (D.faults disk.new) }
+        ensures steady { ¬ IsErrOf result AppendError.DiskFault → D.faults disk.new ≡ D.faults disk.old }
     {
-        self.run_items(alloc, schedule)?;
-        self.run_rounds(alloc)
+        self.run_items(alloc, schedule, log, disk)?;
+        self.run_rounds(alloc, log, disk)
     }
 }

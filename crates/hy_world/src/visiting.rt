@@ -5,6 +5,7 @@ ghost use Rattle.hy_event.specs.declared.Need.{Need};
 ghost use Rattle.hy_shows.specs.Taken.{stepped_of};
 ghost use Rattle.hy_world.specs.Asks.{need_at};
 ghost use Rattle.hy_world.specs.Follows.{Steps};
+ghost use Rattle.hy_world.specs.Logged.{GrowByOne};
 
 use crate::World;
 use hy_event::{Need, Progress};
@@ -45,6 +46,7 @@ impl World {
         requires { need_at self.old.sessions number ≡ Need.Core }
         ensures step { IfOk result (λ progress. Steps number (stepped_of progress) self.old self.new) }
         ensures err { OnErr result (self.new ≡ self.old) }
+        ensures grows { GrowByOne self.old.core.entries self.new.core.entries }
     {
         hy_near::cores_are_near();
         hy_near::visits_are_steps();
@@ -63,6 +65,7 @@ impl World {
         requires { need_at self.old.sessions number ≡ Need.Chunk table chunk }
         ensures step { IfOk result (λ progress. Steps number (stepped_of progress) self.old self.new) }
         ensures err { OnErr result (self.new ≡ self.old) }
+        ensures grows { GrowByOne self.old.core.entries self.new.core.entries }
     {
         hy_near::needed_chunks_are_there();
         hy_near::chunks_are_near();
@@ -77,6 +80,7 @@ impl World {
     pub fn step(&mut self, alloc: Global, number: u32) -> Result<Stepped, AllocError>
         ensures step { IfOk result (λ stepped. Steps number stepped self.old self.new) }
         ensures err { OnErr result (self.new ≡ self.old) }
+        ensures grows { GrowByOne self.old.core.entries self.new.core.entries }
     {
         hy_near::ended_stay_as_they_are();
         match self.needed(number) {

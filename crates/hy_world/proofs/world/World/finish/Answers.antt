@@ -1,4 +1,4 @@
-use Rattle.std.proofs.Common.{ℕ, List, length, map, subst, sym, ap, ◌∙◌}
+use Rattle.std.proofs.Common.{◌≡◌, ℕ, List, length, map, subst, sym, ap, ◌∙◌}
 use Rattle.hy_bound.specs.declared.Shape.{Shape}
 use Rattle.hy_near.specs.Outcomes.{told_entry}
 use Rattle.hy_render.specs.declared.Outcome.{Outcome}
@@ -14,8 +14,8 @@ all_rows-requires-clause-wide c =
     subst (λ (shapes : List Shape). HaveTheirWidths shapes world.per_table world.chunks.items) (sym c.as_slice.ensures)
     (widths_are world.shapes world.tables world.per_table world.chunks.items world.core world.sessions.items c.self.invariant)
 
-pub returns : goal.returns
-returns c =
+pub returns-clause-tells : goal.returns-clause-tells
+returns-clause-tells c =
     let world = c.self.inside in
     let outcome : Outcome = record { txns = c.in_ok-txns.txns; order = c.in_ok-order.order; tables = c.in_ok-tables.tables } in
     let back =
@@ -28,3 +28,8 @@ returns c =
     subst (λ (shown : WorldData). Tells shown outcome) c.self.view_is
     (tells c.outcomes_are_told.ensures c.reached_tables_fit.ensures world.shapes world.tables world.per_table world.chunks.items world.core
     world.sessions.items outcome c.self.invariant c.in_ok-txns.ensures order back)
+
+pub returns-clause-order : goal.returns-clause-order
+returns-clause-order c =
+    subst (λ (shown : WorldData). c.in_ok-order.order ≡ map told_entry shown.core.entries) c.self.view_is
+    (c.in_ok-order.ensures ∙ ap (map told_entry) c.into_entries.ensures)

@@ -1,10 +1,21 @@
-use Rattle.std.proofs.Common.{false}
+use Rattle.std.proofs.Common.{◌∙◌, false}
 use Rattle.hy_schedule.specs.declared.Item.{Item}
 use Rattle.hy_world.proofs.Loops.{items_go_on}
+use Rattle.hy_world.proofs.Logs.{logs_then, ok_is_no_error}
 use Rattle.hy_world.proofs.world.World.run_items.Goals as goal
 
+pub returns-in_err-run_item-clause-logs : goal.returns-in_err-run_item-clause-logs
+returns-in_err-run_item-clause-logs g c =
+    logs_then g.D.Disk.clock g.D.Disk.image_since _ _ _ _ _ _ c.loop-item.invariant.logs c.run_item.ensures.logs
+
 pub loop-item-preserved : goal.loop-item-preserved
-loop-item-preserved c =
+loop-item-preserved g c =
     let other : Item = record { session = 0; whole = false } in
-    items_go_on c.args.items.now c.loop-item.item-index other c.args.self.now c.loop-item.self c.run_item.new.self c.loop-item-test.true c.loop-item.invariant
-    c.in_ok-run_item.ensures
+    record {
+      ahead = items_go_on c.args.items.now c.loop-item.item-index other c.args.self.now c.loop-item.self c.run_item.new.self c.loop-item-test.true
+          c.loop-item.invariant.ahead c.in_ok-run_item.ensures.follows;
+      kept = c.in_ok-run_item.ensures.kept;
+      stays = c.in_ok-run_item.ensures.stays ∙ c.loop-item.invariant.stays;
+      logs = logs_then g.D.Disk.clock g.D.Disk.image_since _ _ _ _ _ _ c.loop-item.invariant.logs c.run_item.ensures.logs;
+      steady = c.in_ok-run_item.ensures.steady (ok_is_no_error _ _) ∙ c.loop-item.invariant.steady;
+    }

@@ -1,21 +1,37 @@
-use Rattle.std.proofs.Common.{◌≡◌, true, false, arith, rules, tests}
+use Rattle.std.proofs.Common.{◌≡◌, ◌∙◌, true, false, arith, rules, tests}
 use Rattle.std.proofs.lemmas.Grind.{common_steps}
 use Rattle.hy_machine.specs.Runs.{is_moved}
 use Rattle.hy_near.specs.Bounds.{most_turns}
 use Rattle.hy_world.proofs.Loops.{whole_goes_on, whole_stops, whole_over}
+use Rattle.hy_world.proofs.Logs.{logs_then, ok_is_no_error}
 use Rattle.hy_world.proofs.world.World.step_whole.Goals as goal
 
-pub returns-then-not-has_moved : goal.returns-then-not-has_moved
-returns-then-not-has_moved c =
+pub returns-in_err-stepped-clause-logs : goal.returns-in_err-stepped-clause-logs
+returns-in_err-stepped-clause-logs g c =
+    logs_then g.D.Disk.clock g.D.Disk.image_since _ _ _ _ _ _ c.loop-turn.invariant.logs c.step_logged.ensures.logs
+
+pub returns-then-not-has_moved-clause-follows : goal.returns-then-not-has_moved-clause-follows
+returns-then-not-has_moved-clause-follows g c =
     let stopped : is_moved c.in_ok-stepped.stepped ≡ false = first_of (cc, grind (arith, common_steps), search (rules, tests)) in
-    whole_stops c.args.number most_turns c.loop-turn._turn c.in_ok-stepped.stepped c.args.self.now c.loop-turn.self c.step.new.self
-    c.loop-turn-test.true stopped c.loop-turn.invariant c.in_ok-stepped.ensures.step
+    whole_stops c.args.number most_turns c.loop-turn._turn c.in_ok-stepped.stepped c.args.self.now c.loop-turn.self c.step_logged.new.self
+    c.loop-turn-test.true stopped c.loop-turn.invariant.ahead c.in_ok-stepped.ensures.step
+
+pub returns-then-not-has_moved-clause-logs : goal.returns-then-not-has_moved-clause-logs
+returns-then-not-has_moved-clause-logs g c =
+    logs_then g.D.Disk.clock g.D.Disk.image_since _ _ _ _ _ _ c.loop-turn.invariant.logs c.step_logged.ensures.logs
 
 pub loop-turn-preserved : goal.loop-turn-preserved
-loop-turn-preserved c =
+loop-turn-preserved g c =
     let moved : is_moved c.in_ok-stepped.stepped ≡ true = first_of (cc, grind (arith, common_steps), search (rules, tests)) in
-    whole_goes_on c.args.number most_turns c.loop-turn._turn c.in_ok-stepped.stepped c.args.self.now c.loop-turn.self c.step.new.self
-    c.loop-turn-test.true moved c.loop-turn.invariant c.in_ok-stepped.ensures.step
+    record {
+      ahead = whole_goes_on c.args.number most_turns c.loop-turn._turn c.in_ok-stepped.stepped c.args.self.now c.loop-turn.self c.step_logged.new.self
+          c.loop-turn-test.true moved c.loop-turn.invariant.ahead c.in_ok-stepped.ensures.step;
+      kept = c.in_ok-stepped.ensures.kept;
+      stays = c.in_ok-stepped.ensures.stays ∙ c.loop-turn.invariant.stays;
+      logs = logs_then g.D.Disk.clock g.D.Disk.image_since _ _ _ _ _ _ c.loop-turn.invariant.logs c.step_logged.ensures.logs;
+      steady = c.in_ok-stepped.ensures.steady (ok_is_no_error _ _) ∙ c.loop-turn.invariant.steady;
+    }
 
-pub returns : goal.returns
-returns c = whole_over c.args.number most_turns c.loop-turn._turn c.args.self.now c.loop-turn.self c.loop-turn-test.false c.loop-turn.invariant
+pub returns-clause-follows : goal.returns-clause-follows
+returns-clause-follows g c =
+    whole_over c.args.number most_turns c.loop-turn._turn c.args.self.now c.loop-turn.self c.loop-turn-test.false c.loop-turn.invariant.ahead

@@ -1,9 +1,10 @@
-use Rattle.std.proofs.Common.{◌≡◌, arith, subst}
+use Rattle.std.proofs.Common.{◌≡◌, arith, subst, refl, inl}
 use Rattle.std.specs.Prelude.{IfOk, OnErr}
 use Rattle.hy_event.specs.declared.Need.TheVariants.{Chunk}
 use Rattle.hy_shows.specs.Taken.{stepped_of}
 use Rattle.hy_world.specs.Follows.{Steps}
 use Rattle.hy_world.specs.Worlds.{WorldData}
+use Rattle.hy_world.specs.Logged.{GrowByOne}
 use Rattle.hy_world.proofs.Visits.{not_chunk}
 use Rattle.hy_world.proofs.Kept.{Fields, world_of, chunk_put, chunk_steps, chunk_kept, chunk_stays}
 use Rattle.hy_world.proofs.Finds.{session_within, chunk_within, chunk_read, chunk_visited}
@@ -84,3 +85,7 @@ returns-clause-err c =
     (chunk_stays c.visit_chunk.result fields c.args.number c.index_mut-session.result.now c.visit_chunk.new.self c.args.table
     c.args.chunk c.place_of-place.result c.index_mut-part.result.now c.visit_chunk.new.chunk at
     (record { event = c.visit_chunk.ensures.event; kept = c.visit_chunk.ensures.kept; kinds = c.visit_chunk.ensures.kinds }))
+
+pub returns-clause-grows : goal.returns-clause-grows
+returns-clause-grows c =
+    subst (λ (world : WorldData). GrowByOne world.core.entries c.self.inside.core.entries) c.self.view_is (inl refl)

@@ -6,7 +6,9 @@ use Rattle.hy_world.specs.Follows.{Steps}
 use Rattle.hy_world.specs.Worlds.{WorldData}
 use Rattle.hy_world.proofs.Visits.{not_core, core_near}
 use Rattle.hy_world.proofs.Kept.{Fields, world_of, core_put, core_steps, core_kept}
+use Rattle.hy_world.specs.Logged.{GrowByOne}
 use Rattle.hy_world.proofs.Finds.{session_within, session_read}
+use Rattle.hy_world.proofs.Growing.{visit_grows}
 use Rattle.hy_world.proofs.world.World.visit_core.Goals as goal
 
 pub index_mut-session-requires : goal.index_mut-session-requires
@@ -56,3 +58,9 @@ returns-clause-step c =
     subst (λ (world : WorldData). IfOk c.visit_core.result (λ progress. Steps c.args.number (stepped_of progress) world new)) c.self.view_is
     (core_steps c.visit_core.result c.visits_are_steps.ensures (world_of fields) c.args.number c.index_mut-session.result.now c.visit_core.new.self
     c.visit_core.new.core at (c.visit_core.ensures.event, c.visit_core.ensures.kept))
+
+pub returns-clause-grows : goal.returns-clause-grows
+returns-clause-grows c =
+    subst (λ (world : WorldData). GrowByOne world.core.entries c.visit_core.new.core.entries) c.self.view_is
+    (visit_grows c.visit_core.result c.index_mut-session.result.now c.visit_core.new.self c.self.inside.core c.visit_core.new.core
+    c.visit_core.ensures.event c.visit_core.ensures.kept)

@@ -1,0 +1,151 @@
+-- Parts of a run that keeps a log, one after another.
+use Rattle.std.proofs.Common.{◌≡◌, ◌⊎◌, ℕ, ◌*◌, ◌≤◌, List, [], ◌∷◌, ◌++◌, Option, None, Some, Result, Ok, Err, true, is_some, length, take, drop, arith, refl, ap, sym, subst, ◌∙◌, inl, inr, le_refl, le_trans, append_assoc, append-nil}
+use Rattle.std.specs.Prelude.{slice_get}
+use Rattle.std.proofs.Math.Logic.{⊎_elim}
+use Rattle.std.proofs.Math.Seq.{drop-append_seam, drop-length, take-append_seam}
+use Rattle.std.proofs.lemmas.List.{take_all}
+use Rattle.hy_journal.specs.declared.Entry.{Entry}
+use Rattle.hy_redo.specs.Logs.{IsLogOf}
+use Rattle.hy_redo.specs.Crashes.{AreLogsOf, Appends, IsBeforeOrAfter, next_gate}
+use Rattle.hy_world.specs.Logged.{Extend, GrowByOne, with_next, IsLogOfFirst, IsKept, Logs, IsKeptSince, RecoversAfter, IsDurable}
+use Rattle.hy_value.specs.declared.Kind.{Kind}
+use Rattle.hy_journal.specs.declared.CoreData.{CoreData}
+use Rattle.hy_machine.specs.declared.Setting.{Setting}
+use Rattle.hy_machine.specs.declared.State.{State}
+use Rattle.hy_near.specs.Typed.{AreTyped}
+use Rattle.hy_durable.specs.Laws.{LogsRecoverTables}
+use Rattle.hy_world.specs.Worlds.{WorldData, ShowsState, parts_of}
+use Rattle.hy_world.proofs.Parts.{core_is, how_many}
+
+-- ---- entries
+
+none_behind : (entries : List Entry) → Extend entries entries
+none_behind entries = record { others = []; behind = sym (append-nil entries) }
+
+extend_then : (a b c : List Entry) → Extend a b → Extend b c → Extend a c
+extend_then a b c h k = record {
+  others = h.others ++ k.others;
+  behind = k.behind ∙ (ap (λ (x : List Entry). x ++ k.others) h.behind ∙ append_assoc a h.others k.others);
+}
+
+first_further : (old new : List Entry) (bytes : List ℕ) → Extend old new → IsLogOfFirst old bytes → IsLogOfFirst new bytes
+first_further old new bytes more h =
+    record { first = h.first; gate = h.gate; are_first = extend_then h.first old new h.are_first more; log = h.log }
+
+-- what stands behind the old entries is the one that is new, if there is one
+pub next_is : (old new : List Entry) → GrowByOne old new → with_next old (slice_get (drop (length old) new) 0) ≡ new
+next_is old new (inl same) =
+    subst (λ (x : List Entry). with_next old (slice_get (drop (length old) x) 0) ≡ x) (sym same)
+    (ap (λ (x : List Entry). with_next old (slice_get x 0)) (drop-length old))
+next_is old new (inr more) =
+    subst (λ (x : List Entry). with_next old (slice_get (drop (length old) x) 0) ≡ x) (sym more.1)
+    (ap (λ (x : List Entry). with_next old (slice_get x 0)) (drop-append_seam old (more.0 ∷ [])))
+
+-- ---- parts of a run
+
+pub nothing_done : {D : Type 0} (clock : D → ℕ) (image_since : D → ℕ → List ℕ → Type 0) (entries : List Entry) (disk : D)
+    → Logs clock image_since entries entries disk disk
+nothing_done clock image_since entries disk =
+    record { grow = none_behind entries; later = le_refl (clock disk); moments = λ time bytes le left. inl left }
+
+pub logs_then : {D : Type 0} (clock : D → ℕ) (image_since : D → ℕ → List ℕ → Type 0) (a b c : List Entry) (first second third : D)
+    → Logs clock image_since a b first second → Logs clock image_since b c second third → Logs clock image_since a c first third
+logs_then clock image_since a b c first second third h k = record {
+  grow = extend_then a b c h.grow k.grow;
+  later = le_trans h.later k.later;
+  moments = λ time bytes le left.
+      ⊎_elim (λ earlier. ⊎_elim (λ before. inl before) (λ is. inr (first_further b c bytes k.grow is)) (h.moments time bytes le earlier))
+      (λ is. inr is) (k.moments time bytes (le_trans le h.later) left);
+}
+
+before_or_after : (entries : List Entry) (entry : Entry) (gate : ℕ) (bytes : List ℕ) → IsBeforeOrAfter entries entry gate bytes
+    → IsLogOfFirst (entries ++ entry ∷ []) bytes
+before_or_after entries entry gate bytes (inl log) =
+    record { first = entries; gate = gate; are_first = record { others = entry ∷ []; behind = refl }; log = log }
+before_or_after entries entry gate bytes (inr log) =
+    record { first = entries ++ entry ∷ []; gate = next_gate gate entry; are_first = none_behind (entries ++ entry ∷ []); log = log }
+
+-- an entry is appended
+pub appended : {D : Type 0} (clock : D → ℕ) (image_since : D → ℕ → List ℕ → Type 0) (entries : List Entry) (entry : Entry) (gate : ℕ)
+    (before after : D) → Appends clock image_since entries entry gate before after
+    → Logs clock image_since entries (entries ++ entry ∷ []) before after
+appended clock image_since entries entry gate before after h = record {
+  grow = record { others = entry ∷ []; behind = refl };
+  later = h.later;
+  moments = λ time bytes le left. ⊎_elim (λ earlier. inl earlier) (λ is. inr (before_or_after entries entry gate bytes is)) (h.moments time bytes le left);
+}
+
+-- or none is, where no log is kept
+pub passed_by : {D : Type 0} (clock : D → ℕ) (image_since : D → ℕ → List ℕ → Type 0) (entries : List Entry) (next : Option Entry) (disk : D)
+    → Logs clock image_since entries (with_next entries next) disk disk
+passed_by clock image_since entries None disk = nothing_done clock image_since entries disk
+passed_by clock image_since entries (Some entry) disk = record {
+  grow = record { others = entry ∷ []; behind = refl };
+  later = le_refl (clock disk);
+  moments = λ time bytes le left. inl left;
+}
+
+pub ok_is_no_error : {T E : Type 0} (x : T) (e : E) → ◌≡◌ {A = Result T E} (Ok x) (Err e) → ⊥
+ok_is_no_error x e h = absurd cc
+
+-- ---- a whole run
+
+-- a log that is kept has a gate
+gate_of : {D : Type 0} (image : D → List ℕ → Type 0) (entries : List Entry) (log : Option ℕ) (disk : D) → is_some log ≡ true
+    → IsKept image entries log disk → (gate : ℕ) × AreLogsOf (image disk) entries gate
+gate_of image entries None disk some kept = absurd cc
+gate_of image entries (Some gate) disk some kept = (gate, kept)
+
+-- from a disk each of whose images is the log of what was entered before
+pub kept_since : {D : Type 0} (clock : D → ℕ) (image : D → List ℕ → Type 0) (image_since : D → ℕ → List ℕ → Type 0)
+    → ((disk : D) (bytes : List ℕ) → image_since disk (clock disk) bytes → image disk bytes) → (old new : List Entry) (gate : ℕ) (log : Option ℕ)
+    (before after : D) → AreLogsOf (image before) old gate → is_some log ≡ true → IsKept image new log after
+    → Logs clock image_since old new before after → IsKeptSince image image_since new (clock before) after
+kept_since clock image image_since alone old new gate log before after first some kept logs =
+    let here = gate_of image new log after some kept in
+    record {
+      gate = here.0;
+      logged = here.1;
+      moments = λ bytes left.
+          ⊎_elim (λ earlier. record { first = old; gate = gate; are_first = logs.grow; log = first bytes (alone before bytes earlier) }) (λ is. is)
+          (logs.moments (clock before) bytes (le_refl (clock before)) left);
+    }
+
+core_shown : (setting : Setting) (state : State) (world : WorldData) → (shows : ShowsState setting state world) → shows.shown.shows.core ≡ world.core
+core_shown setting state world shows =
+    core_is world.chunks world.core shows.shown.shows.core (length setting.shapes * setting.chunks)
+    (omega (arith, shows.shown.shows.parts_are.count, how_many world.chunks world.core)) shows.shown.shows.parts_are.core_last
+
+-- the log of the first entries of a world recovers to the tables of the state that it shows, after as many entries
+recovers_after : LogsRecoverTables → (setting : Setting) (kinds : List (List Kind)) (state : State) (world : WorldData) → ShowsState setting state world
+    → AreTyped kinds setting.shapes setting.first setting.programs → (count gate : ℕ) (bytes : List ℕ) → IsLogOf (take count world.core.entries) gate bytes
+    → RecoversAfter setting kinds state count bytes
+recovers_after law setting kinds state world shows typed count gate bytes log =
+    law setting kinds state (parts_of world.chunks world.core) world.sessions shows.shown typed count gate bytes
+    (subst (λ (core : CoreData). IsLogOf (take count core.entries) gate bytes) (sym (core_shown setting state world shows)) log)
+
+-- all entries are as many as the state's
+all_taken : (setting : Setting) (state : State) (world : WorldData) → ShowsState setting state world
+    → take (length state.order) world.core.entries ≡ world.core.entries
+all_taken setting state world shows =
+    let count : length world.core.entries ≡ length state.order =
+    ap (λ (core : CoreData). length core.entries) (sym (core_shown setting state world shows)) ∙ shows.shown.shows.core_shows.entries_show.count in
+    take_all (length state.order) world.core.entries (omega (arith, count))
+
+first_taken : (first entries : List Entry) → Extend first entries → take (length first) entries ≡ first
+first_taken first entries more = ap (take (length first)) more.behind ∙ take-append_seam first more.others
+
+pub is_durable : {D : Type 0} (image : D → List ℕ → Type 0) (image_since : D → ℕ → List ℕ → Type 0) → LogsRecoverTables → (setting : Setting)
+    (kinds : List (List Kind)) (state : State) (world : WorldData) (time : ℕ) (disk : D) → ShowsState setting state world
+    → AreTyped kinds setting.shapes setting.first setting.programs → IsKeptSince image image_since world.core.entries time disk
+    → IsDurable image image_since setting kinds state time disk
+is_durable image image_since law setting kinds state world time disk shows typed kept = record {
+  now = λ bytes left. recovers_after law setting kinds state world shows typed (length state.order) kept.gate bytes
+      (subst (λ (entries : List Entry). IsLogOf entries kept.gate bytes) (sym (all_taken setting state world shows)) (kept.logged bytes left));
+  moments = λ bytes left.
+      let is = kept.moments bytes left in (
+        length is.first,
+        recovers_after law setting kinds state world shows typed (length is.first) is.gate bytes
+            (subst (λ (entries : List Entry). IsLogOf entries is.gate bytes) (sym (first_taken is.first world.core.entries is.are_first)) is.log),
+      );
+}

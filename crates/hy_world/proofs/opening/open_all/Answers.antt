@@ -1,0 +1,20 @@
+use Rattle.std.proofs.Common.{List, ap, ◌∙◌, refl}
+use Rattle.hy_bound.specs.declared.Shape.{Shape}
+use Rattle.hy_world.specs.Openings.{sessions_from, layout_of}
+use Rattle.hy_world.proofs.Opened.{core_is, txns_few}
+use Rattle.hy_world.proofs.opening.open_all.Goals as goal
+
+pub all_sessions-requires-clause-txns : goal.all_sessions-requires-clause-txns
+all_sessions-requires-clause-txns c = txns_few c.args.setting c.requires.runnable
+
+pub returns : goal.returns
+returns c =
+    let setting = c.args.setting in
+    record {
+      shapes = refl;
+      per_table = refl;
+      laid = c.in_ok-chunks.ensures;
+      core = core_is c.new.result c.new.ensures.next c.new.ensures.active c.new.ensures.entries c.new.ensures.mark;
+      sessions = c.in_ok-sessions.ensures
+          ∙ ap (λ (shapes : List Shape). sessions_from shapes (layout_of setting) c.args.prunes 0 setting.programs) c.as_slice.ensures;
+    }

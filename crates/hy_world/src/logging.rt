@@ -1,0 +1,80 @@
+//! The entries of the journal in a redo log.
+
+ghost use Rattle.std.specs.Prelude.{◌≡◌, ◌≤◌, List, OnOk, IfOk, IsErrOf, is_some};
+ghost use Rattle.std.specs.Option.{option_copied};
+ghost use Rattle.hy_outside.specs.Faults.{Rose};
+ghost use Rattle.hy_journal.specs.declared.Entry.{Entry};
+ghost use Rattle.hy_machine.specs.declared.Setting.{Setting};
+ghost use Rattle.hy_machine.specs.Outcomes.{outcome_of};
+ghost use Rattle.hy_machine.specs.Runs.{opening_of, run_of};
+ghost use Rattle.hy_near.specs.Typed.{AreTyped};
+ghost use Rattle.hy_redo.specs.Crashes.{AreLogsOf};
+ghost use Rattle.hy_value.specs.declared.Kind.{Kind};
+ghost use Rattle.hy_world.specs.Logged.{IsKept, Logs, HasLogged, IsDurable, with_next};
+ghost use Rattle.hy_world.specs.Worlds.{ShowsState};
+
+use crate::World;
+use hy_disk::Disk;
+use hy_journal::Entry;
+use hy_redo::{AppendError, Log, append};
+use hy_render::Outcome;
+use hy_schedule::Item;
+use std::alloc::Global;
+
+/// Appends an entry, where there is one and a log is kept.
+pub(crate) fn keep<D: Disk>(
+    alloc: Global,
+    log: &mut Option<Log>,
+    disk: &mut D,
+    entry: Option<&Entry>,
+) -> Result<(), AppendError>
+    requires kept { (entries : List Entry) × IsKept D.image entries log.old disk.old }
+    ensures kept { OnOk result ((entries : List Entry) → IsKept D.image entries log.old disk.old
+        → IsKept D.image (with_next entries (option_copied entry.entry)) log.new disk.new) }
+    ensures stays { is_some log.new ≡ is_some log.old }
+    ensures logs { (entries : List Entry) → IsKept D.image entries log.old disk.old
+        → Logs D.clock D.image_since entries (with_next entries (option_copied entry.entry)) disk.old disk.new }
+    ensures fault { IsErrOf result AppendError.DiskFault → Rose (D.faults disk.old) (D.faults disk.new) }
+    ensures steady { ¬ IsErrOf result AppendError.DiskFault → D.faults disk.new ≡ D.faults disk.old }
+{
+    let Some(entry) = entry else {
+        return Ok(());
+    };
+    let Some(log) = log else {
+        return Ok(());
+    };
+    append(alloc, log, disk, entry)
+}
+
+impl World {
+    /// Runs a schedule in a world where nothing has happened, and then rounds until every session has ended, with each entry
+    /// of the commit order in the log before another step is taken: the outcome is what the snapshot machine comes to, and
+    /// what a crash leaves at any moment recovers to the tables after some first entries of its order. Err is for a fault of
+    /// the disk, or for want of memory.
+    pub fn run_logged<D: Disk>(
+        self,
+        alloc: Global,
+        schedule: &[Item],
+        log: Log,
+        disk: &mut D,
+    ) -> Result<Outcome, AppendError>
+        requires log { AreLogsOf (D.image disk.old) self.core.entries log }
+        ensures outcome { IfOk result (λ outcome. (setting : Setting) → ShowsState setting (opening_of setting) self
+            → outcome ≡ outcome_of setting (run_of setting schedule.now)) }
+        ensures logged { IfOk result (λ outcome. HasLogged D.image D.image_since outcome.order (D.clock disk.old) disk.new) }
+        ensures durable { IfOk result (λ _. (setting : Setting) (kinds : List (List Kind)) → ShowsState setting (opening_of setting) self
+            → AreTyped kinds setting.shapes setting.first setting.programs
+            → IsDurable D.image D.image_since setting kinds (run_of setting schedule.now) (D.clock disk.old) disk.new) }
+        ensures later { D.clock disk.old ≤ D.clock disk.new }
+        ensures fault { IsErrOf result AppendError.DiskFault → Rose (D.faults disk.old) (D.faults disk.new) }
+        ensures steady { ¬ IsErrOf result AppendError.DiskFault → D.faults disk.new ≡ D.faults disk.old }
+    {
+        hy_near::ends_are_the_machines();
+        hy_machine::runs_are_steps();
+        hy_durable::logs_recover_tables();
+        let mut world = self;
+        let mut log = Some(log);
+        world.run(alloc, schedule, &mut log, disk)?;
+        Ok(world.finish(alloc)?)
+    }
+}

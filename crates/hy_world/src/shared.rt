@@ -1,0 +1,127 @@
+//! Parts that sessions share: the chunks of a world and its core.
+
+ghost use Rattle.std.specs.Prelude.{◌≡◌, IfOk, OnErr, map};
+ghost use Rattle.std.specs.List.{AllByRecursion};
+ghost use Rattle.hy_event.specs.Events.{NeededVisit};
+ghost use Rattle.hy_event.specs.Needs.{need_of};
+ghost use Rattle.hy_world.specs.Shared.{CoreOf, IsChunk, AreParts, KeepsLayout, KeepsTypes, MayVisit, chunk_shared, part_of, parts_shared};
+
+use hy_chunk::Chunk;
+use hy_core::Core;
+use hy_event::Progress;
+use hy_session::Session;
+use std::alloc::{AllocError, Global};
+use std::marker::Model;
+
+/// What a part is.
+#[derive(Drop)]
+pub(crate) enum PartKind {
+    /// A chunk of a table.
+    Chunk(Chunk),
+    /// What all transactions share beside the chunks.
+    Core(Core),
+}
+
+/// A part that sessions share. Contracts see its plain data, and the types of a chunk's columns, but not its room: so a
+/// part that was given back for want of memory is as it was.
+#[derive(Drop)]
+pub(crate) struct SharedPart {
+    pub(crate) kind: PartKind,
+}
+
+impl Model for SharedPart {
+    ghost use Rattle.hy_world.specs.Shared.{SharedData, shared_code};
+    ghost use Rattle.hy_world.specs.Kinds.{shared_by};
+
+    ghost Value = { SharedData };
+
+    ghost coded = { shared_code };
+
+    ghost view = { λ a. shared_by a.kind };
+}
+
+impl SharedPart {
+    /// A chunk as a part.
+    fn chunk(chunk: Chunk) -> SharedPart
+        ensures { result ≡ chunk_shared chunk }
+    {
+        SharedPart {
+            kind: PartKind::Chunk(chunk),
+        }
+    }
+
+    /// The core as a part.
+    fn core(core: Core) -> SharedPart
+        ensures { result ≡ CoreOf core }
+    {
+        SharedPart {
+            kind: PartKind::Core(core),
+        }
+    }
+}
+
+/// The chunks and the core as parts, the core last.
+pub(crate) fn share(
+    alloc: Global,
+    chunks: Vec<Chunk>,
+    core: Core,
+) -> Result<Vec<SharedPart>, AllocError>
+    ensures { IfOk result (λ parts. parts.items ≡ parts_shared chunks.items core) }
+{
+    let mut parts = Vec::new(alloc);
+    for chunk in chunks {
+        parts.push(SharedPart::chunk(chunk))?;
+    }
+    parts.push(SharedPart::core(core))?;
+    Ok(parts)
+}
+
+/// The chunks that these parts are.
+fn chunks_of(alloc: Global, parts: Vec<SharedPart>) -> Result<Vec<Chunk>, AllocError>
+    requires { AllByRecursion IsChunk parts.items }
+    ensures { IfOk result (λ chunks. map chunk_shared chunks.items ≡ parts.items) }
+{
+    let mut chunks = Vec::new(alloc);
+    for part in parts {
+        let PartKind::Chunk(chunk) = part.kind else {
+            unreachable!()
+        };
+        chunks.push(chunk)?;
+    }
+    Ok(chunks)
+}
+
+/// The chunks and the core that these parts are.
+pub(crate) fn unshare(
+    alloc: Global,
+    parts: Vec<SharedPart>,
+) -> Result<(Vec<Chunk>, Core), AllocError>
+    requires { AreParts parts.items }
+    ensures { IfOk result (λ given. parts_shared given.0.items given.1 ≡ parts.items) }
+{
+    let mut parts = parts;
+    let Some(last) = parts.pop() else {
+        unreachable!()
+    };
+    let PartKind::Core(core) = last.kind else {
+        unreachable!()
+    };
+    Ok((chunks_of(alloc, parts)?, core))
+}
+
+/// A visit of a session to the part that it needs. Err is for want of memory, and changes nothing that contracts see.
+pub(crate) fn visit_part(
+    alloc: Global,
+    session: &mut Session,
+    part: &mut SharedPart,
+) -> Result<Progress, AllocError>
+    requires { MayVisit (need_of session.old) session.old part.old }
+    ensures visit { IfOk result (λ progress. NeededVisit (need_of session.old) session.old (part_of part.old) progress session.new (part_of part.new)) }
+    ensures types { KeepsTypes part.old part.new }
+    ensures kept { OnErr result ((session.new ≡ session.old) × (part.new ≡ part.old)) }
+{
+    match &mut part.kind {
+        PartKind::Chunk(chunk) => session.visit_chunk(alloc, chunk),
+        PartKind::Core(core) => session.visit_core(alloc, core),
+    }
+}

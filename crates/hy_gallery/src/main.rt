@@ -4,10 +4,14 @@
 //! `NAME.out` is what it should print.
 #![tactic(auto)]
 
+use hy_disk::NoDisk;
 use hy_outside::{MemSink, MemSource};
-use std::alloc::{AllocError, Global};
+use hy_threads::OpenGate;
+use std::alloc::AllocError;
 use std::io::{Print, Write};
 use std::rt::Files;
+use std::sync::Wait;
+use std::thread::Threads;
 use std::{fs, io};
 
 /// The file that names the scripts.
@@ -43,14 +47,14 @@ fn main(rt: HostRuntime) -> io::Result<()> {
 
 /// Runs a script, and prints its name and whether it printed what is expected; else also what it printed.
 fn shows_what_is_expected(
-    rt: &(impl Files + Print + AllocGlobal),
+    rt: &(impl Files + Print + Threads + Wait + Sync + AllocGlobal),
     name: &str,
     words: &str,
 ) -> io::Result<bool> {
     let alloc = rt.alloc();
     let script = fs::read(rt, format!(in alloc; "{name}.hy")?)?;
     let expected = fs::read(rt, format!(in alloc; "{name}.out")?)?;
-    let printed = printed_by(alloc, words, script)?;
+    let printed = printed_by(rt, words, script)?;
     let status = printed.status;
     if printed.bytes.as_slice() != expected.as_slice() {
         println!(rt; "{name}: differs, status {status}")?;
@@ -66,7 +70,12 @@ fn shows_what_is_expected(
 }
 
 /// Runs `hy` with these words on a script in memory.
-fn printed_by(alloc: Global, words: &str, script: Vec<u8>) -> Result<Printed, AllocError> {
+fn printed_by(
+    rt: &(impl Threads + Wait + Sync + AllocGlobal),
+    words: &str,
+    script: Vec<u8>,
+) -> Result<Printed, AllocError> {
+    let alloc = rt.alloc();
     let mut all = Vec::new(alloc);
     all.push(String::from_str(alloc, "hy")?)?;
     for word in words.split_whitespace() {
@@ -74,7 +83,16 @@ fn printed_by(alloc: Global, words: &str, script: Vec<u8>) -> Result<Printed, Al
     }
     let mut source = MemSource::new(script, PIECE, Vec::new(alloc));
     let mut sink = MemSink::new(alloc, ROOM, Vec::new(alloc))?;
-    let status = hy_top::run(alloc, &all, &mut source, &mut sink).status;
+    let status = hy_top::run(
+        rt,
+        alloc,
+        &all,
+        &mut source,
+        &mut sink,
+        &OpenGate,
+        &mut NoDisk,
+    )
+    .status;
     Ok(Printed {
         status,
         bytes: sink.bytes().to_vec(alloc)?,

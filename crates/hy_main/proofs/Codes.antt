@@ -7,21 +7,21 @@ use Rattle.hy_top.specs.Program.{bytes_read, made_by}
 use Rattle.hy_top.specs.Reports.{Answers, Makes}
 
 -- a code that is the status answers what the report answers
-pub answers_by_code : (asked : Option Command) (rest : Option (List ℕ)) (status code : ℕ) (outcome : Option Outcome)
+pub answers_by_code : (asked : Option Command) (rest found : Option (List ℕ)) (status code : ℕ) (outcome : Option Outcome)
     (before after : Option (List ℕ)) → code ≡ status
-    → IfSome asked (λ command. IsNone (made_by command) → IfSome rest (λ all. (status ≡ 3) ⊎ Answers command (bytes_read all) status outcome before after))
+    → IfSome asked (λ command. IsNone (made_by command) → IfSome rest (λ all. (status ≡ 3) ⊎ Answers command (bytes_read all) found status outcome before after))
     → IfSome asked (λ command. IsNone (made_by command) → IfSome rest
-    (λ all. (code ≡ 3) ⊎ ((given : Option Outcome) × Answers command (bytes_read all) code given before after)))
-answers_by_code None rest status code outcome before after same h = tt
-answers_by_code (Some command) None status code outcome before after same h = λ none. tt
-answers_by_code (Some command) (Some all) status code outcome before after same h = λ none. answer_by_code command all status code outcome before after same (h none)
+    (λ all. (code ≡ 3) ⊎ ((given : Option Outcome) × Answers command (bytes_read all) found code given before after)))
+answers_by_code None rest found status code outcome before after same h = tt
+answers_by_code (Some command) None found status code outcome before after same h = λ none. tt
+answers_by_code (Some command) (Some all) found status code outcome before after same h = λ none. answer_by_code command all status code outcome before after same (h none)
   where
     answer_by_code : (command : Command) (all : List ℕ) (status code : ℕ) (outcome : Option Outcome) (before after : Option (List ℕ)) → code ≡ status
-        → (status ≡ 3) ⊎ Answers command (bytes_read all) status outcome before after
-        → (code ≡ 3) ⊎ ((given : Option Outcome) × Answers command (bytes_read all) code given before after)
+        → (status ≡ 3) ⊎ Answers command (bytes_read all) found status outcome before after
+        → (code ≡ 3) ⊎ ((given : Option Outcome) × Answers command (bytes_read all) found code given before after)
     answer_by_code command all status code outcome before after same (inl fault) = inl (subst (λ (s : ℕ). s ≡ 3) (sym same) fault)
     answer_by_code command all status code outcome before after same (inr answer) =
-        inr (outcome, subst (λ (s : ℕ). Answers command (bytes_read all) s outcome before after) (sym same) answer)
+        inr (outcome, subst (λ (s : ℕ). Answers command (bytes_read all) found s outcome before after) (sym same) answer)
 
 -- and what is made
 made_so : {S : Type 0} (command : Command) (made : Option Script) (old new : S) (status code : ℕ) (outcome : Option Outcome) (before after : Option (List ℕ)) → code ≡ status

@@ -1,53 +1,62 @@
-//! The program `hy`: makes the real words, reader and writer, and ends with the status of the call.
+//! The program `hy`: makes the real words, reader, writer and disk, and ends with the status of the call.
 #![tactic(auto)]
 
-ghost use Rattle.std.specs.Prelude.{◌≡◌, ◌≢◌, ◌⊎◌, Option, None, IsNone, IfSome, map};
+ghost use Rattle.std.specs.Prelude.{◌≡◌, ◌≢◌, ◌⊎◌, false, Option, None, IsNone, IfSome, map};
 ghost use Rattle.std.specs.Process.{exit_status};
 ghost use Rattle.std.specs.String.{string_bytes};
 ghost use Rattle.hy_render.specs.declared.Outcome.{Outcome};
 ghost use Rattle.hy_words.specs.Words.{command_of};
 ghost use Rattle.hy_top.specs.Lines.{usage_line};
-ghost use Rattle.hy_top.specs.Program.{bytes_read, made_by};
+ghost use Rattle.hy_top.specs.Program.{bytes_read, made_by, uses_disk};
 ghost use Rattle.hy_top.specs.Reports.{Writes, Answers, Makes};
 
+use hy_disk::{Disk, FileDisk};
 use hy_outside::{Sink, Source, StdSink, StdSource};
+use hy_threads::OpenGate;
 use std::alloc::{AllocError, Global};
 use std::process::ExitCode;
 use std::rt::Env;
+use std::sync::Wait;
+use std::thread::Threads;
 use std::{env, io};
 
 /// The status where the words themselves found no memory.
 const NO_MEMORY: u8 = 5;
 
-/// Calls the program on the process's words, standard input and standard output.
+/// Calls the program on the process's words, standard input, standard output, and the file of its log.
 fn main(rt: HostRuntime) -> ExitCode {
     let Ok(words) = words_of(&rt) else {
         return ExitCode::from(NO_MEMORY);
     };
     let mut source = StdSource::new(rt.reader());
     let mut sink = StdSink::new(io::writer(&rt));
-    exit_code_of(rt.alloc(), &words, &mut source, &mut sink)
+    let mut disk = FileDisk::new(&rt);
+    exit_code_of(&rt, rt.alloc(), &words, &mut source, &mut sink, &mut disk)
 }
 
 /// Calls the program, and gives the code of its status.
-fn exit_code_of<R: Source, W: Sink>(
+fn exit_code_of<T: Threads + Wait + Sync, R: Source, W: Sink, D: Disk>(
+    rt: &T,
     alloc: Global,
     words: &[String],
     source: &mut R,
     sink: &mut W,
+    disk: &mut D,
 ) -> ExitCode
     ensures words_refused { command_of (map string_bytes words.now) ≡ None
         → (exit_status result ≡ 5) ⊎ Writes 1 (exit_status result) (W.written sink.old) (W.written sink.new) usage_line }
     ensures usage { exit_status result ≡ 1 → command_of (map string_bytes words.now) ≡ None }
     ensures answers { IfSome (command_of (map string_bytes words.now)) (λ command. IsNone (made_by command) → IfSome (R.rest source.old) (λ all.
         (exit_status result ≡ 3) ⊎ ((outcome : Option Outcome)
-        × Answers command (bytes_read all) (exit_status result) outcome (W.written sink.old) (W.written sink.new)))) }
+        × Answers command (bytes_read all) (D.held disk.old) (exit_status result) outcome (W.written sink.old) (W.written sink.new)))) }
     ensures made { IfSome (command_of (map string_bytes words.now)) (λ command. IfSome (made_by command) (λ script. (source.new ≡ source.old)
         × ((outcome : Option Outcome) × Makes command script (exit_status result) outcome (W.written sink.old) (W.written sink.new)))) }
     ensures source_steady { exit_status result ≢ 3 → R.faults source.new ≡ R.faults source.old }
     ensures sink_steady { exit_status result ≢ 4 → W.faults sink.new ≡ W.faults sink.old }
+    ensures disk_steady { exit_status result ≢ 6 → D.faults disk.new ≡ D.faults disk.old }
+    ensures untouched { uses_disk (command_of (map string_bytes words.now)) ≡ false → disk.new ≡ disk.old }
 {
-    ExitCode::from(hy_top::run(alloc, words, source, sink).status)
+    ExitCode::from(hy_top::run(rt, alloc, words, source, sink, &OpenGate, disk).status)
 }
 
 /// The process's words, the program's name first. Words that are no text are as good as none: they are

@@ -1,7 +1,9 @@
 //! Reads that fail, and sinks that are too small.
 
 use crate::runs::{OLD_SNAPSHOT, OLD_SNAPSHOT_TEXT, words_of};
+use hy_disk::NoDisk;
 use hy_outside::{MemSink, MemSource};
+use hy_threads::OpenGate;
 use std::test::Fail;
 
 #[test]
@@ -14,7 +16,15 @@ fn a_read_fault_at_each_call(rt: HostRuntime) -> Result<(), Fail> {
         let bytes = OLD_SNAPSHOT.as_bytes().to_vec(alloc)?;
         let mut source = MemSource::new(bytes, 60, [call].to_vec(alloc)?);
         let mut sink = MemSink::new(alloc, 10_000, Vec::new(alloc))?;
-        let report = hy_top::run(alloc, &words, &mut source, &mut sink);
+        let report = hy_top::run(
+            &rt,
+            alloc,
+            &words,
+            &mut source,
+            &mut sink,
+            &OpenGate,
+            &mut NoDisk,
+        );
         if call <= 5 {
             assert_eq!(rt; report.status, 3);
             assert!(rt; report.outcome.is_none());
@@ -35,7 +45,15 @@ fn a_sink_of_every_smaller_room(rt: HostRuntime) -> Result<(), Fail> {
         let bytes = OLD_SNAPSHOT.as_bytes().to_vec(alloc)?;
         let mut source = MemSource::new(bytes, 60, Vec::new(alloc));
         let mut sink = MemSink::new(alloc, room, Vec::new(alloc))?;
-        let report = hy_top::run(alloc, &words, &mut source, &mut sink);
+        let report = hy_top::run(
+            &rt,
+            alloc,
+            &words,
+            &mut source,
+            &mut sink,
+            &OpenGate,
+            &mut NoDisk,
+        );
         assert_eq!(rt; report.status, 4);
         assert!(rt; report.outcome.is_some());
         assert_eq!(rt; sink.bytes(), &text[..room]);

@@ -8,8 +8,12 @@ mod faults;
 #[cfg(test)]
 mod limits;
 #[cfg(test)]
+mod logs;
+#[cfg(test)]
 mod made;
 #[cfg(test)]
 mod refusals;
 #[cfg(test)]
 mod runs;
+#[cfg(test)]
+mod threads;

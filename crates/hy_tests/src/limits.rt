@@ -2,7 +2,9 @@
 
 use crate::refusals::{checks, says, written};
 use std::alloc::{AllocError, Global};
+use std::sync::Wait;
 use std::test::Fail;
+use std::thread::Threads;
 
 /// What `check` writes for a table, a session and a transaction.
 const ONE_OF_EACH: &str = "ok tables 1 rows 0 sessions 1 transactions 1 items 0\n";
@@ -43,55 +45,56 @@ fn numbered(
 
 /// Whether so many pieces are the most that `hy check` takes between a script's head and its tail. It writes the
 /// first line at the limit, and the second one beyond.
-fn is_most(
-    alloc: Global,
+fn is_most<T: Threads + Wait + Sync + AllocGlobal>(
+    rt: &T,
     script: (&str, &str, &str),
     most: u32,
     lines: (&str, &str),
 ) -> Result<bool, AllocError> {
     let (head, piece, tail) = script;
     let (taken, refused) = lines;
+    let alloc = rt.alloc();
     let at = repeated(alloc, head, piece, most as usize, tail)?;
     let beyond = repeated(alloc, head, piece, most as usize + 1, tail)?;
-    Ok(checks(alloc, at.as_str(), taken)? && checks(alloc, beyond.as_str(), refused)?)
+    Ok(checks(rt, at.as_str(), taken)? && checks(rt, beyond.as_str(), refused)?)
 }
 
 /// Whether so many numbered pieces are the most that `hy check` takes, with these two lines.
-fn is_most_numbered(
-    alloc: Global,
+fn is_most_numbered<T: Threads + Wait + Sync + AllocGlobal>(
+    rt: &T,
     script: (&str, (&str, &str), &str),
     most: u16,
     lines: (&str, &str),
 ) -> Result<bool, AllocError> {
     let (head, piece, tail) = script;
     let (taken, refused) = lines;
+    let alloc = rt.alloc();
     let at = numbered(alloc, head, piece, u32::from(most), tail)?;
     let beyond = numbered(alloc, head, piece, u32::from(most) + 1, tail)?;
-    Ok(checks(alloc, at.as_str(), taken)? && checks(alloc, beyond.as_str(), refused)?)
+    Ok(checks(rt, at.as_str(), taken)? && checks(rt, beyond.as_str(), refused)?)
 }
 
 #[test]
 fn tables_columns_and_sessions(rt: HostRuntime) -> Result<(), Fail> {
-    let alloc = rt.alloc();
     let tables = ("", ("CREATE TABLE t", " (n INT);\n"), "END;");
     let lines = (
         "ok tables 16 rows 0 sessions 0 transactions 0 items 0\n",
         "line 17: E09\n",
     );
-    assert!(rt; is_most_numbered(alloc, tables, 16, lines)?);
+    assert!(rt; is_most_numbered(&rt, tables, 16, lines)?);
     // One more column stands behind these.
     let columns = ("\nCREATE TABLE t (", ("c", " INT,\n"), "c INT); END;");
     let lines = (
         "ok tables 1 rows 0 sessions 0 transactions 0 items 0\n",
         "line 2: E09\n",
     );
-    assert!(rt; is_most_numbered(alloc, columns, 31, lines)?);
+    assert!(rt; is_most_numbered(&rt, columns, 31, lines)?);
     let sessions = ("", ("SESSION s", ";\n"), "END;");
     let lines = (
         "ok tables 0 rows 0 sessions 64 transactions 0 items 0\n",
         "line 65: E09\n",
     );
-    assert!(rt; is_most_numbered(alloc, sessions, 64, lines)?);
+    assert!(rt; is_most_numbered(&rt, sessions, 64, lines)?);
     Ok(())
 }
 
@@ -104,7 +107,7 @@ CREATE TABLE u2 (c INT); CREATE TABLE u3 (d INT); SESSION a; BEGIN;\nSELECT * FR
         "ok tables 5 rows 0 sessions 1 transactions 1 items 0\n",
         "line 2: E09\n",
     );
-    assert!(rt; is_most_numbered(rt.alloc(), script, 3, lines)?);
+    assert!(rt; is_most_numbered(&rt, script, 3, lines)?);
     Ok(())
 }
 
@@ -116,27 +119,26 @@ fn statements_of_a_transaction(rt: HostRuntime) -> Result<(), Fail> {
         "ok tables 1 rows 0 sessions 1 transactions 1 items 0\n",
         "line 258: E09\n",
     );
-    assert!(rt; is_most(rt.alloc(), script, 256, lines)?);
+    assert!(rt; is_most(&rt, script, 256, lines)?);
     Ok(())
 }
 
 #[test]
 fn bytes_of_texts_and_words(rt: HostRuntime) -> Result<(), Fail> {
-    let alloc = rt.alloc();
     let head = "CREATE TABLE t (s TEXT);\nINSERT INTO t VALUES ('";
     let lines = (
         "ok tables 1 rows 1 sessions 0 transactions 0 items 0\n",
         "line 2: E09\n",
     );
-    assert!(rt; is_most(alloc, (head, "a", "'); END;"), 255, lines)?);
+    assert!(rt; is_most(&rt, (head, "a", "'); END;"), 255, lines)?);
     // Two quotes are one byte, and this letter is two.
-    assert!(rt; is_most(alloc, (head, "''", "'); END;"), 255, lines)?);
-    assert!(rt; is_most(alloc, (head, "é", "a'); END;"), 127, lines)?);
+    assert!(rt; is_most(&rt, (head, "''", "'); END;"), 255, lines)?);
+    assert!(rt; is_most(&rt, (head, "é", "a'); END;"), 127, lines)?);
     let lines = (
         "ok tables 1 rows 0 sessions 0 transactions 0 items 0\n",
         "line 2: E03\n",
     );
-    assert!(rt; is_most(alloc, ("CREATE TABLE\n", "n", " (n INT); END;"), 32, lines)?);
+    assert!(rt; is_most(&rt, ("CREATE TABLE\n", "n", " (n INT); END;"), 32, lines)?);
     Ok(())
 }
 
@@ -149,17 +151,17 @@ fn first_rows(rt: HostRuntime) -> Result<(), Fail> {
         "ok tables 1 rows 4 sessions 0 transactions 0 items 0\n",
         "line 6: E09\n",
     );
-    assert!(rt; is_most(alloc, (head, row, "END;"), 4, lines)?);
+    assert!(rt; is_most(&rt, (head, row, "END;"), 4, lines)?);
     // Three chunks of two rows each.
     let words = ["hy", "check", "--rows", "2", "--chunks", "3"];
     let full = repeated(alloc, head, row, 6, "END;")?;
-    let (_, text) = written(alloc, &words, full.as_bytes().to_vec(alloc)?)?;
+    let (_, text) = written(&rt, &words, full.as_bytes().to_vec(alloc)?)?;
     assert_eq!(rt;
         text.as_slice(),
         b"ok tables 1 rows 6 sessions 0 transactions 0 items 0\n".as_slice()
     );
     let over = repeated(alloc, head, row, 7, "END;")?;
-    let (_, text) = written(alloc, &words, over.as_bytes().to_vec(alloc)?)?;
+    let (_, text) = written(&rt, &words, over.as_bytes().to_vec(alloc)?)?;
     assert_eq!(rt; text.as_slice(), b"line 8: E09\n".as_slice());
     Ok(())
 }
@@ -169,21 +171,21 @@ fn open_levels(rt: HostRuntime) -> Result<(), Fail> {
     let alloc = rt.alloc();
     let lines = (ONE_OF_EACH, "line 66: E04\n");
     let head = "CREATE TABLE t (n INT); SESSION a; BEGIN; DELETE FROM t WHERE\n";
-    assert!(rt; is_most(alloc, (head, "NOT\n", "n = 1; COMMIT; END;"), 64, lines)?);
+    assert!(rt; is_most(&rt, (head, "NOT\n", "n = 1; COMMIT; END;"), 64, lines)?);
     let closed = repeated(alloc, "n = 1", ")", 64, "; COMMIT; END;")?;
-    assert!(rt; is_most(alloc, (head, "(\n", closed.as_str()), 64, lines)?);
+    assert!(rt; is_most(&rt, (head, "(\n", closed.as_str()), 64, lines)?);
     let head = "CREATE TABLE t (n INT); SESSION a; BEGIN; UPDATE t SET n =\n";
     let closed = repeated(alloc, "1", ")", 64, "; COMMIT; END;")?;
-    assert!(rt; is_most(alloc, (head, "(\n", closed.as_str()), 64, lines)?);
+    assert!(rt; is_most(&rt, (head, "(\n", closed.as_str()), 64, lines)?);
     // Parentheses and NOT count together.
     let head = "CREATE TABLE t (n INT); SESSION a; BEGIN; DELETE FROM t WHERE NOT\n";
     let closed = repeated(alloc, "n = 1", ")", 63, "; COMMIT; END;")?;
     let lines = (ONE_OF_EACH, "line 65: E04\n");
-    assert!(rt; is_most(alloc, (head, "(\n", closed.as_str()), 63, lines)?);
+    assert!(rt; is_most(&rt, (head, "(\n", closed.as_str()), 63, lines)?);
     // Those that are closed don't count.
     let head = "CREATE TABLE t (n INT); SESSION a; BEGIN; DELETE FROM t WHERE ";
     let many = repeated(alloc, head, "NOT (n = 1) OR ", 65, "n = 1; COMMIT; END;")?;
-    assert!(rt; checks(alloc, many.as_str(), ONE_OF_EACH)?);
+    assert!(rt; checks(&rt, many.as_str(), ONE_OF_EACH)?);
     Ok(())
 }
 
@@ -194,14 +196,14 @@ fn tokens_of_a_statement(rt: HostRuntime) -> Result<(), Fail> {
     let head = "CREATE TABLE t (n INT); SESSION a; BEGIN;\nSELECT ";
     let tail = "n FROM t WHERE n IS NOT NULL\n; COMMIT; END;";
     let most = repeated(alloc, head, "n,", 2_043, tail)?;
-    assert!(rt; checks(alloc, most.as_str(), ONE_OF_EACH)?);
+    assert!(rt; checks(&rt, most.as_str(), ONE_OF_EACH)?);
     let tail = "n FROM t WHERE NOT n IS NOT NULL\n; COMMIT; END;";
     let over = repeated(alloc, head, "n,", 2_043, tail)?;
-    assert!(rt; checks(alloc, over.as_str(), "line 3: E04\n")?);
+    assert!(rt; checks(&rt, over.as_str(), "line 3: E04\n")?);
     // SCHEDULE has no such limit.
     let turns = repeated(alloc, "SESSION a; SCHEDULE ", "a!", 2_100, "; END;")?;
     let counts = "ok tables 0 rows 0 sessions 1 transactions 0 items 2100\n";
-    assert!(rt; checks(alloc, turns.as_str(), counts)?);
+    assert!(rt; checks(&rt, turns.as_str(), counts)?);
     Ok(())
 }
 
@@ -212,7 +214,7 @@ fn transactions_of_a_session(rt: HostRuntime) -> Result<(), Fail> {
         "ok tables 0 rows 0 sessions 1 transactions 65535 items 0\n",
         "line 65537: E09\n",
     );
-    assert!(rt; is_most(rt.alloc(), script, 65_535, lines)?);
+    assert!(rt; is_most(&rt, script, 65_535, lines)?);
     Ok(())
 }
 
@@ -225,7 +227,7 @@ fn items_of_a_schedule(rt: HostRuntime) -> Result<(), Fail> {
         "ok tables 0 rows 0 sessions 1 transactions 0 items 1000000\n",
         "line 2: E09\n",
     );
-    assert!(rt; is_most(rt.alloc(), script, 1_000_000, lines)?);
+    assert!(rt; is_most(&rt, script, 1_000_000, lines)?);
     Ok(())
 }
 
@@ -236,7 +238,7 @@ fn bytes_of_a_script(rt: HostRuntime) -> Result<(), Fail> {
         "ok tables 0 rows 0 sessions 0 transactions 0 items 0\n",
         "line 1: E01\n",
     );
-    assert!(rt; is_most(rt.alloc(), script, 16_777_212, lines)?);
+    assert!(rt; is_most(&rt, script, 16_777_212, lines)?);
     Ok(())
 }
 
@@ -249,7 +251,7 @@ fn long_chains_of_conditions(rt: HostRuntime) -> Result<(), Fail> {
     let most = repeated(alloc, head, "n = 1 AND ", 1_021, tail)?;
     let text =
         "txn a.1 start 0\nupdated 1\ncommitted 0\nwrote t 0\norder 1\nentry 0 a.1\nchange t 0 from 1 to 2\ntable t 1\nrow 2\nend\n";
-    assert!(rt; says(alloc, "run", most.as_str(), text)?);
+    assert!(rt; says(&rt, "run", most.as_str(), text)?);
     Ok(())
 }
 
@@ -258,6 +260,6 @@ fn long_chains_of_operators(rt: HostRuntime) -> Result<(), Fail> {
     let alloc = rt.alloc();
     let head = "CREATE TABLE t (n INT); SESSION a; BEGIN;\nUPDATE t SET n = ";
     let most = repeated(alloc, head, "1+", 2_044, "1; COMMIT; END;")?;
-    assert!(rt; checks(alloc, most.as_str(), ONE_OF_EACH)?);
+    assert!(rt; checks(&rt, most.as_str(), ONE_OF_EACH)?);
     Ok(())
 }

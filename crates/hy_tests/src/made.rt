@@ -1,13 +1,25 @@
 //! What `gen` writes. The expected summaries come from an independent program.
 
 use crate::runs::words_of;
+use hy_disk::NoDisk;
 use hy_outside::{MemSink, MemSource};
-use std::alloc::{AllocError, Global};
+use hy_threads::OpenGate;
+use std::alloc::AllocError;
+use std::sync::Wait;
 use std::test::Fail;
+use std::thread::Threads;
+
+/// What `gen` writes of one audit.
+pub const AUDIT_TEXT: &str =
+    "transactions 1\ncommitted 0\nread 1\nconflict 0\ninvalid 0\ntotal 64000\nend\n";
 
 /// The status and the text of `gen` with this seed, of one session of one transaction, and the bytes that stay in
 /// the source.
-fn summary(alloc: Global, seed: &str) -> Result<(u8, Vec<u8>, usize), AllocError> {
+fn summary<T: Threads + Wait + Sync + AllocGlobal>(
+    rt: &T,
+    seed: &str,
+) -> Result<(u8, Vec<u8>, usize), AllocError> {
+    let alloc = rt.alloc();
     let words = words_of(
         alloc,
         &[
@@ -23,7 +35,15 @@ fn summary(alloc: Global, seed: &str) -> Result<(u8, Vec<u8>, usize), AllocError
     )?;
     let mut source = MemSource::new(b"END;".to_vec(alloc)?, 7, Vec::new(alloc));
     let mut sink = MemSink::new(alloc, 10_000, Vec::new(alloc))?;
-    let report = hy_top::run(alloc, &words, &mut source, &mut sink);
+    let report = hy_top::run(
+        rt,
+        alloc,
+        &words,
+        &mut source,
+        &mut sink,
+        &OpenGate,
+        &mut NoDisk,
+    );
     let wrote = sink.bytes().to_vec(alloc)?;
     let left = hy_outside::read_all(alloc, &mut source, 100);
     let left = match left {
@@ -35,7 +55,7 @@ fn summary(alloc: Global, seed: &str) -> Result<(u8, Vec<u8>, usize), AllocError
 
 #[test]
 fn a_transfer_commits_and_keeps_the_sum(rt: HostRuntime) -> Result<(), Fail> {
-    let (status, text, left) = summary(rt.alloc(), "0")?;
+    let (status, text, left) = summary(&rt, "0")?;
     assert_eq!(rt; (status, left), (0, 4));
     assert_eq!(rt;
         text.as_slice(),
@@ -46,11 +66,8 @@ fn a_transfer_commits_and_keeps_the_sum(rt: HostRuntime) -> Result<(), Fail> {
 
 #[test]
 fn an_audit_only_reads(rt: HostRuntime) -> Result<(), Fail> {
-    let (status, text, _) = summary(rt.alloc(), "1")?;
+    let (status, text, _) = summary(&rt, "1")?;
     assert_eq!(rt; status, 0);
-    assert_eq!(rt;
-        text.as_slice(),
-        b"transactions 1\ncommitted 0\nread 1\nconflict 0\ninvalid 0\ntotal 64000\nend\n".as_slice()
-    );
+    assert_eq!(rt; text.as_slice(), AUDIT_TEXT.as_bytes());
     Ok(())
 }

@@ -1,36 +1,45 @@
 //! Words and scripts that must be refused, by each cause.
 
-use crate::runs::{OLD_SNAPSHOT, words_of};
+use crate::runs::{OLD_SNAPSHOT, words_of, written_beside};
+use hy_disk::NoDisk;
 use hy_outside::{MemSink, MemSource, read_all};
+use hy_threads::OpenGate;
 use std::alloc::{AllocError, Global};
 use std::process::Abort;
+use std::sync::Wait;
 use std::test::Fail;
+use std::thread::Threads;
 
 /// The status and the text of a command on a script of these bytes.
-pub fn written(
-    alloc: Global,
+pub fn written<T: Threads + Wait + Sync + AllocGlobal>(
+    rt: &T,
     words: &[&str],
     script: Vec<u8>,
 ) -> Result<(u8, Vec<u8>), AllocError> {
-    let words = words_of(alloc, words)?;
-    let mut source = MemSource::new(script, 4096, Vec::new(alloc));
-    let mut sink = MemSink::new(alloc, 10_000, Vec::new(alloc))?;
-    let report = hy_top::run(alloc, &words, &mut source, &mut sink);
-    Ok((report.status, sink.bytes().to_vec(alloc)?))
+    written_beside(rt, &OpenGate, words, script)
 }
 
 /// Whether a command writes this for a script, where a table has room for four rows. Status 2 goes with the line
 /// of a refusal, and 0 with any other text.
-pub fn says(alloc: Global, command: &str, script: &str, text: &str) -> Result<bool, AllocError> {
+pub fn says<T: Threads + Wait + Sync + AllocGlobal>(
+    rt: &T,
+    command: &str,
+    script: &str,
+    text: &str,
+) -> Result<bool, AllocError> {
     let words = ["hy", command, "--chunks", "1", "--rows", "4"];
-    let (status, wrote) = written(alloc, &words, script.as_bytes().to_vec(alloc)?)?;
+    let (status, wrote) = written(rt, &words, script.as_bytes().to_vec(rt.alloc())?)?;
     let wanted = if text.starts_with("line ") { 2 } else { 0 };
     Ok(status == wanted && wrote.as_slice() == text.as_bytes())
 }
 
 /// Whether `hy check` writes this line for a script, refused or not.
-pub fn checks(alloc: Global, script: &str, line: &str) -> Result<bool, AllocError> {
-    says(alloc, "check", script, line)
+pub fn checks<T: Threads + Wait + Sync + AllocGlobal>(
+    rt: &T,
+    script: &str,
+    line: &str,
+) -> Result<bool, AllocError> {
+    says(rt, "check", script, line)
 }
 
 /// A table, and a transaction of one statement.
@@ -47,9 +56,9 @@ fn alone(alloc: Global, begin: &str, statement: &str) -> Result<String, AllocErr
 }
 
 /// `check` writes this for a transaction of one statement.
-fn refuses(rt: &impl Abort, alloc: Global, statement: &str, line: &str) {
-    let answers = match alone(alloc, "BEGIN", statement) {
-        Ok(script) => checks(alloc, script.as_str(), line).unwrap_or(false),
+fn refuses(rt: &(impl Abort + Threads + Wait + Sync + AllocGlobal), statement: &str, line: &str) {
+    let answers = match alone(rt.alloc(), "BEGIN", statement) {
+        Ok(script) => checks(rt, script.as_str(), line).unwrap_or(false),
         Err(_) => false,
     };
     assert!(rt; answers, "{statement}");
@@ -68,7 +77,7 @@ fn names(rt: HostRuntime) {
         ("SELECT id FROM acc JOIN acc ON id = id", "line 5: E08\n"),
         ("UPDATE acc SET bal = 1, bal = 2", "line 5: E08\n"),
     ] {
-        refuses(&rt, rt.alloc(), statement, line);
+        refuses(&rt, statement, line);
     }
 }
 
@@ -95,7 +104,7 @@ fn types_and_keys(rt: HostRuntime) {
             "ok tables 2 rows 0 sessions 1 transactions 1 items 0\n",
         ),
     ] {
-        refuses(&rt, rt.alloc(), statement, line);
+        refuses(&rt, statement, line);
     }
 }
 
@@ -103,13 +112,13 @@ fn types_and_keys(rt: HostRuntime) {
 fn read_only_transactions(rt: HostRuntime) -> Result<(), Fail> {
     let alloc = rt.alloc();
     let script = alone(alloc, "BEGIN READ ONLY", "DELETE FROM own")?;
-    assert!(rt; checks(alloc, script.as_str(), "line 5: E11\n")?);
+    assert!(rt; checks(&rt, script.as_str(), "line 5: E11\n")?);
     let script = alone(
         alloc,
         "BEGIN READ ONLY",
         "SELECT aid, COUNT(*) FROM own GROUP BY who",
     )?;
-    assert!(rt; checks(alloc, script.as_str(), "line 5: E18\n")?);
+    assert!(rt; checks(&rt, script.as_str(), "line 5: E18\n")?);
     let script = alone(
         alloc,
         "BEGIN READ ONLY",
@@ -117,7 +126,7 @@ fn read_only_transactions(rt: HostRuntime) -> Result<(), Fail> {
     )?;
     assert!(rt;
         checks(
-            alloc,
+            &rt,
             script.as_str(),
             "ok tables 2 rows 0 sessions 1 transactions 1 items 0\n"
         )?
@@ -140,7 +149,7 @@ fn tokens_and_grammar(rt: HostRuntime) {
             "ok tables 2 rows 0 sessions 1 transactions 1 items 0\n",
         ),
     ] {
-        refuses(&rt, rt.alloc(), statement, line);
+        refuses(&rt, statement, line);
     }
 }
 
@@ -194,20 +203,32 @@ const SCRIPTS: [(&str, &str); 18] = [
 fn whole_scripts(rt: HostRuntime) -> Result<(), Fail> {
     let alloc = rt.alloc();
     for (script, line) in SCRIPTS {
-        assert!(rt; checks(alloc, script, line)?, "{script}");
+        assert!(rt; checks(&rt, script, line)?, "{script}");
     }
-    let (status, text) = written(alloc, &["hy", "check"], [255u8].to_vec(alloc)?)?;
+    let (status, text) = written(&rt, &["hy", "check"], [255u8].to_vec(alloc)?)?;
     assert_eq!(rt; status, 2);
     assert_eq!(rt; text.as_slice(), b"line 1: E02\n".as_slice());
     Ok(())
 }
 
 /// Whether the words are refused with the usage line, and the source keeps its bytes.
-fn are_refused(alloc: Global, words: &[&str]) -> Result<bool, Fail> {
+fn are_refused<T: Threads + Wait + Sync + AllocGlobal>(
+    rt: &T,
+    words: &[&str],
+) -> Result<bool, Fail> {
+    let alloc = rt.alloc();
     let words = words_of(alloc, words)?;
     let mut source = MemSource::new(OLD_SNAPSHOT.as_bytes().to_vec(alloc)?, 7, Vec::new(alloc));
     let mut sink = MemSink::new(alloc, 100, Vec::new(alloc))?;
-    let report = hy_top::run(alloc, &words, &mut source, &mut sink);
+    let report = hy_top::run(
+        rt,
+        alloc,
+        &words,
+        &mut source,
+        &mut sink,
+        &OpenGate,
+        &mut NoDisk,
+    );
     let left = read_all(alloc, &mut source, 10_000)
         .ok()
         .ok_or("the source has its bytes")?;
@@ -221,14 +242,13 @@ fn are_refused(alloc: Global, words: &[&str]) -> Result<bool, Fail> {
 
 #[test]
 fn other_words(rt: HostRuntime) -> Result<(), Fail> {
-    let alloc = rt.alloc();
-    assert!(rt; are_refused(alloc, &["hy", "fly"])?);
-    assert!(rt; are_refused(alloc, &["hy"])?);
-    assert!(rt; are_refused(alloc, &[])?);
-    assert!(rt; are_refused(alloc, &["hy", "run", "run"])?);
-    assert!(rt; are_refused(alloc, &["hy", "run", "--chunks", "65"])?);
-    assert!(rt; are_refused(alloc, &["hy", "check", "--rows", "0"])?);
-    assert!(rt; are_refused(alloc, &["hy", "run", "--threads"])?);
+    assert!(rt; are_refused(&rt, &["hy", "fly"])?);
+    assert!(rt; are_refused(&rt, &["hy"])?);
+    assert!(rt; are_refused(&rt, &[])?);
+    assert!(rt; are_refused(&rt, &["hy", "run", "run"])?);
+    assert!(rt; are_refused(&rt, &["hy", "run", "--chunks", "65"])?);
+    assert!(rt; are_refused(&rt, &["hy", "check", "--rows", "0"])?);
+    assert!(rt; are_refused(&rt, &["hy", "check", "--threads"])?);
     Ok(())
 }
 
@@ -245,9 +265,10 @@ fn options_at_their_limits(rt: HostRuntime) -> Result<(), Fail> {
         (["hy", "check", "--rows", "0"], 1),
         (["hy", "run", "--rows", "1025"], 1),
         (["hy", "run", "--no-prune", "--rows=4"], 0),
+        (["hy", "run", "--no-prune", "--threads"], 0),
         (["hy", "check", "--no-prune", "--rows=4"], 1),
     ] {
-        let (came_to, _) = written(alloc, &words, b"END;".to_vec(alloc)?)?;
+        let (came_to, _) = written(&rt, &words, b"END;".to_vec(alloc)?)?;
         assert!(rt; came_to == status, "{words:?}");
     }
     Ok(())

@@ -1,6 +1,11 @@
-//! A script and its text, and the words of a command. The expected text comes from an independent program.
+//! A script and its text, the words of a command, and its run. The expected text comes from an independent program.
 
+use hy_disk::NoDisk;
+use hy_outside::{MemSink, MemSource};
+use hy_threads::Gate;
 use std::alloc::{AllocError, Global};
+use std::sync::Wait;
+use std::thread::Threads;
 
 /// What a reader sees that began before the writer's commit.
 pub const OLD_SNAPSHOT: &str = "CREATE TABLE t (n INT); INSERT INTO t VALUES (1); \
@@ -20,4 +25,20 @@ pub fn words_of(alloc: Global, words: &[&str]) -> Result<Vec<String>, AllocError
         all.push(String::from_str(alloc, word)?)?;
     }
     Ok(all)
+}
+
+/// The status and the text of a command on a script of these bytes. The gate is told of visits where sessions run on
+/// threads.
+pub fn written_beside<T: Threads + Wait + Sync + AllocGlobal, G: Gate>(
+    rt: &T,
+    gate: &G,
+    words: &[&str],
+    script: Vec<u8>,
+) -> Result<(u8, Vec<u8>), AllocError> {
+    let alloc = rt.alloc();
+    let words = words_of(alloc, words)?;
+    let mut source = MemSource::new(script, 4096, Vec::new(alloc));
+    let mut sink = MemSink::new(alloc, 10_000, Vec::new(alloc))?;
+    let report = hy_top::run(rt, alloc, &words, &mut source, &mut sink, gate, &mut NoDisk);
+    Ok((report.status, sink.bytes().to_vec(alloc)?))
 }

@@ -1,9 +1,8 @@
 -- How a report answers what was read.
-use Rattle.std.proofs.Common.{◌≡◌, ℕ, ◌+◌, ◌*◌, ◌<◌, ◌≤◌, List, [], Option, None, Some, Result, Ok, Err, IsNone, IsSome, IfSome, length, map, refl, ap, sym, ◌∙◌, subst, arith, ◌⊎◌, inl, inr}
+use Rattle.std.proofs.Common.{◌≡◌, ℕ, ◌+◌, ◌*◌, ◌<◌, ◌≤◌, List, [], Bool, true, false, Option, None, Some, Result, Ok, Err, IsNone, IsSome, IfSome, length, map, refl, ap, sym, ◌∙◌, subst, arith, ◌⊎◌, inl, inr}
 use Rattle.std.proofs.Math.Logic.{⊎_elim}
 use Rattle.std.proofs.Math.Nat.{mul-le-mul_right}
 use Rattle.std.proofs.lemmas.List.{take_all, drop_all, length-take-le}
-use Rattle.hy_schedule.specs.declared.Item.{Item}
 use Rattle.hy_outside.specs.Telling.{GivesAll, GivesPast}
 use Rattle.hy_script.specs.declared.Script.{Script}
 use Rattle.hy_script.specs.declared.Refused.{Refused}
@@ -12,18 +11,21 @@ use Rattle.hy_script.specs.declared.codes.Code.TheVariants.{TooLong}
 use Rattle.hy_script.specs.Reading.{Reads, too_long}
 use Rattle.hy_render.specs.declared.Outcome.{Outcome}
 use Rattle.hy_machine.specs.declared.Setting.{Setting}
-use Rattle.hy_machine.specs.Runs.{run_of}
+use Rattle.hy_machine.specs.declared.State.{State}
+use Rattle.hy_machine.specs.Runs.{IsReached, RunsAreSteps, RunsEnd, all_ended_from, run_of}
 use Rattle.hy_machine.specs.Outcomes.{outcome_of}
 use Rattle.hy_bind.specs.Shapes.{catalog_shapes}
 use Rattle.hy_bound.specs.Fits.{Fits}
 use Rattle.hy_lawful.specs.Lawful.{Lawful}
 use Rattle.hy_lawful.specs.Serial.{IsSerial}
-use Rattle.hy_lawful.specs.Laws.{SerialRuns}
+use Rattle.hy_lawful.specs.Laws.{SerialEnds}
 use Rattle.hy_words.specs.declared.Command.{Command}
 use Rattle.hy_words.specs.Words.{IsWithin}
-use Rattle.hy_words.specs.declared.Command.TheVariants.{Run, Check, Gen}
+use Rattle.hy_words.specs.declared.Command.TheVariants.{Run, Check, Recover, Gen}
+use Rattle.hy_value.specs.declared.Value.{Value}
 use Rattle.hy_top.specs.Lines.{refusal_line_of}
-use Rattle.hy_top.specs.Program.{bytes_read, bytes_left, options_by, made_by, comes_to}
+use Rattle.hy_top.specs.Program.{MayCome, bytes_read, bytes_left, options_by, made_by}
+use Rattle.hy_world.specs.SomeRuns.{IsSomeRun}
 use Rattle.hy_gen.specs.Made.{made}
 use Rattle.hy_bank.specs.Fitting.{MadeFits}
 use Rattle.hy_bank.specs.Bank.{all_money}
@@ -31,10 +33,10 @@ use Rattle.hy_bank.specs.Outcomes.{IsToldTheMoney, MadeOutcomesKeepTheMoney, Mad
 use Rattle.hy_bank.specs.Endings.{EndInFourWays, EndingsAddUp, MadeEndInFourWays, MadeEndingsAddUp}
 use Rattle.hy_render.specs.Summary.{balances}
 use Rattle.std.specs.List.{AllByRecursion}
-use Rattle.std.specs.Prelude.{pos}
+use Rattle.std.specs.Prelude.{pos, IfOk}
 use Rattle.hy_near.specs.Runnable.{IsRunnable}
-use Rattle.hy_top.specs.Settings.{setting_at}
-use Rattle.hy_top.specs.Reports.{IsRefused, Spells, IsRun, Writes, Answers, Checks, Summarizes, Does, Makes}
+use Rattle.hy_top.specs.Settings.{CanRun, setting_at}
+use Rattle.hy_top.specs.Reports.{IsRefused, Spells, IsRun, Writes, Answers, Checks, HasRun, RunsLogged, FindsALog, Restores, restored_status, Summarizes, GaveUp, Does, Makes}
 use Rattle.hy_limits.specs.declared.TheConstants.{MOST_BYTES}
 
 none_is : (o : Option Outcome) → IsNone o → o ≡ None
@@ -71,9 +73,10 @@ given_outcome : (P : Outcome → Type 0) (given : Option Outcome) (o : Outcome) 
 given_outcome P given o is p = subst (λ (g : Option Outcome). IfSome g P) (sym is) p
 
 -- a refusal is an answer to what is refused
-pub refused_answers : (command : Command) (bytes : List ℕ) (why : Refused) (status : ℕ) (given : Option Outcome) (before after : Option (List ℕ)) → Once → IsRefused command bytes why
-    → ((status ≡ 5) ⊎ Writes 2 status before after (refusal_line_of why)) → IsNone given → Answers command bytes status given before after
-refused_answers command bytes why status given before after once is w nothing =
+pub refused_answers : (command : Command) (bytes : List ℕ) (found : Option (List ℕ)) (why : Refused) (status : ℕ) (given : Option Outcome)
+    (before after : Option (List ℕ)) → Once → IsRefused command bytes why
+    → ((status ≡ 5) ⊎ Writes 2 status before after (refusal_line_of why)) → IsNone given → Answers command bytes found status given before after
+refused_answers command bytes found why status given before after once is w nothing =
     record {
       refused = λ other h. subst (λ (x : Refused). (status ≡ 5) ⊎ Writes 2 status before after (refusal_line_of x)) (same_refusal why other (once bytes (options_by command) (Err why) (Err other) is h)) w;
       refuses = λ h. (why, is);
@@ -83,10 +86,31 @@ refused_answers command bytes why status given before after once is w nothing =
       outcome_there = λ h. absurd (none_is_not_some given nothing h);
     }
 
--- what the machine's runs come to is lawful, and serializable where the script fits
+-- a run by a schedule is a list of steps to the end; what the machine comes to at the end is lawful, whatever the steps, and
+-- serializable where the script fits
 pub record Theorem : Type 0 where
-  pub lawful : (setting : Setting) (schedule : List Item) → Lawful setting (outcome_of setting (run_of setting schedule))
-  pub serial : SerialRuns
+  pub steps : RunsAreSteps
+  pub ends : RunsEnd
+  pub lawful : (setting : Setting) (state : State) → IsReached setting state → all_ended_from setting 0 state.sessions ≡ true
+      → Lawful setting (outcome_of setting state)
+  pub serial : SerialEnds
+
+-- what a run may come to is what some steps come to
+some_run : Theorem → (threads : Bool) (script : Script) (outcome : Outcome) → MayCome threads script outcome → IsSomeRun (setting_at script) outcome
+some_run law true script outcome may = may
+some_run law false script outcome may = record {
+  state = run_of (setting_at script) script.schedule;
+  reached = law.steps (setting_at script) script.schedule;
+  ended = law.ends (setting_at script) script.schedule;
+  outcome_is = may;
+}
+
+lawful_run : Theorem → (setting : Setting) (outcome : Outcome) → IsSomeRun setting outcome → Lawful setting outcome
+lawful_run law setting outcome is = subst (Lawful setting) (sym is.outcome_is) (law.lawful setting is.state is.reached is.ended)
+
+serial_run : Theorem → (setting : Setting) (outcome : Outcome) → IsRunnable setting → IsSomeRun setting outcome → IsSerial setting outcome
+serial_run law setting outcome fit is =
+    subst (IsSerial setting) (sym is.outcome_is) (law.serial setting is.state is.reached is.ended fit.some_chunk fit.fits)
 
 -- what is read can be run
 abbrev pub ReadFits : Command → List ℕ → Type 0
@@ -100,9 +124,10 @@ record AreFew (options : Options) : Type 0 where
   few_rows : options.rows ≤ 1024
 
 few_of : (command : Command) → IsWithin command → AreFew (options_by command)
-few_of (Run prune chunks rows) within = record { some_chunk = within.0; few_chunks = within.1; some_row = within.2; few_rows = within.3 }
+few_of (Run threads prune log chunks rows) within = record { some_chunk = within.0; few_chunks = within.1; some_row = within.2; few_rows = within.3 }
 few_of (Check chunks rows) within = record { some_chunk = within.0; few_chunks = within.1; some_row = within.2; few_rows = within.3 }
-few_of (Gen seed sessions txns) within = record { some_chunk = omega arith; few_chunks = omega arith; some_row = omega arith; few_rows = omega arith }
+few_of (Recover chunks rows) within = record { some_chunk = within.0; few_chunks = within.1; some_row = within.2; few_rows = within.3 }
+few_of (Gen seed sessions txns threads) within = record { some_chunk = omega arith; few_chunks = omega arith; some_row = omega arith; few_rows = omega arith }
 
 few_runnable : (script : Script) → AreFew script.options
     → Fits (catalog_shapes script.catalog) (script.options.chunks * script.options.rows) script.rows (map (λ session. session.txns) script.sessions)
@@ -127,68 +152,98 @@ read_fits command bytes within fits same script s =
     (subst (λ (o : Options). Fits (catalog_shapes script.catalog) (o.chunks * o.rows) script.rows (map (λ session. session.txns) script.sessions))
     is (fits bytes (options_by command) script s))
 
--- nothing was done for want of memory
-gave_up : (command : Command) (bytes : List ℕ) (script : Script) (status : ℕ) (given : Option Outcome) (before after : Option (List ℕ)) → Once → Spells command bytes script → status ≡ 5 → IsNone given → Answers command bytes status given before after
-gave_up command bytes script status given before after once s five nothing =
+-- a status that is not that of a refusal
+abbrev IsNoRefusal : ℕ → Type 0
+IsNoRefusal status = status ≡ 2 → ⊥
+
+gave_up_otherwise : (status : ℕ) → GaveUp status → IsNoRefusal status
+gave_up_otherwise status gave two = ⊎_elim (λ e. let never : ⊥ = omega (arith, e, two) in never) (λ e. let never : ⊥ = omega (arith, e, two) in never) gave
+
+done_otherwise : (done status : ℕ) (before after : Option (List ℕ)) (bytes : List ℕ) → IsNoRefusal done → Writes done status before after bytes
+    → IsNoRefusal status
+done_otherwise done status before after bytes other w two =
+    ⊎_elim (λ e. other (sym e ∙ two)) (λ e. let never : ⊥ = omega (arith, e, two) in never) (done_or_four done status before after bytes w)
+
+-- what was done with a script, or that nothing was, is an answer where nothing was run
+quiet_answers : (command : Command) (bytes : List ℕ) (found : Option (List ℕ)) (script : Script) (status : ℕ) (given : Option Outcome)
+    (before after : Option (List ℕ)) → Once → Spells command bytes script → IsNone given → IsNoRefusal status
+    → GaveUp status ⊎ Does command script found status given before after → Answers command bytes found status given before after
+quiet_answers command bytes found script status given before after once s nothing other done =
+    let only : (another : Script) → Spells command bytes another → script ≡ another =
+    λ another t. same_script script another (once bytes (options_by command) (Ok script) (Ok another) s t) in
     record {
-      refused = λ why h. inl five;
-      refuses = λ h. absurd (omega (arith, five));
-      does = λ other t. inl five;
-      lawful = λ other t. no_outcome (Lawful (setting_at other)) given nothing;
-      serial = λ other t. no_outcome (IsSerial (setting_at other)) given nothing;
+      refused = λ why h. absurd (not_both script why (once bytes (options_by command) (Ok script) (Err why) s h));
+      refuses = λ h. absurd (other h);
+      does = λ another t. subst (λ (x : Script). GaveUp status ⊎ Does command x found status given before after) (only another t) done;
+      lawful = λ another t. no_outcome (Lawful (setting_at another)) given nothing;
+      serial = λ another t. no_outcome (IsSerial (setting_at another)) given nothing;
       outcome_there = λ h. absurd (none_is_not_some given nothing h);
     }
 
-not_two : (status : ℕ) → (status ≡ 0) ⊎ (status ≡ 4) → status ≡ 2 → ⊥
-not_two status ends two = ⊎_elim (λ e. let never : ⊥ = omega arith in never) (λ e. let never : ⊥ = omega arith in never) ends
-
 -- what a command did that runs its script is an answer
-ran_answers : (command : Command) (bytes : List ℕ) (script : Script) (status : ℕ) (given : Option Outcome) (before after : Option (List ℕ)) → Once → Theorem → ReadFits command bytes → IsRun command
-    → Spells command bytes script → given ≡ Some (comes_to script) → (status ≡ 0) ⊎ (status ≡ 4) → Does command script status given before after → Answers command bytes status given before after
-ran_answers command bytes script status given before after once law fit run s is ends did =
-    let only : (other : Script) → Spells command bytes other → script ≡ other = λ other t. same_script script other (once bytes (options_by command) (Ok script) (Ok other) s t) in
+ran_answers : (command : Command) (bytes : List ℕ) (found : Option (List ℕ)) (script : Script) (status : ℕ) (given : Option Outcome)
+    (before after : Option (List ℕ)) (threads : Bool) (told : Outcome → List ℕ) → Once → Theorem → ReadFits command bytes → IsRun command
+    → Spells command bytes script → HasRun told threads script status given before after → Does command script found status given before after
+    → Answers command bytes found status given before after
+ran_answers command bytes found script status given before after threads told once law fit run s ran did =
+    let only : (other : Script) → Spells command bytes other → script ≡ other =
+    λ other t. same_script script other (once bytes (options_by command) (Ok script) (Ok other) s t) in
+    let ends : (status ≡ 0) ⊎ (status ≡ 4) = done_or_four 0 status before after _ ran.writes in
+    let some = some_run law threads script ran.given ran.may_come in
     record {
       refused = λ why h. absurd (not_both script why (once bytes (options_by command) (Ok script) (Err why) s h));
-      refuses = λ h. absurd (not_two status ends h);
-      does = λ other t. inr (subst (λ (x : Script). Does command x status given before after) (only other t) did);
+      refuses = λ h. absurd (done_otherwise 0 status before after _ (λ two. omega (arith, two)) ran.writes h);
+      does = λ other t. inr (subst (λ (x : Script). Does command x found status given before after) (only other t) did);
       lawful = λ other t. subst (λ (x : Script). IfSome given (Lawful (setting_at x))) (only other t)
-          (given_outcome (Lawful (setting_at script)) given (comes_to script) is (law.lawful (setting_at script) script.schedule));
+          (given_outcome (Lawful (setting_at script)) given ran.given ran.outcome_is (lawful_run law (setting_at script) ran.given some));
       serial = λ other t. subst (λ (x : Script). IfSome given (IsSerial (setting_at x))) (only other t)
-          (given_outcome (IsSerial (setting_at script)) given (comes_to script) is
-          (law.serial (setting_at script) script.schedule (fit script s).some_chunk (fit script s).fits));
+          (given_outcome (IsSerial (setting_at script)) given ran.given ran.outcome_is
+          (serial_run law (setting_at script) ran.given (fit script s) some));
       outcome_there = λ h. (run, (script, s), ends);
     }
 
--- a check is an answer
-checked_answers : (chunks rows : ℕ) (bytes : List ℕ) (script : Script) (status : ℕ) (given : Option Outcome) (before after : Option (List ℕ)) → Once
-    → Spells (Check chunks rows) bytes script → Checks script status given before after → Answers (Check chunks rows) bytes status given before after
-checked_answers chunks rows bytes script status given before after once s done =
-    let ends : (status ≡ 0) ⊎ (status ≡ 4) = done_or_four 0 status before after _ done.writes in
-    let only : (other : Script) → Spells (Check chunks rows) bytes other → script ≡ other = λ other t. same_script script other (once bytes (options_by (Check chunks rows)) (Ok script) (Ok other) s t) in
-    record {
-      refused = λ why h. absurd (not_both script why (once bytes (options_by (Check chunks rows)) (Ok script) (Err why) s h));
-      refuses = λ h. absurd (not_two status ends h);
-      does = λ other t. inr (subst (λ (x : Script). Checks x status given before after) (only other t) done);
-      lawful = λ other t. no_outcome (Lawful (setting_at other)) given done.nothing_is_run;
-      serial = λ other t. no_outcome (IsSerial (setting_at other)) given done.nothing_is_run;
-      outcome_there = λ h. absurd (none_is_not_some given done.nothing_is_run h);
-    }
+-- the status of tables that were made again, or of damage
+restored_otherwise : (restored : Result (List (List (List Value))) ℕ) → IsNoRefusal (restored_status restored)
+restored_otherwise (Ok rows) two = omega (arith, two)
+restored_otherwise (Err offset) two = omega (arith, two)
 
 -- what was done with a script is an answer to the bytes that spell it
-pub done_answers : (command : Command) (bytes : List ℕ) (script : Script) (status : ℕ) (given : Option Outcome) (before after : Option (List ℕ)) → Once → Theorem → ReadFits command bytes → Spells command bytes script
-    → ((status ≡ 5) × IsNone given) ⊎ Does command script status given before after → Answers command bytes status given before after
-done_answers command bytes script status given before after once law fit s (inl none) = gave_up command bytes script status given before after once s none.0 none.1
-done_answers (Run prune chunks rows) bytes script status given before after once law fit s (inr ran) =
-    ran_answers (Run prune chunks rows) bytes script status given before after once law fit tt s ran.outcome_is (done_or_four 0 status before after _ ran.writes) ran
-done_answers (Gen seed sessions txns) bytes script status given before after once law fit s (inr ran) =
-    ran_answers (Gen seed sessions txns) bytes script status given before after once law fit tt s ran.outcome_is (done_or_four 0 status before after _ ran.writes) ran
-done_answers (Check chunks rows) bytes script status given before after once law fit s (inr done) = checked_answers chunks rows bytes script status given before after once s done
+pub done_answers : (command : Command) (bytes : List ℕ) (found : Option (List ℕ)) (script : Script) (status : ℕ) (given : Option Outcome)
+    (before after : Option (List ℕ)) → Once → Theorem → ReadFits command bytes → Spells command bytes script
+    → (GaveUp status × IsNone given) ⊎ Does command script found status given before after → Answers command bytes found status given before after
+done_answers command bytes found script status given before after once law fit s (inl none) =
+    quiet_answers command bytes found script status given before after once s none.1 (gave_up_otherwise status none.0) (inl none.0)
+done_answers (Run threads prune false chunks rows) bytes found script status given before after once law fit s (inr ran) =
+    ran_answers (Run threads prune false chunks rows) bytes found script status given before after threads _ once law fit tt s ran ran
+done_answers (Run threads prune true chunks rows) bytes found script status given before after once law fit s (inr (inl ran)) =
+    ran_answers (Run threads prune true chunks rows) bytes found script status given before after false _ once law fit tt s ran.runs (inl ran)
+done_answers (Run threads prune true chunks rows) bytes found script status given before after once law fit s (inr (inr there)) =
+    quiet_answers (Run threads prune true chunks rows) bytes found script status given before after once s there.nothing_is_run
+    (done_otherwise 7 status before after _ (λ two. omega (arith, two)) there.writes) (inr (inr there))
+done_answers (Gen seed sessions txns threads) bytes found script status given before after once law fit s (inr ran) =
+    ran_answers (Gen seed sessions txns threads) bytes found script status given before after threads _ once law fit tt s ran ran
+done_answers (Check chunks rows) bytes found script status given before after once law fit s (inr done) =
+    quiet_answers (Check chunks rows) bytes found script status given before after once s done.nothing_is_run
+    (done_otherwise 0 status before after _ (λ two. omega (arith, two)) done.writes) (inr done)
+done_answers (Recover chunks rows) bytes found script status given before after once law fit s (inr done) =
+    quiet_answers (Recover chunks rows) bytes found script status given before after once s done.nothing_is_run
+    (done_otherwise (restored_status done.restored) status before after _ (restored_otherwise done.restored) done.writes) (inr done)
 
 whole_is_read : (all : List ℕ) → length all ≤ MOST_BYTES → bytes_read all ≡ all
 whole_is_read all h = take_all (MOST_BYTES + 1) all (omega arith)
 
 nothing_is_left : (all : List ℕ) → length all ≤ MOST_BYTES → bytes_left all ≡ []
 nothing_is_left all h = drop_all (MOST_BYTES + 1) all (omega arith)
+
+-- so of what is told of scripts that the bytes spell
+pub told_whole : (command : Command) (given : Option Outcome) (P : Script → Outcome → Type 0) (before after : Option (List ℕ)) (bytes : List ℕ)
+    → GivesAll before after bytes → length bytes ≤ MOST_BYTES
+    → IfSome given (λ (outcome : Outcome). (script : Script) → Spells command bytes script → P script outcome)
+    → IfSome before (λ all. IfSome given (λ (outcome : Outcome). (script : Script) → Spells command (bytes_read all) script → P script outcome))
+told_whole command given P None after bytes h short told = tt
+told_whole command given P (Some all) after bytes h short told =
+    subst (λ (b : List ℕ). IfSome given (λ (outcome : Outcome). (script : Script) → Spells command b script → P script outcome))
+    (h.0 ∙ sym (whole_is_read all (subst (λ (b : List ℕ). length b ≤ MOST_BYTES) h.0 short))) told
 
 -- what was read whole is what is read
 pub read_whole : (status : ℕ) (before after : Option (List ℕ)) (bytes : List ℕ) → GivesAll before after bytes → length bytes ≤ MOST_BYTES
@@ -197,11 +252,12 @@ read_whole status None after bytes h short = tt
 read_whole status (Some all) after bytes h short =
     inr (inr (h.1 ∙ ap Some (sym (nothing_is_left all (subst (λ (b : List ℕ). length b ≤ MOST_BYTES) h.0 short)))))
 
-pub answers_whole : (command : Command) (status : ℕ) (given : Option Outcome) (old new : Option (List ℕ)) (before after : Option (List ℕ)) (bytes : List ℕ) → GivesAll before after bytes → length bytes ≤ MOST_BYTES
-    → Answers command bytes status given old new → IfSome before (λ all. (status ≡ 3) ⊎ Answers command (bytes_read all) status given old new)
-answers_whole command status given old new None after bytes h short a = tt
-answers_whole command status given old new (Some all) after bytes h short a =
-    inr (subst (λ (b : List ℕ). Answers command b status given old new)
+pub answers_whole : (command : Command) (found : Option (List ℕ)) (status : ℕ) (given : Option Outcome) (old new : Option (List ℕ))
+    (before after : Option (List ℕ)) (bytes : List ℕ) → GivesAll before after bytes → length bytes ≤ MOST_BYTES
+    → Answers command bytes found status given old new → IfSome before (λ all. (status ≡ 3) ⊎ Answers command (bytes_read all) found status given old new)
+answers_whole command found status given old new None after bytes h short a = tt
+answers_whole command found status given old new (Some all) after bytes h short a =
+    inr (subst (λ (b : List ℕ). Answers command b found status given old new)
     (h.0 ∙ sym (whole_is_read all (subst (λ (b : List ℕ). length b ≤ MOST_BYTES) h.0 short))) a)
 
 -- what is too long is refused
@@ -213,11 +269,13 @@ cut_is_refused command all long =
     let so_long : length (bytes_read all) ≡ MOST_BYTES + 1 = length-take-le (MOST_BYTES + 1) all (omega arith) in
     too_long (omega (arith, so_long))
 
-pub answers_cut : (command : Command) (status : ℕ) (given : Option Outcome) (old new : Option (List ℕ)) (before after : Option (List ℕ)) → Once → GivesPast before after MOST_BYTES
-    → ((status ≡ 5) ⊎ Writes 2 status old new (refusal_line_of too_long_refusal)) → IsNone given → IfSome before (λ all. (status ≡ 3) ⊎ Answers command (bytes_read all) status given old new)
-answers_cut command status given old new None after once h w nothing = tt
-answers_cut command status given old new (Some all) after once h w nothing =
-    inr (refused_answers command (bytes_read all) too_long_refusal status given old new once (cut_is_refused command all h.0) w nothing)
+pub answers_cut : (command : Command) (found : Option (List ℕ)) (status : ℕ) (given : Option Outcome) (old new : Option (List ℕ))
+    (before after : Option (List ℕ)) → Once → GivesPast before after MOST_BYTES
+    → ((status ≡ 5) ⊎ Writes 2 status old new (refusal_line_of too_long_refusal)) → IsNone given
+    → IfSome before (λ all. (status ≡ 3) ⊎ Answers command (bytes_read all) found status given old new)
+answers_cut command found status given old new None after once h w nothing = tt
+answers_cut command found status given old new (Some all) after once h w nothing =
+    inr (refused_answers command (bytes_read all) found too_long_refusal status given old new once (cut_is_refused command all h.0) w nothing)
 
 -- an outcome of made accounts has the money that they had; its audits were told it
 abbrev HasTheMoney : Outcome → Type 0
@@ -260,14 +318,21 @@ unfolding made
 made_fits seed sessions txns fits =
     few_runnable (made seed sessions txns) (record { some_chunk = omega arith; few_chunks = omega arith; some_row = omega arith; few_rows = omega arith }) fits
 
-summarized_makes : (seed sessions txns : ℕ) → sessions ≤ 64 → txns ≤ 1000 → (status : ℕ) (given : Option Outcome) (before after : Option (List ℕ))
-    → Theorem → BankLaws → IsRunnable (setting_at (made seed sessions txns)) → Summarizes (made seed sessions txns) status given before after
-    → Makes (Gen seed sessions txns) (made seed sessions txns) status given before after
-summarized_makes seed sessions txns few short status given before after law bank fit ran =
+pub made_runs : {E : Type 0} (r : Result Script E) (seed sessions txns : ℕ) → IfOk r (λ script. script ≡ made seed sessions txns)
+    → CanRun (made seed sessions txns) → IfOk r (λ script. CanRun script)
+made_runs (Ok script) seed sessions txns is runs = subst CanRun (sym is) runs
+made_runs (Err e) seed sessions txns is runs = tt
+
+summarized_makes : (seed sessions txns : ℕ) (threads : Bool) → sessions ≤ 64 → txns ≤ 1000 → (status : ℕ) (given : Option Outcome)
+    (before after : Option (List ℕ)) → Theorem → BankLaws → IsRunnable (setting_at (made seed sessions txns))
+    → Summarizes threads (made seed sessions txns) status given before after
+    → Makes (Gen seed sessions txns threads) (made seed sessions txns) status given before after
+summarized_makes seed sessions txns threads few short status given before after law bank fit ran =
     let script : Script = made seed sessions txns in
-    let o : Outcome = comes_to script in
-    let lawful : Lawful (setting_at script) o = law.lawful (setting_at script) script.schedule in
-    let serial : IsSerial (setting_at script) o = law.serial (setting_at script) script.schedule fit.some_chunk fit.fits in
+    let o : Outcome = ran.given in
+    let some : IsSomeRun (setting_at script) o = some_run law threads script o ran.may_come in
+    let lawful : Lawful (setting_at script) o = lawful_run law (setting_at script) o some in
+    let serial : IsSerial (setting_at script) o = serial_run law (setting_at script) o fit some in
     record {
       does = inr ran;
       lawful = given_outcome (Lawful (setting_at script)) given o ran.outcome_is lawful;
@@ -279,14 +344,14 @@ summarized_makes seed sessions txns few short status given before after law bank
     }
 
 -- what was done with a made script
-pub made_answers : (seed sessions txns : ℕ) → sessions ≤ 64 → txns ≤ 1000 → (script : Script) (status : ℕ) (given : Option Outcome)
+pub made_answers : (seed sessions txns : ℕ) (threads : Bool) → sessions ≤ 64 → txns ≤ 1000 → (script : Script) (status : ℕ) (given : Option Outcome)
     (before after : Option (List ℕ)) → Theorem → BankLaws → IsRunnable (setting_at (made seed sessions txns)) → script ≡ made seed sessions txns
-    → ((status ≡ 5) × IsNone given) ⊎ Summarizes script status given before after
-    → Makes (Gen seed sessions txns) (made seed sessions txns) status given before after
-made_answers seed sessions txns few short script status given before after law bank fit is done =
-    ⊎_elim (λ p. no_memory_made (Gen seed sessions txns) (made seed sessions txns) status given before after p.0 p.1)
-    (λ ran. summarized_makes seed sessions txns few short status given before after law bank fit
-    (subst (λ (x : Script). Summarizes x status given before after) is ran)) done
+    → ((status ≡ 5) × IsNone given) ⊎ Summarizes threads script status given before after
+    → Makes (Gen seed sessions txns threads) (made seed sessions txns) status given before after
+made_answers seed sessions txns threads few short script status given before after law bank fit is done =
+    ⊎_elim (λ p. no_memory_made (Gen seed sessions txns threads) (made seed sessions txns) status given before after p.0 p.1)
+    (λ ran. summarized_makes seed sessions txns threads few short status given before after law bank fit
+    (subst (λ (x : Script). Summarizes threads x status given before after) is ran)) done
 
 -- memory ran out before anything was done
 pub nothing_read : (asked : Option Command) (before after : Option (List ℕ))
@@ -295,23 +360,23 @@ nothing_read None before after = tt
 nothing_read (Some command) None after = λ none. tt
 nothing_read (Some command) (Some all) after = λ none. inr (inl refl)
 
-nothing_answers : (command : Command) (bytes : List ℕ) (held : Option (List ℕ)) → Answers command bytes 5 None held held
-nothing_answers command bytes held =
+nothing_answers : (command : Command) (bytes : List ℕ) (found held : Option (List ℕ)) → Answers command bytes found 5 None held held
+nothing_answers command bytes found held =
     let none : IsNone {T = Outcome} None = search in
     record {
       refused = λ why h. inl refl;
       refuses = λ h. absurd (omega (arith, h));
-      does = λ script s. inl refl;
+      does = λ script s. inl (inl refl);
       lawful = λ script s. tt;
       serial = λ script s. tt;
       outcome_there = λ h. absurd (none_is_not_some None none h);
     }
 
-pub nothing_answered : (asked : Option Command) (before held : Option (List ℕ))
-    → IfSome asked (λ command. IsNone (made_by command) → IfSome before (λ all. (◌≡◌ {A = ℕ} 5 3) ⊎ Answers command (bytes_read all) 5 None held held))
-nothing_answered None before held = tt
-nothing_answered (Some command) None held = λ none. tt
-nothing_answered (Some command) (Some all) held = λ none. inr (nothing_answers command (bytes_read all) held)
+pub nothing_answered : (asked : Option Command) (before found held : Option (List ℕ))
+    → IfSome asked (λ command. IsNone (made_by command) → IfSome before (λ all. (◌≡◌ {A = ℕ} 5 3) ⊎ Answers command (bytes_read all) found 5 None held held))
+nothing_answered None before found held = tt
+nothing_answered (Some command) None found held = λ none. tt
+nothing_answered (Some command) (Some all) found held = λ none. inr (nothing_answers command (bytes_read all) found held)
 
 nothing_made_by : {S : Type 0} (command : Command) (made : Option Script) (held : Option (List ℕ)) (old : S) → IfSome made (λ script. (old ≡ old) × Makes command script 5 None held held)
 nothing_made_by command None held old = tt

@@ -38,3 +38,13 @@ checked_line script =
     line (codes "ok tables " ++ decimal (length script.catalog) ++ codes " rows " ++ decimal (all_rows script.rows)
     ++ codes " sessions " ++ decimal (length script.sessions) ++ codes " transactions " ++ decimal (all_txns script.sessions)
     ++ codes " items " ++ decimal (length script.schedule))
+
+-- ---- of a redo log
+
+-- where a log was to be made on a disk that has bytes
+abbrev pub not_empty_line : List ℕ
+not_empty_line = line (codes "log: not empty")
+
+-- where the bytes of a disk are no log of the script's tables: the offset of the first part that isn't
+abbrev pub damaged_line : ℕ → List ℕ
+damaged_line offset = line (codes "log: damaged at " ++ decimal offset)

@@ -1,5 +1,5 @@
 -- What a script comes to.
-use Rattle.std.specs.Prelude.{ℕ, ◌+◌, List, Option, None, Some, take, drop, map}
+use Rattle.std.specs.Prelude.{◌≡◌, ℕ, ◌+◌, List, Bool, true, false, Option, None, Some, take, drop, map}
 use Rattle.hy_script.specs.declared.Script.{Script}
 use Rattle.hy_script.specs.declared.Options.{Options}
 use Rattle.hy_render.specs.declared.Names.{Names}
@@ -7,8 +7,9 @@ use Rattle.hy_render.specs.declared.Outcome.{Outcome}
 use Rattle.hy_top.specs.Settings.{setting_at}
 use Rattle.hy_machine.specs.Runs.{run_of}
 use Rattle.hy_machine.specs.Outcomes.{outcome_of}
+use Rattle.hy_world.specs.SomeRuns.{IsSomeRun}
 use Rattle.hy_words.specs.declared.Command.{Command}
-use Rattle.hy_words.specs.declared.Command.TheVariants.{Run, Check, Gen}
+use Rattle.hy_words.specs.declared.Command.TheVariants.{Run, Check, Recover, Gen}
 use Rattle.hy_gen.specs.Made.{made}
 use Rattle.hy_limits.specs.declared.TheConstants.{MOST_BYTES}
 
@@ -22,20 +23,43 @@ bytes_left all = drop (MOST_BYTES + 1) all
 
 -- how a command takes a script: a made one has 4 chunks of 16 rows
 abbrev pub options_by : Command → Options
-options_by (Run prune chunks rows) = record { chunks = chunks; rows = rows }
+options_by (Run threads prune log chunks rows) = record { chunks = chunks; rows = rows }
 options_by (Check chunks rows) = record { chunks = chunks; rows = rows }
-options_by (Gen seed sessions txns) = record { chunks = 4; rows = 16 }
+options_by (Recover chunks rows) = record { chunks = chunks; rows = rows }
+options_by (Gen seed sessions txns threads) = record { chunks = 4; rows = 16 }
 
 -- the script that a command makes; one that reads a script makes none
 abbrev pub made_by : Command → Option Script
-made_by (Run prune chunks rows) = None
+made_by (Run threads prune log chunks rows) = None
 made_by (Check chunks rows) = None
-made_by (Gen seed sessions txns) = Some (made seed sessions txns)
+made_by (Recover chunks rows) = None
+made_by (Gen seed sessions txns threads) = Some (made seed sessions txns)
+
+-- whether a command keeps a redo log of what it runs
+abbrev pub keeps_log : Command → Bool
+keeps_log (Run threads prune log chunks rows) = log
+keeps_log (Check chunks rows) = false
+keeps_log (Recover chunks rows) = false
+keeps_log (Gen seed sessions txns threads) = false
+
+-- whether a command has to do with the disk: it keeps a log there, or reads one; no command has nothing to do with it
+abbrev pub uses_disk : Option Command → Bool
+uses_disk None = false
+uses_disk (Some (Run threads prune log chunks rows)) = log
+uses_disk (Some (Check chunks rows)) = false
+uses_disk (Some (Recover chunks rows)) = true
+uses_disk (Some (Gen seed sessions txns threads)) = false
 
 -- the names that its outcome is printed with
 abbrev pub names_at : Script → Names
 names_at script = record { tables = map (λ table. table.name) script.catalog; sessions = map (λ session. session.name) script.sessions }
 
--- what the machine's run of the script comes to
+-- what the machine's run of the script comes to, by its schedule and then rounds
 abbrev pub comes_to : Script → Outcome
 comes_to script = outcome_of (setting_at script) (run_of (setting_at script) script.schedule)
+
+-- what a run of the script may come to: with each session on a thread of its own, what the machine comes to by some steps of the
+-- sessions, whatever their order; else what it comes to by the schedule
+abbrev pub MayCome : Bool → Script → Outcome → Type 0
+MayCome true script outcome = IsSomeRun (setting_at script) outcome
+MayCome false script outcome = outcome ≡ comes_to script

@@ -1,5 +1,5 @@
 -- What a call of the program reports, and what it leaves.
-use Rattle.std.specs.Prelude.{◌≡◌, ℕ, pos, List, Option, Some, Ok, Err, IsNone, IsSome, IfSome, ◌⊎◌}
+use Rattle.std.specs.Prelude.{◌≡◌, ℕ, ◌<◌, ◌≤◌, pos, List, [], Bool, true, false, Option, None, Some, Result, Ok, Err, IsNone, IsSome, IfSome, ◌⊎◌, length, map}
 use Rattle.std.specs.List.{AllByRecursion}
 use Rattle.hy_outside.specs.Telling.{Takes, TakesSome}
 use Rattle.hy_script.specs.declared.Script.{Script}
@@ -14,9 +14,20 @@ use Rattle.hy_bank.specs.Endings.{EndInFourWays, EndingsAddUp}
 use Rattle.hy_lawful.specs.Lawful.{Lawful}
 use Rattle.hy_lawful.specs.Serial.{IsSerial}
 use Rattle.hy_words.specs.declared.Command.{Command}
-use Rattle.hy_words.specs.declared.Command.TheVariants.{Run, Check, Gen}
-use Rattle.hy_top.specs.Lines.{refusal_line_of, checked_line}
-use Rattle.hy_top.specs.Program.{options_by, names_at, comes_to}
+use Rattle.hy_words.specs.declared.Command.TheVariants.{Run, Check, Recover, Gen}
+use Rattle.hy_value.specs.declared.Value.{Value}
+use Rattle.hy_render.specs.declared.Names.{Names}
+use Rattle.hy_render.specs.Report.{tables_text}
+use Rattle.hy_body.specs.declared.HeldTable.{HeldTable}
+use Rattle.hy_redo.specs.Recovery.{Recovers}
+use Rattle.hy_world.specs.Logged.{HasLogged}
+use Rattle.hy_recovery.specs.Recovered.{first_tables, AreRecovered}
+use Rattle.hy_typed.specs.Scripts.{catalog_kinds}
+use Rattle.hy_machine.specs.Outcomes.{rows_sorted}
+use Rattle.hy_machine.specs.Runs.{run_of}
+use Rattle.hy_machine.specs.Sessions.{snapshot}
+use Rattle.hy_top.specs.Lines.{refusal_line_of, checked_line, not_empty_line, damaged_line}
+use Rattle.hy_top.specs.Program.{MayCome, options_by, names_at}
 use Rattle.hy_top.specs.Settings.{setting_at}
 
 -- the bytes are refused by a command, and how
@@ -29,40 +40,96 @@ Spells command bytes script = Reads bytes (options_by command) (Ok script)
 
 -- the command runs its script
 abbrev pub IsRun : Command → Type 0
-IsRun (Run prune chunks rows) = Unit {0}
+IsRun (Run threads prune log chunks rows) = Unit {0}
 IsRun (Check chunks rows) = ⊥
-IsRun (Gen seed sessions txns) = Unit {0}
+IsRun (Recover chunks rows) = ⊥
+IsRun (Gen seed sessions txns threads) = Unit {0}
 
 -- a text was written whole, and the status is the one for that, or its first bytes were, and the status is 4
 abbrev pub Writes : ℕ → ℕ → Option (List ℕ) → Option (List ℕ) → List ℕ → Type 0
 Writes done status before after bytes = ((status ≡ done) × Takes before after bytes) ⊎ ((status ≡ 4) × TakesSome before after bytes)
 
--- the script was run: the outcome is there, and its text was written
-pub record Runs (script : Script) (status : ℕ) (outcome : Option Outcome) (before after : Option (List ℕ)) : Type 0 where
-  pub outcome_is : outcome ≡ Some (comes_to script)
-  pub writes : Writes 0 status before after (text (names_at script) (comes_to script))
+-- the script was run, on threads or by its schedule: the outcome is there, and what tells it was written
+pub record HasRun (told : Outcome → List ℕ) (threads : Bool) (script : Script) (status : ℕ) (outcome : Option Outcome)
+    (before after : Option (List ℕ)) : Type 0 where
+  pub given : Outcome
+  pub outcome_is : outcome ≡ Some given
+  pub may_come : MayCome threads script given
+  pub writes : Writes 0 status before after (told given)
 
--- the script was run: the outcome is there, and its summary was written
-pub record Summarizes (script : Script) (status : ℕ) (outcome : Option Outcome) (before after : Option (List ℕ)) : Type 0 where
-  pub outcome_is : outcome ≡ Some (comes_to script)
-  pub writes : Writes 0 status before after (summary_of (comes_to script))
+-- its text
+abbrev pub Runs : Bool → Script → ℕ → Option Outcome → Option (List ℕ) → Option (List ℕ) → Type 0
+Runs threads script = HasRun (text (names_at script)) threads script
+
+-- its summary
+abbrev pub Summarizes : Bool → Script → ℕ → Option Outcome → Option (List ℕ) → Option (List ℕ) → Type 0
+Summarizes threads script = HasRun summary_of threads script
 
 -- the script was read: what it has was written
 pub record Checks (script : Script) (status : ℕ) (outcome : Option Outcome) (before after : Option (List ℕ)) : Type 0 where
   pub nothing_is_run : IsNone outcome
   pub writes : Writes 0 status before after (checked_line script)
 
+-- ---- with a disk, of which a read gave these bytes before, where it tells them
+
+-- the disk was empty, and the script was run by its schedule, with a log made on the disk
+pub record RunsLogged (script : Script) (found : Option (List ℕ)) (status : ℕ) (outcome : Option Outcome) (before after : Option (List ℕ)) : Type 0 where
+  pub empty : IfSome found (λ bytes. bytes ≡ [])
+  pub runs : Runs false script status outcome before after
+
+-- the disk has bytes: so no log was made, nothing was run, and this was told
+pub record FindsALog (found : Option (List ℕ)) (status : ℕ) (outcome : Option Outcome) (before after : Option (List ℕ)) : Type 0 where
+  pub some : IfSome found (λ bytes. 0 < length bytes)
+  pub nothing_is_run : IsNone outcome
+  pub writes : Writes 7 status before after not_empty_line
+
+-- the script's tables before any commit
+abbrev pub tables_at : Script → List HeldTable
+tables_at script = first_tables (catalog_kinds script.catalog) (setting_at script)
+
+-- the rows that the bytes recover to, or the offset where they are damaged
+abbrev pub IsRestored : Script → List ℕ → Result (List (List (List Value))) ℕ → Type 0
+IsRestored script bytes (Ok rows) = AreRecovered (tables_at script) (Some bytes) rows
+IsRestored script bytes (Err offset) = Recovers (tables_at script) bytes (Err offset)
+
+-- the tables after the first entries of the commit order of the script's run, by its schedule: the rows of each, ascending
+abbrev pub tables_after : Script → ℕ → List (List (List Value))
+tables_after script count = map rows_sorted (snapshot (setting_at script) (run_of (setting_at script) script.schedule) count)
+
+-- the status for these, and what is written of them
+abbrev pub restored_status : Result (List (List (List Value))) ℕ → ℕ
+restored_status (Ok rows) = 0
+restored_status (Err offset) = 7
+
+abbrev pub restored_text : Names → Result (List (List (List Value))) ℕ → List ℕ
+restored_text names (Ok rows) = tables_text names rows
+restored_text names (Err offset) = damaged_line offset
+
+-- the tables of the script were made again from the log on the disk and written, or it was told where the log is damaged
+pub record Restores (script : Script) (found : Option (List ℕ)) (status : ℕ) (outcome : Option Outcome) (before after : Option (List ℕ)) : Type 0 where
+  pub restored : Result (List (List (List Value))) ℕ
+  pub is : IfSome found (λ bytes. IsRestored script bytes restored)
+  pub nothing_is_run : IsNone outcome
+  pub writes : Writes (restored_status restored) status before after (restored_text (names_at script) restored)
+
 -- what the command asks for was done
-abbrev pub Does : Command → Script → ℕ → Option Outcome → Option (List ℕ) → Option (List ℕ) → Type 0
-Does (Run prune chunks rows) script status outcome before after = Runs script status outcome before after
-Does (Check chunks rows) script status outcome before after = Checks script status outcome before after
-Does (Gen seed sessions txns) script status outcome before after = Summarizes script status outcome before after
+abbrev pub Does : Command → Script → Option (List ℕ) → ℕ → Option Outcome → Option (List ℕ) → Option (List ℕ) → Type 0
+Does (Run threads prune false chunks rows) script found status outcome before after = Runs threads script status outcome before after
+Does (Run threads prune true chunks rows) script found status outcome before after =
+    RunsLogged script found status outcome before after ⊎ FindsALog found status outcome before after
+Does (Check chunks rows) script found status outcome before after = Checks script status outcome before after
+Does (Recover chunks rows) script found status outcome before after = Restores script found status outcome before after
+Does (Gen seed sessions txns threads) script found status outcome before after = Summarizes threads script status outcome before after
+
+-- nothing came of it, since memory ran out or the disk failed
+abbrev pub GaveUp : ℕ → Type 0
+GaveUp status = (status ≡ 5) ⊎ (status ≡ 6)
 
 -- what a command did with a script that it made: what it asks for, unless memory ran out; the outcome is lawful, and
 -- serializable in its order; the accounts have the money that they had, and every audit was told it; every transaction is
 -- committed, has only read, is in conflict or is invalid, and the counts of these four come to how many there are
 pub record Makes (command : Command) (script : Script) (status : ℕ) (outcome : Option Outcome) (before after : Option (List ℕ)) : Type 0 where
-  pub does : (status ≡ 5) ⊎ Does command script status outcome before after
+  pub does : (status ≡ 5) ⊎ Does command script None status outcome before after
   pub lawful : IfSome outcome (Lawful (setting_at script))
   pub serial : IfSome outcome (IsSerial (setting_at script))
   pub money : IfSome outcome (λ given. balances given.tables ≡ pos all_money)
@@ -70,15 +137,33 @@ pub record Makes (command : Command) (script : Script) (status : ℕ) (outcome :
   pub endings : IfSome outcome (λ given. EndInFourWays given.txns)
   pub counts : IfSome outcome (λ given. EndingsAddUp given.txns)
 
--- the answer to bytes that a command read: a status, an outcome or none, and what the sink holds before and after
-pub record Answers (command : Command) (bytes : List ℕ) (status : ℕ) (outcome : Option Outcome) (before after : Option (List ℕ)) : Type 0 where
+-- the answer to bytes that a command read, beside those that it found on the disk: a status, an outcome or none, and what the sink
+-- holds before and after
+pub record Answers (command : Command) (bytes : List ℕ) (found : Option (List ℕ)) (status : ℕ) (outcome : Option Outcome)
+    (before after : Option (List ℕ)) : Type 0 where
   -- where the bytes are refused, the refusal line is written, unless memory ran out
   pub refused : (why : Refused) → IsRefused command bytes why → (status ≡ 5) ⊎ Writes 2 status before after (refusal_line_of why)
   pub refuses : status ≡ 2 → (why : Refused) × IsRefused command bytes why
-  -- where they spell a script, what the command asks for is done, unless memory ran out
-  pub does : (script : Script) → Spells command bytes script → (status ≡ 5) ⊎ Does command script status outcome before after
+  -- where they spell a script, what the command asks for is done, unless memory ran out or the disk failed
+  pub does : (script : Script) → Spells command bytes script → GaveUp status ⊎ Does command script found status outcome before after
   -- the outcome is lawful, and serializable in the order that it prints
   pub lawful : (script : Script) → Spells command bytes script → IfSome outcome (Lawful (setting_at script))
   pub serial : (script : Script) → Spells command bytes script → IfSome outcome (IsSerial (setting_at script))
   -- an outcome is there only of a script that was run
   pub outcome_there : IsSome outcome → IsRun command × ((script : Script) × Spells command bytes script) × ((status ≡ 0) ⊎ (status ≡ 4))
+
+-- Since this time a log has been kept of the outcome's commit order. What a crash leaves now recovers to the outcome's tables, and
+-- what one left at any moment since then to the tables after some first entries of the order.
+pub record IsLoggedSince {D : Type 0} (image : D → List ℕ → Type 0) (image_since : D → ℕ → List ℕ → Type 0) (script : Script)
+    (outcome : Outcome) (time : ℕ) (disk : D) : Type 0 where
+  pub has : HasLogged image image_since outcome.order time disk
+  pub now : (bytes : List ℕ) → image disk bytes → IsRestored script bytes (Ok outcome.tables)
+  pub moments : (bytes : List ℕ) → image_since disk time bytes → (count : ℕ) × IsRestored script bytes (Ok (tables_after script count))
+
+-- a log was made on the disk between these two, and has been kept since then
+pub record IsLogged {D : Type 0} (clock : D → ℕ) (image : D → List ℕ → Type 0) (image_since : D → ℕ → List ℕ → Type 0)
+    (script : Script) (outcome : Outcome) (before after : D) : Type 0 where
+  pub time : ℕ
+  pub begun : clock before ≤ time
+  pub over : time ≤ clock after
+  pub since : IsLoggedSince image image_since script outcome time after

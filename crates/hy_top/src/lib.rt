@@ -1,7 +1,7 @@
 //! The program as a call: from the words of a command and a source of bytes to a sink and a status.
 #![tactic(auto)]
 
-ghost use Rattle.std.specs.Prelude.{◌≡◌, ◌≢◌, ℕ, ◌+◌, ◌<◌, ◌≤◌, ◌⊎◌, List, Option, None, Some, IsNone, IsSome, IfSome, OnOk, IfOk, Ok, Err, map};
+ghost use Rattle.std.specs.Prelude.{◌≡◌, ◌≢◌, ℕ, ◌+◌, ◌<◌, ◌≤◌, ◌⊎◌, true, false, List, Option, None, Some, IsNone, IsSome, IfSome, OnOk, IfOk, Ok, Err, map};
 ghost use Rattle.std.specs.String.{string_bytes};
 ghost use Rattle.hy_outside.specs.Faults.{Rose};
 ghost use Rattle.hy_outside.specs.Telling.{GivesAtMost};
@@ -10,49 +10,89 @@ ghost use Rattle.hy_render.specs.Summary.{summary_of};
 ghost use Rattle.hy_words.specs.declared.Command.{Command};
 ghost use Rattle.hy_words.specs.Words.{IsWithin, command_of};
 ghost use Rattle.hy_gen.specs.Made.{made};
+ghost use Rattle.hy_script.specs.declared.Script.{Script};
 ghost use Rattle.hy_top.specs.Lines.{usage_line, refusal_line_of, checked_line};
-ghost use Rattle.hy_top.specs.Program.{bytes_read, bytes_left, options_by, made_by, names_at, comes_to};
+ghost use Rattle.hy_top.specs.Program.{MayCome, bytes_read, bytes_left, keeps_log, options_by, made_by, names_at, uses_disk};
 ghost use Rattle.hy_top.specs.Settings.{CanRun};
-ghost use Rattle.hy_top.specs.Reports.{Writes, Answers, Runs, Checks, Summarizes, Does, Makes};
+ghost use Rattle.hy_top.specs.Reports.{Spells, Writes, Answers, Runs, Checks, Summarizes, GaveUp, Does, IsLogged, Makes};
 
 mod lines;
+mod logs;
 mod settings;
 
 use hy_bank::{made_outcomes_keep_the_money, made_scripts_fit, made_transactions_end_in_four_ways};
+use hy_disk::Disk;
 use hy_gen::make;
-use hy_lawful::runs_are_lawful;
+use hy_lawful::ends_are_lawful;
 use hy_limits::MOST_BYTES;
+use hy_machine::runs_are_steps;
 use hy_outside::{ReadAllError, Sink, Source, read_all, write_all};
 use hy_render::{Names, Outcome, render, summarize};
 use hy_script::{Code, Options, ReadError, Refused, Script, read_once, what_is_read_fits};
+use hy_threads::Gate;
 use hy_typed::{what_is_made_is_typed, what_is_read_is_typed};
 use hy_words::{Command, WordsError};
 use lines::{checked, refusal_line};
+use logs::{recover_script, run_logged};
 use settings::{Given, given_of};
 use std::alloc::{AllocError, Global};
+use std::sync::Wait;
+use std::thread::Threads;
 
 /// What a call of the program came to.
 #[derive(Drop)]
 pub struct Report {
     /// 0 done, 1 the words are refused, 2 the script is refused, 3 a read failed, 4 a write failed, 5 want
-    /// of memory.
+    /// of memory, 6 the disk failed, 7 the disk has bytes already, or what it has is no log of the script's tables.
     pub status: u8,
     /// What the run of the script came to, if there was one.
     pub outcome: Option<Outcome>,
 }
+
+/// What sessions on threads of their own are run with.
+#[derive(Drop)]
+struct Crew<'a, T, G> {
+    rt: &'a T,
+    alloc: Global,
+    gate: &'a G,
+}
+
+/// How a script is run.
+#[derive(Clone, Copy)]
+struct Mode {
+    /// Whether each session runs on a thread of its own, and not by the schedule.
+    threads: bool,
+    /// Whether chains of versions are pruned.
+    prunes: bool,
+}
+
+/// The status where a read failed.
+const READ_FAULT: u8 = 3;
+
+/// The status where memory ran out.
+const NO_MEMORY: u8 = 5;
+
+/// The status where the disk failed.
+const DISK_FAULT: u8 = 6;
 
 /// What is written where the words are refused.
 const USAGE: &[u8] = b"usage: hy run|check|gen\n";
 
 /// Runs the command that these words are: `run` reads a script from the source, runs it, and writes the
 /// text of its outcome to the sink; `check` reads a script and writes what it has; `gen` makes a script, runs it, and
-/// writes a summary of its outcome. The first word is the program's name. What is said of bytes holds where the source
-/// and the sink tell them.
-pub fn run<R: Source, W: Sink>(
+/// writes a summary of its outcome. The first word is the program's name. With `--threads` each session runs on a thread
+/// of its own, and the gate is told of each of its visits; then the call waits for locks and for the threads' ends. With
+/// `--log` a redo log is made on the disk, and has each entry of the commit order before another step is taken; `recover`
+/// reads a script, and writes the tables that the log on the disk makes of its first rows. What is said of bytes holds where
+/// the source, the sink and the disk tell them.
+pub fn run<T: Threads + Wait + Sync, R: Source, W: Sink, G: Gate, D: Disk>(
+    rt: &T,
     alloc: Global,
     words: &[String],
     source: &mut R,
     sink: &mut W,
+    gate: &G,
+    disk: &mut D,
 ) -> Report
     // Where the words are refused the usage line is written, and the source is as it was.
     ensures words_refused { command_of (map string_bytes words.now) ≡ None → (source.new ≡ source.old)
@@ -67,10 +107,10 @@ pub fn run<R: Source, W: Sink>(
     ensures given { GivesAtMost (R.rest source.old) (R.rest source.new) (MOST_BYTES + 1) }
 
     // Where these bytes are refused the refusal line is written. Where they spell a script it is run, and the
-    // text of its outcome is written: that is what the machine's run of the script comes to, it is lawful, and it is
-    // serializable in the order that it prints; or the script is checked.
+    // text of its outcome is written: that is what the machine's run of the script comes to, by its schedule or, on
+    // threads, by some order of steps; it is lawful, and it is serializable in the order that it prints; or the script is checked.
     ensures answers { IfSome (command_of (map string_bytes words.now)) (λ command. IsNone (made_by command) → IfSome (R.rest source.old) (λ all.
-        (result.status ≡ 3) ⊎ Answers command (bytes_read all) result.status result.outcome (W.written sink.old) (W.written sink.new))) }
+        (result.status ≡ 3) ⊎ Answers command (bytes_read all) (D.held disk.old) result.status result.outcome (W.written sink.old) (W.written sink.new))) }
 
     // A command that makes its script runs that, and writes the summary of its outcome, which is lawful and
     // serializable, in which the money is kept, and whose transactions end in four ways; the source is as it was.
@@ -81,56 +121,108 @@ pub fn run<R: Source, W: Sink>(
     ensures read_fault { result.status ≡ 3 → Rose (R.faults source.old) (R.faults source.new) × (sink.new ≡ sink.old) × IsNone result.outcome }
     ensures write_fault { result.status ≡ 4 → Rose (W.faults sink.old) (W.faults sink.new) }
     ensures no_memory { result.status ≡ 5 → (sink.new ≡ sink.old) × IsNone result.outcome }
+    ensures disk_fault { result.status ≡ 6 → Rose (D.faults disk.old) (D.faults disk.new) × (sink.new ≡ sink.old) × IsNone result.outcome }
 
     // And a fault is told: at every other status the count of faults is as it was.
     ensures source_steady { result.status ≢ 3 → R.faults source.new ≡ R.faults source.old }
     ensures sink_steady { result.status ≢ 4 → W.faults sink.new ≡ W.faults sink.old }
+    ensures disk_steady { result.status ≢ 6 → D.faults disk.new ≡ D.faults disk.old }
+
+    // A run that keeps a log leaves that of the outcome's order: what a crash after it leaves recovers to the outcome's tables,
+    // and what one leaves at any moment of it, from the making of the log on, to the tables after some first entries of the order.
+    ensures logged { IfSome (command_of (map string_bytes words.now)) (λ command. keeps_log command ≡ true → IfSome (R.rest source.old) (λ all.
+        IfSome result.outcome (λ outcome. (script : Script) → Spells command (bytes_read all) script
+        → IsLogged D.clock D.image D.image_since script outcome disk.old disk.new))) }
+
+    // Other commands leave the disk as it is, and to recover leaves its bytes.
+    ensures untouched { uses_disk (command_of (map string_bytes words.now)) ≡ false → disk.new ≡ disk.old }
+    ensures held { IfSome (command_of (map string_bytes words.now)) (λ command. keeps_log command ≡ false → D.held disk.new ≡ D.held disk.old) }
 
     // Without words that are accepted there is no run, and no other status than 1, 4 or 5.
-    ensures script_statuses { (result.status ≡ 0) ⊎ (result.status ≡ 2) ⊎ (result.status ≡ 3) ⊎ IsSome result.outcome
+    ensures script_statuses { (result.status ≡ 0) ⊎ (result.status ≡ 2) ⊎ (result.status ≡ 3) ⊎ (6 ≤ result.status) ⊎ IsSome result.outcome
         → IsSome (command_of (map string_bytes words.now)) }
-    ensures statuses { result.status ≤ 5 }
+    ensures statuses { result.status ≤ 7 }
 {
+    let crew = Crew { rt, alloc, gate };
     match hy_words::command_of(alloc, words) {
         Ok(
             Command::Gen {
                 seed,
                 sessions,
                 txns,
+                threads,
             },
-        ) => run_made(alloc, seed, sessions, txns, sink),
-        Ok(command) => run_command(alloc, command, source, sink),
-        Err(WordsError::Refused) => Report {
-            status: write(sink, USAGE, 1),
-            outcome: None,
-        },
+        ) => run_made(
+            &crew,
+            Making {
+                seed,
+                sessions,
+                txns,
+                threads,
+            },
+            sink,
+        ),
+        Ok(command) => run_command(&crew, command, source, sink, disk),
+        Err(WordsError::Refused) => without_outcome(write(sink, USAGE, 1)),
         Err(WordsError::OutOfMemory) => Report {
-            status: 5,
+            status: NO_MEMORY,
             outcome: None,
         },
     }
 }
 
+/// The numbers that a script is made from, and how it is run.
+#[derive(Clone, Copy)]
+struct Making {
+    seed: u32,
+    sessions: u32,
+    txns: u32,
+    threads: bool,
+}
+
+/// The script that is made from these numbers.
+fn made_script(alloc: Global, making: Making) -> Result<Script, AllocError>
+    requires { (making.sessions ≤ 64) × (making.txns ≤ 1000) }
+    ensures made { IfOk result (λ script. script ≡ made making.seed making.sessions making.txns) }
+    ensures runs { IfOk result (λ script. CanRun script) }
+{
+    made_scripts_fit();
+    what_is_made_is_typed();
+    make(alloc, making.seed, making.sessions, making.txns)
+}
+
 /// Makes a script, runs it, and writes the summary of its outcome.
-fn run_made<W: Sink>(alloc: Global, seed: u32, sessions: u32, txns: u32, sink: &mut W) -> Report
-    requires { (sessions ≤ 64) × (txns ≤ 1000) }
-    ensures makes { Makes (Command.Gen seed sessions txns) (made seed sessions txns) result.status result.outcome (W.written sink.old) (W.written sink.new) }
+fn run_made<T: Threads + Wait + Sync, W: Sink, G: Gate>(
+    crew: &Crew<'_, T, G>,
+    making: Making,
+    sink: &mut W,
+) -> Report
+    requires { (making.sessions ≤ 64) × (making.txns ≤ 1000) }
+    ensures makes { Makes (Command.Gen making.seed making.sessions making.txns making.threads) (made making.seed making.sessions making.txns)
+        result.status result.outcome (W.written sink.old) (W.written sink.new) }
     ensures write_fault { result.status ≡ 4 → Rose (W.faults sink.old) (W.faults sink.new) }
     ensures sink_steady { result.status ≢ 4 → W.faults sink.new ≡ W.faults sink.old }
     ensures no_memory { result.status ≡ 5 → (sink.new ≡ sink.old) × IsNone result.outcome }
     ensures statuses { (result.status ≢ 1) × (result.status ≢ 2) × (result.status ≢ 3) × (result.status ≤ 5) }
 {
-    made_scripts_fit();
-    what_is_made_is_typed();
     made_outcomes_keep_the_money();
     made_transactions_end_in_four_ways();
-    runs_are_lawful();
-    match make(alloc, seed, sessions, txns) {
-        Ok(script) => summarize_script(alloc, script, sink),
-        Err(_) => Report {
-            status: 5,
-            outcome: None,
-        },
+    runs_are_steps();
+    ends_are_lawful();
+    match made_script(crew.alloc, making) {
+        Ok(script) => summarize_script(crew, script, making.threads, sink),
+        Err(_) => without_outcome(NO_MEMORY),
+    }
+}
+
+/// A report of a status, with no outcome.
+fn without_outcome(status: u8) -> Report
+    ensures status { result.status ≡ status }
+    ensures nothing { IsNone result.outcome }
+{
+    Report {
+        status,
+        outcome: None,
     }
 }
 
@@ -147,44 +239,46 @@ fn write<W: Sink>(sink: &mut W, bytes: &[u8], done: u8) -> u8
 }
 
 /// Reads a script, and does what the command asks for.
-fn run_command<R: Source, W: Sink>(
-    alloc: Global,
+fn run_command<T: Threads + Wait + Sync, R: Source, W: Sink, G: Gate, D: Disk>(
+    crew: &Crew<'_, T, G>,
     command: Command,
     source: &mut R,
     sink: &mut W,
+    disk: &mut D,
 ) -> Report
     requires { IsWithin command }
     ensures bytes { IfSome (R.rest source.old) (λ all.
         (result.status ≡ 3) ⊎ (result.status ≡ 5) ⊎ (R.rest source.new ≡ Some (bytes_left all))) }
     ensures given { GivesAtMost (R.rest source.old) (R.rest source.new) (MOST_BYTES + 1) }
     ensures answers { IfSome (R.rest source.old) (λ all.
-        (result.status ≡ 3) ⊎ Answers command (bytes_read all) result.status result.outcome (W.written sink.old) (W.written sink.new)) }
+        (result.status ≡ 3) ⊎ Answers command (bytes_read all) (D.held disk.old) result.status result.outcome (W.written sink.old) (W.written sink.new)) }
     ensures read_fault { result.status ≡ 3 → Rose (R.faults source.old) (R.faults source.new) × (sink.new ≡ sink.old) × IsNone result.outcome }
     ensures write_fault { result.status ≡ 4 → Rose (W.faults sink.old) (W.faults sink.new) }
     ensures no_memory { result.status ≡ 5 → (sink.new ≡ sink.old) × IsNone result.outcome }
     ensures source_steady { result.status ≢ 3 → R.faults source.new ≡ R.faults source.old }
     ensures sink_steady { result.status ≢ 4 → W.faults sink.new ≡ W.faults sink.old }
-    ensures statuses { (result.status ≢ 1) × (result.status ≤ 5) }
+    ensures disk_fault { result.status ≡ 6 → Rose (D.faults disk.old) (D.faults disk.new) × (sink.new ≡ sink.old) × IsNone result.outcome }
+    ensures disk_steady { result.status ≢ 6 → D.faults disk.new ≡ D.faults disk.old }
+    ensures logged { keeps_log command ≡ true → IfSome (R.rest source.old) (λ all.
+        IfSome result.outcome (λ outcome. (script : Script) → Spells command (bytes_read all) script
+        → IsLogged D.clock D.image D.image_since script outcome disk.old disk.new)) }
+    ensures untouched { uses_disk (Some command) ≡ false → disk.new ≡ disk.old }
+    ensures held { keeps_log command ≡ false → D.held disk.new ≡ D.held disk.old }
+    ensures statuses { (result.status ≢ 1) × (result.status ≤ 7) }
 {
     read_once();
-    match read_all(alloc, source, MOST_BYTES) {
-        Ok(bytes) => answer(alloc, command, bytes.as_slice(), sink),
+    match read_all(crew.alloc, source, MOST_BYTES) {
+        Ok(bytes) => answer(crew, command, bytes.as_slice(), sink, disk),
         Err(ReadAllError::TooLong) => refuse(
-            alloc,
+            crew.alloc,
             Refused {
                 line: 1,
                 code: Code::TooLong,
             },
             sink,
         ),
-        Err(ReadAllError::ReadFault) => Report {
-            status: 3,
-            outcome: None,
-        },
-        Err(ReadAllError::OutOfMemory) => Report {
-            status: 5,
-            outcome: None,
-        },
+        Err(ReadAllError::ReadFault) => without_outcome(READ_FAULT),
+        Err(ReadAllError::OutOfMemory) => without_outcome(NO_MEMORY),
     }
 }
 
@@ -198,14 +292,8 @@ fn refuse<W: Sink>(alloc: Global, refused: Refused, sink: &mut W) -> Report
     ensures nothing { IsNone result.outcome }
 {
     match refusal_line(alloc, refused) {
-        Ok(line) => Report {
-            status: write(sink, line.as_slice(), 2),
-            outcome: None,
-        },
-        Err(_) => Report {
-            status: 5,
-            outcome: None,
-        },
+        Ok(line) => without_outcome(write(sink, line.as_slice(), 2)),
+        Err(_) => without_outcome(NO_MEMORY),
     }
 }
 
@@ -214,12 +302,9 @@ fn options_of(command: Command) -> Options
     ensures { result ≡ options_by command }
 {
     match command {
-        Command::Run {
-            prune: _,
-            chunks,
-            rows,
-        } => Options { chunks, rows },
+        Command::Run { chunks, rows, .. } => Options { chunks, rows },
         Command::Check { chunks, rows } => Options { chunks, rows },
+        Command::Recover { chunks, rows } => Options { chunks, rows },
         Command::Gen { .. } => Options {
             chunks: 4,
             rows: 16,
@@ -228,74 +313,111 @@ fn options_of(command: Command) -> Options
 }
 
 /// Does what a command asks for with the script that the bytes spell.
-fn answer<W: Sink>(alloc: Global, command: Command, bytes: &[u8], sink: &mut W) -> Report
+fn answer<T: Threads + Wait + Sync, W: Sink, G: Gate, D: Disk>(
+    crew: &Crew<'_, T, G>,
+    command: Command,
+    bytes: &[u8],
+    sink: &mut W,
+    disk: &mut D,
+) -> Report
     requires { IsWithin command }
-    ensures answers { Answers command bytes.now result.status result.outcome (W.written sink.old) (W.written sink.new) }
+    ensures answers { Answers command bytes.now (D.held disk.old) result.status result.outcome (W.written sink.old) (W.written sink.new) }
     ensures write_fault { result.status ≡ 4 → Rose (W.faults sink.old) (W.faults sink.new) }
     ensures sink_steady { result.status ≢ 4 → W.faults sink.new ≡ W.faults sink.old }
     ensures no_memory { result.status ≡ 5 → (sink.new ≡ sink.old) × IsNone result.outcome }
-    ensures statuses { (result.status ≢ 1) × (result.status ≢ 3) × (result.status ≤ 5) }
+    ensures disk_fault { result.status ≡ 6 → Rose (D.faults disk.old) (D.faults disk.new) × (sink.new ≡ sink.old) × IsNone result.outcome }
+    ensures disk_steady { result.status ≢ 6 → D.faults disk.new ≡ D.faults disk.old }
+    ensures logged { keeps_log command ≡ true → IfSome result.outcome (λ outcome. (script : Script) → Spells command bytes.now script
+        → IsLogged D.clock D.image D.image_since script outcome disk.old disk.new) }
+    ensures untouched { uses_disk (Some command) ≡ false → disk.new ≡ disk.old }
+    ensures held { keeps_log command ≡ false → D.held disk.new ≡ D.held disk.old }
+    ensures statuses { (result.status ≢ 1) × (result.status ≢ 3) × (result.status ≤ 7) }
 {
     read_once();
     what_is_read_fits();
     what_is_read_is_typed();
-    runs_are_lawful();
-    match hy_script::read(alloc, bytes, &options_of(command)) {
-        Ok(script) => perform(alloc, command, script, sink),
-        Err(ReadError::Refused(refused)) => refuse(alloc, refused, sink),
-        Err(ReadError::OutOfMemory) => Report {
-            status: 5,
-            outcome: None,
-        },
+    runs_are_steps();
+    ends_are_lawful();
+    match hy_script::read(crew.alloc, bytes, &options_of(command)) {
+        Ok(script) => perform(crew, command, script, sink, disk),
+        Err(ReadError::Refused(refused)) => refuse(crew.alloc, refused, sink),
+        Err(ReadError::OutOfMemory) => without_outcome(NO_MEMORY),
     }
 }
 
 /// Does what a command asks for with a script.
-fn perform<W: Sink>(alloc: Global, command: Command, script: Script, sink: &mut W) -> Report
+fn perform<T: Threads + Wait + Sync, W: Sink, G: Gate, D: Disk>(
+    crew: &Crew<'_, T, G>,
+    command: Command,
+    script: Script,
+    sink: &mut W,
+    disk: &mut D,
+) -> Report
     requires { CanRun script }
-    ensures does { (result.status ≡ 5) × (sink.new ≡ sink.old) × IsNone result.outcome
-        ⊎ Does command script result.status result.outcome (W.written sink.old) (W.written sink.new) }
+    ensures does { GaveUp result.status × (sink.new ≡ sink.old) × IsNone result.outcome
+        ⊎ Does command script (D.held disk.old) result.status result.outcome (W.written sink.old) (W.written sink.new) }
     ensures write_fault { result.status ≡ 4 → Rose (W.faults sink.old) (W.faults sink.new) }
     ensures sink_steady { result.status ≢ 4 → W.faults sink.new ≡ W.faults sink.old }
+    ensures disk_fault { result.status ≡ 6 → Rose (D.faults disk.old) (D.faults disk.new) }
+    ensures disk_steady { result.status ≢ 6 → D.faults disk.new ≡ D.faults disk.old }
+    ensures logged { keeps_log command ≡ true → IfSome result.outcome (λ outcome. IsLogged D.clock D.image D.image_since script outcome disk.old disk.new) }
+    ensures untouched { uses_disk (Some command) ≡ false → disk.new ≡ disk.old }
+    ensures held { keeps_log command ≡ false → D.held disk.new ≡ D.held disk.old }
 {
     match command {
-        Command::Run { prune, .. } => run_script(alloc, script, prune, sink),
-        Command::Check { .. } => check_script(alloc, script, sink),
-        Command::Gen { .. } => summarize_script(alloc, script, sink),
+        Command::Run {
+            prune,
+            log: true,
+            ..
+        } => run_logged(crew.alloc, script, prune, sink, disk),
+        Command::Run { threads, prune, .. } => {
+            let mode = Mode {
+                threads,
+                prunes: prune,
+            };
+            run_script(crew, script, mode, sink)
+        }
+        Command::Check { .. } => check_script(crew.alloc, script, sink),
+        Command::Recover { .. } => recover_script(crew.alloc, script, sink, disk),
+        Command::Gen { threads, .. } => summarize_script(crew, script, threads, sink),
     }
 }
 
 /// Runs a script, in chunks that are pruned or not, and writes the text of its outcome.
-fn run_script<W: Sink>(alloc: Global, script: Script, prunes: bool, sink: &mut W) -> Report
+fn run_script<T: Threads + Wait + Sync, W: Sink, G: Gate>(
+    crew: &Crew<'_, T, G>,
+    script: Script,
+    mode: Mode,
+    sink: &mut W,
+) -> Report
     requires { CanRun script }
     ensures run { (result.status ≡ 5) × (sink.new ≡ sink.old) × IsNone result.outcome
-        ⊎ Runs script result.status result.outcome (W.written sink.old) (W.written sink.new) }
+        ⊎ Runs mode.threads script result.status result.outcome (W.written sink.old) (W.written sink.new) }
     ensures write_fault { result.status ≡ 4 → Rose (W.faults sink.old) (W.faults sink.new) }
     ensures sink_steady { result.status ≢ 4 → W.faults sink.new ≡ W.faults sink.old }
 {
-    match outcome_and_text(alloc, script, prunes) {
+    match outcome_and_text(crew, script, mode) {
         Ok((outcome, written)) => tell(outcome, written.as_slice(), sink),
-        Err(_) => Report {
-            status: 5,
-            outcome: None,
-        },
+        Err(_) => without_outcome(NO_MEMORY),
     }
 }
 
-/// Runs a script and writes the summary of its outcome.
-fn summarize_script<W: Sink>(alloc: Global, script: Script, sink: &mut W) -> Report
+/// Runs a script, on threads or by its schedule, and writes the summary of its outcome.
+fn summarize_script<T: Threads + Wait + Sync, W: Sink, G: Gate>(
+    crew: &Crew<'_, T, G>,
+    script: Script,
+    threads: bool,
+    sink: &mut W,
+) -> Report
     requires { CanRun script }
     ensures run { (result.status ≡ 5) × (sink.new ≡ sink.old) × IsNone result.outcome
-        ⊎ Summarizes script result.status result.outcome (W.written sink.old) (W.written sink.new) }
+        ⊎ Summarizes threads script result.status result.outcome (W.written sink.old) (W.written sink.new) }
     ensures write_fault { result.status ≡ 4 → Rose (W.faults sink.old) (W.faults sink.new) }
     ensures sink_steady { result.status ≢ 4 → W.faults sink.new ≡ W.faults sink.old }
 {
-    match outcome_and_summary(alloc, script) {
+    match outcome_and_summary(crew, script, threads) {
         Ok((outcome, written)) => tell(outcome, written.as_slice(), sink),
-        Err(_) => Report {
-            status: 5,
-            outcome: None,
-        },
+        Err(_) => without_outcome(NO_MEMORY),
     }
 }
 
@@ -320,64 +442,65 @@ fn check_script<W: Sink>(alloc: Global, script: Script, sink: &mut W) -> Report
     ensures sink_steady { result.status ≢ 4 → W.faults sink.new ≡ W.faults sink.old }
 {
     match checked(alloc, &script) {
-        Ok(line) => Report {
-            status: write(sink, line.as_slice(), 0),
-            outcome: None,
-        },
-        Err(_) => Report {
-            status: 5,
-            outcome: None,
-        },
+        Ok(line) => without_outcome(write(sink, line.as_slice(), 0)),
+        Err(_) => without_outcome(NO_MEMORY),
     }
 }
 
 /// The outcome of a script that the engine runs, and the names that it is printed with.
-fn named_outcome(
-    alloc: Global,
+fn named_outcome<T: Threads + Wait + Sync, G: Gate>(
+    crew: &Crew<'_, T, G>,
     script: Script,
-    prunes: bool,
+    mode: Mode,
 ) -> Result<(Outcome, Names), AllocError>
     requires { CanRun script }
-    ensures { IfOk result (λ given. (given.0 ≡ comes_to script) × (given.1 ≡ names_at script)) }
+    ensures { IfOk result (λ given. MayCome mode.threads script given.0 × (given.1 ≡ names_at script)) }
 {
     let Given {
         setting,
         kinds,
         names,
         schedule,
-    } = given_of(alloc, script)?;
-    let outcome = hy_world::run(
-        alloc,
-        setting,
-        kinds.as_slice(),
-        prunes,
-        schedule.as_slice(),
-    )?;
+    } = given_of(crew.alloc, script)?;
+    let types = kinds.as_slice();
+    let outcome = if mode.threads {
+        hy_world::run_threads(crew.rt, crew.alloc, setting, types, mode.prunes, crew.gate)?
+    } else {
+        hy_world::run(crew.alloc, setting, types, mode.prunes, schedule.as_slice())?
+    };
     Ok((outcome, names))
 }
 
 /// The outcome of a script that the engine runs, and its text.
-fn outcome_and_text(
-    alloc: Global,
+fn outcome_and_text<T: Threads + Wait + Sync, G: Gate>(
+    crew: &Crew<'_, T, G>,
     script: Script,
-    prunes: bool,
+    mode: Mode,
 ) -> Result<(Outcome, Vec<u8>), AllocError>
     requires { CanRun script }
-    ensures { IfOk result (λ given. (given.0 ≡ comes_to script) × (given.1.items ≡ text (names_at script) (comes_to script))) }
+    ensures { IfOk result (λ given. MayCome mode.threads script given.0 × (given.1.items ≡ text (names_at script) given.0)) }
 {
-    let (outcome, names) = named_outcome(alloc, script, prunes)?;
-    let mut written = Vec::new(alloc);
+    let (outcome, names) = named_outcome(crew, script, mode)?;
+    let mut written = Vec::new(crew.alloc);
     render(&names, &outcome, &mut written)?;
     Ok((outcome, written))
 }
 
 /// The outcome of a script that the engine runs, and its summary.
-fn outcome_and_summary(alloc: Global, script: Script) -> Result<(Outcome, Vec<u8>), AllocError>
+fn outcome_and_summary<T: Threads + Wait + Sync, G: Gate>(
+    crew: &Crew<'_, T, G>,
+    script: Script,
+    threads: bool,
+) -> Result<(Outcome, Vec<u8>), AllocError>
     requires { CanRun script }
-    ensures { IfOk result (λ given. (given.0 ≡ comes_to script) × (given.1.items ≡ summary_of (comes_to script))) }
+    ensures { IfOk result (λ given. MayCome threads script given.0 × (given.1.items ≡ summary_of given.0)) }
 {
-    let (outcome, _) = named_outcome(alloc, script, true)?;
-    let mut written = Vec::new(alloc);
+    let mode = Mode {
+        threads,
+        prunes: true,
+    };
+    let (outcome, _) = named_outcome(crew, script, mode)?;
+    let mut written = Vec::new(crew.alloc);
     summarize(&outcome, &mut written)?;
     Ok((outcome, written))
 }

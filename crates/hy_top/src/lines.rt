@@ -3,7 +3,7 @@
 ghost use Rattle.std.specs.Prelude.{◌≡◌, ◌+◌, ◌++◌, IfOk, OnOk, length};
 ghost use Rattle.std.specs.Fmt.{decimal};
 ghost use Rattle.hy_script.specs.Codes.{number};
-ghost use Rattle.hy_top.specs.Lines.{two_digits, all_rows, all_txns, refusal_line_of, checked_line};
+ghost use Rattle.hy_top.specs.Lines.{two_digits, all_rows, all_txns, refusal_line_of, checked_line, damaged_line};
 
 use hy_bound::Rows;
 use hy_script::{NamedTxns, Refused, Script};
@@ -87,6 +87,16 @@ pub fn checked(alloc: Global, script: &Script) -> Result<Vec<u8>, AllocError>
     print_count(b" sessions ", script.sessions.len() as u64, &mut out)?;
     print_count(b" transactions ", txns, &mut out)?;
     print_count(b" items ", script.schedule.len() as u64, &mut out)?;
+    out.push(b'\n')?;
+    Ok(out)
+}
+
+/// The line that tells where a log is damaged.
+pub fn damaged(alloc: Global, offset: u64) -> Result<Vec<u8>, AllocError>
+    ensures { IfOk result (λ line. line.items ≡ damaged_line offset) }
+{
+    let mut out = Vec::new(alloc);
+    print_count(b"log: damaged at ", offset, &mut out)?;
     out.push(b'\n')?;
     Ok(out)
 }

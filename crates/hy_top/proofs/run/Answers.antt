@@ -5,7 +5,7 @@ pub returns-in-Err-OutOfMemory-clause-bytes : goal.returns-in-Err-OutOfMemory-cl
 returns-in-Err-OutOfMemory-clause-bytes g c = nothing_read _ _ _
 
 pub returns-in-Err-OutOfMemory-clause-answers : goal.returns-in-Err-OutOfMemory-clause-answers
-returns-in-Err-OutOfMemory-clause-answers g c = nothing_answered _ _ _
+returns-in-Err-OutOfMemory-clause-answers g c = nothing_answered _ _ _ _
 
 pub returns-in-Err-OutOfMemory-clause-made : goal.returns-in-Err-OutOfMemory-clause-made
 returns-in-Err-OutOfMemory-clause-made g c = nothing_made _ _ _

@@ -1,0 +1,106 @@
+//! Runs that keep a redo log on a disk in memory, crashes of it, and what is recovered. The expected texts and lengths come
+//! from outside.
+
+use crate::runs::{OLD_SNAPSHOT, OLD_SNAPSHOT_TEXT, words_of};
+use hy_disk::MemDisk;
+use hy_outside::{MemSink, MemSource};
+use hy_threads::OpenGate;
+use std::alloc::{AllocError, Global};
+use std::sync::Wait;
+use std::test::Fail;
+use std::thread::Threads;
+
+/// The tables before the commit, as `recover` writes them.
+const BEFORE: &[u8] = b"table t 1\nrow 1\nend\n";
+
+/// And after it.
+const AFTER: &[u8] = b"table t 1\nrow 5\nend\n";
+
+/// The time of the disk once a log is made: a write and a sync.
+const MADE: u64 = 2;
+
+/// A disk of these bytes, of which the calls of these numbers fail.
+fn disk_of(alloc: Global, bytes: &[u8], fails: &[u64]) -> Result<MemDisk, AllocError> {
+    MemDisk::new(alloc, bytes.to_vec(alloc)?, fails.to_vec(alloc)?)
+}
+
+/// The status and the text of a command on the script of an old snapshot.
+fn came_to<T: Threads + Wait + Sync + AllocGlobal>(
+    rt: &T,
+    words: &[&str],
+    disk: &mut MemDisk,
+) -> Result<(u8, Vec<u8>), AllocError> {
+    let alloc = rt.alloc();
+    let words = words_of(alloc, words)?;
+    let mut source = MemSource::new(
+        OLD_SNAPSHOT.as_bytes().to_vec(alloc)?,
+        4096,
+        Vec::new(alloc),
+    );
+    let mut sink = MemSink::new(alloc, 10_000, Vec::new(alloc))?;
+    let report = hy_top::run(rt, alloc, &words, &mut source, &mut sink, &OpenGate, disk);
+    Ok((report.status, sink.bytes().to_vec(alloc)?))
+}
+
+/// Whether `recover` makes one of these texts of each of these images.
+fn each_recovers<T: Threads + Wait + Sync + AllocGlobal>(
+    rt: &T,
+    images: &[Vec<u8>],
+    texts: &[&[u8]],
+) -> Result<bool, AllocError> {
+    for image in images {
+        let mut disk = disk_of(rt.alloc(), image.as_slice(), &[])?;
+        let (status, text) = came_to(rt, &["hy", "recover"], &mut disk)?;
+        if status != 0 || !texts.iter().any(|wanted| *wanted == text.as_slice()) {
+            return Ok(false);
+        }
+    }
+    Ok(true)
+}
+
+#[test]
+fn a_log_is_kept_and_recovered(rt: HostRuntime) -> Result<(), Fail> {
+    let mut disk = disk_of(rt.alloc(), &[], &[])?;
+    let (status, text) = came_to(&rt, &["hy", "run", "--log"], &mut disk)?;
+    assert_eq!(rt; status, 0);
+    assert_eq!(rt; text.as_slice(), OLD_SNAPSHOT_TEXT.as_bytes());
+    assert_eq!(rt; disk.bytes().len(), 74);
+    let (status, text) = came_to(&rt, &["hy", "recover"], &mut disk)?;
+    assert_eq!(rt; (status, text.as_slice()), (0, AFTER));
+    let (status, text) = came_to(&rt, &["hy", "run", "--log"], &mut disk)?;
+    assert_eq!(rt;
+        (status, text.as_slice()),
+        (7, b"log: not empty\n".as_slice())
+    );
+    let mut cut = disk_of(rt.alloc(), &disk.bytes()[..40], &[])?;
+    let (status, text) = came_to(&rt, &["hy", "recover"], &mut cut)?;
+    assert_eq!(rt;
+        (status, text.as_slice()),
+        (7, b"log: damaged at 8\n".as_slice())
+    );
+    Ok(())
+}
+
+#[test]
+fn a_fault_at_each_call_of_the_disk(rt: HostRuntime) -> Result<(), Fail> {
+    // The log is made by three calls, and the one entry is appended by four.
+    for call in 1..=7u64 {
+        let mut disk = disk_of(rt.alloc(), &[], &[call])?;
+        let (status, text) = came_to(&rt, &["hy", "run", "--log"], &mut disk)?;
+        assert_eq!(rt; (status, text.as_slice()), (6, b"".as_slice()));
+        if call > 3 {
+            let images = disk.images(rt.alloc(), MADE)?;
+            let texts: &[&[u8]] = if call < 7 {
+                &[BEFORE]
+            } else {
+                &[BEFORE, AFTER]
+            };
+            assert!(rt; !images.is_empty());
+            assert!(rt;
+                each_recovers(&rt, images.as_slice(), texts)?,
+                "call {call}"
+            );
+        }
+    }
+    Ok(())
+}

@@ -1,0 +1,178 @@
+//! Runs that keep a redo log, and the tables that one gives.
+
+ghost use Rattle.std.specs.Prelude.{◌≡◌, ◌≢◌, ℕ, ◌≤◌, ◌⊎◌, false, List, [], Some, IsNone, IfSome, IfOk, IfErr, IsErrOf};
+ghost use Rattle.hy_outside.specs.Faults.{Rose};
+ghost use Rattle.hy_value.specs.declared.Value.{Value};
+ghost use Rattle.hy_render.specs.Report.{tables_text, text};
+ghost use Rattle.hy_redo.specs.Crashes.{AreLogsOf};
+ghost use Rattle.hy_redo.specs.Recovery.{DamagedAt};
+ghost use Rattle.hy_recovery.specs.Recovered.{AreRecovered};
+ghost use Rattle.hy_top.specs.Lines.{damaged_line};
+ghost use Rattle.hy_top.specs.Program.{comes_to, names_at};
+ghost use Rattle.hy_top.specs.Reports.{Writes, Runs, RunsLogged, FindsALog, Restores, GaveUp, IsLogged, IsLoggedSince, tables_at};
+ghost use Rattle.hy_top.specs.Settings.{CanRun};
+
+use crate::lines::damaged;
+use crate::settings::{Given, given_of};
+use crate::{DISK_FAULT, NO_MEMORY, Report, tell, without_outcome, write};
+use hy_disk::Disk;
+use hy_outside::Sink;
+use hy_recovery::recover_rows;
+use hy_redo::{AppendError, CreateError, Log, RecoverError, create};
+use hy_render::{Outcome, render, render_tables};
+use hy_script::Script;
+use hy_world::World;
+use std::alloc::Global;
+
+/// What is written where a log was to be made on a disk that has bytes.
+const NOT_EMPTY: &[u8] = b"log: not empty\n";
+
+/// The status where the disk has bytes already, or bytes that are no log of the script's tables.
+const BAD_LOG: u8 = 7;
+
+/// Makes a log on the disk, runs a script by its schedule with each entry of the commit order in the log, and writes the
+/// text of its outcome. Where the disk has bytes it says so, and nothing is run.
+pub(crate) fn run_logged<W: Sink, D: Disk>(
+    alloc: Global,
+    script: Script,
+    prunes: bool,
+    sink: &mut W,
+    disk: &mut D,
+) -> Report
+    requires { CanRun script }
+    ensures run { GaveUp result.status × (sink.new ≡ sink.old) × IsNone result.outcome
+        ⊎ (RunsLogged script (D.held disk.old) result.status result.outcome (W.written sink.old) (W.written sink.new)
+        ⊎ FindsALog (D.held disk.old) result.status result.outcome (W.written sink.old) (W.written sink.new)) }
+    ensures logged { IfSome result.outcome (λ outcome. IsLogged D.clock D.image D.image_since script outcome disk.old disk.new) }
+    ensures write_fault { result.status ≡ 4 → Rose (W.faults sink.old) (W.faults sink.new) }
+    ensures sink_steady { result.status ≢ 4 → W.faults sink.new ≡ W.faults sink.old }
+    ensures disk_fault { result.status ≡ 6 → Rose (D.faults disk.old) (D.faults disk.new) }
+    ensures disk_steady { result.status ≢ 6 → D.faults disk.new ≡ D.faults disk.old }
+{
+    match create(disk) {
+        Ok(log) => run_on_log(alloc, script, prunes, log, sink, disk),
+        Err(CreateError::NotEmpty) => without_outcome(write(sink, NOT_EMPTY, BAD_LOG)),
+        Err(CreateError::DiskFault) => without_outcome(DISK_FAULT),
+        Err(CreateError::OutOfMemory) => without_outcome(NO_MEMORY),
+    }
+}
+
+/// Runs a script with each entry of the commit order in this log, which is empty, and writes the text of its outcome.
+fn run_on_log<W: Sink, D: Disk>(
+    alloc: Global,
+    script: Script,
+    prunes: bool,
+    log: Log,
+    sink: &mut W,
+    disk: &mut D,
+) -> Report
+    requires runs { CanRun script }
+    requires log { AreLogsOf (D.image disk.old) [] log }
+    ensures run { GaveUp result.status × (sink.new ≡ sink.old) × IsNone result.outcome
+        ⊎ Runs false script result.status result.outcome (W.written sink.old) (W.written sink.new) }
+    ensures logged { IfSome result.outcome (λ outcome. IsLoggedSince D.image D.image_since script outcome (D.clock disk.old) disk.new) }
+    ensures later { D.clock disk.old ≤ D.clock disk.new }
+    ensures write_fault { result.status ≡ 4 → Rose (W.faults sink.old) (W.faults sink.new) }
+    ensures sink_steady { result.status ≢ 4 → W.faults sink.new ≡ W.faults sink.old }
+    ensures disk_fault { result.status ≡ 6 → Rose (D.faults disk.old) (D.faults disk.new) }
+    ensures disk_steady { result.status ≢ 6 → D.faults disk.new ≡ D.faults disk.old }
+{
+    match logged_text(alloc, script, prunes, log, disk) {
+        Ok((outcome, written)) => tell(outcome, written.as_slice(), sink),
+        Err(AppendError::DiskFault) => without_outcome(DISK_FAULT),
+        Err(AppendError::OutOfMemory) => without_outcome(NO_MEMORY),
+    }
+}
+
+/// The outcome of a script that is run with each entry of the commit order in this log, and its text.
+fn logged_text<D: Disk>(
+    alloc: Global,
+    script: Script,
+    prunes: bool,
+    log: Log,
+    disk: &mut D,
+) -> Result<(Outcome, Vec<u8>), AppendError>
+    requires runs { CanRun script }
+    requires log { AreLogsOf (D.image disk.old) [] log }
+    ensures outcome { IfOk result (λ given. (given.0 ≡ comes_to script) × (given.1.items ≡ text (names_at script) given.0)) }
+    ensures logged { IfOk result (λ given. IsLoggedSince D.image D.image_since script given.0 (D.clock disk.old) disk.new) }
+    ensures later { D.clock disk.old ≤ D.clock disk.new }
+    ensures fault { IsErrOf result AppendError.DiskFault → Rose (D.faults disk.old) (D.faults disk.new) }
+    ensures steady { ¬ IsErrOf result AppendError.DiskFault → D.faults disk.new ≡ D.faults disk.old }
+{
+    let Given {
+        setting,
+        kinds,
+        names,
+        schedule,
+    } = given_of(alloc, script)?;
+    let world = World::open(alloc, setting, kinds.as_slice(), prunes)?;
+    let outcome = world.run_logged(alloc, schedule.as_slice(), log, disk)?;
+    let mut written = Vec::new(alloc);
+    render(&names, &outcome, &mut written)?;
+    Ok((outcome, written))
+}
+
+/// Writes the tables that the log on the disk makes of a script's first rows, or where the log is damaged.
+pub(crate) fn recover_script<W: Sink, D: Disk>(
+    alloc: Global,
+    script: Script,
+    sink: &mut W,
+    disk: &mut D,
+) -> Report
+    ensures restores { GaveUp result.status × (sink.new ≡ sink.old) × IsNone result.outcome
+        ⊎ Restores script (D.held disk.old) result.status result.outcome (W.written sink.old) (W.written sink.new) }
+    ensures nothing { IsNone result.outcome }
+    ensures held { D.held disk.new ≡ D.held disk.old }
+    ensures write_fault { result.status ≡ 4 → Rose (W.faults sink.old) (W.faults sink.new) }
+    ensures sink_steady { result.status ≢ 4 → W.faults sink.new ≡ W.faults sink.old }
+    ensures disk_fault { result.status ≡ 6 → Rose (D.faults disk.old) (D.faults disk.new) }
+    ensures disk_steady { result.status ≢ 6 → D.faults disk.new ≡ D.faults disk.old }
+{
+    match restored_text(alloc, script, disk) {
+        Ok(written) => without_outcome(write(sink, written.as_slice(), 0)),
+        Err(RecoverError::Damaged { at }) => tell_damage(alloc, at, sink),
+        Err(RecoverError::DiskFault) => without_outcome(DISK_FAULT),
+        Err(RecoverError::OutOfMemory) => without_outcome(NO_MEMORY),
+    }
+}
+
+/// The text of the tables that the log on the disk makes of a script's first rows.
+fn restored_text<D: Disk>(
+    alloc: Global,
+    script: Script,
+    disk: &mut D,
+) -> Result<Vec<u8>, RecoverError>
+    ensures text { IfOk result (λ written. (rows : List (List (List Value))) × AreRecovered (tables_at script) (D.held disk.old) rows
+        × (written.items ≡ tables_text (names_at script) rows)) }
+    ensures damaged { IfErr result (λ e. (bytes : List ℕ) → D.held disk.old ≡ Some bytes → DamagedAt (tables_at script) bytes e) }
+    ensures held { D.held disk.new ≡ D.held disk.old }
+    ensures fault { IsErrOf result RecoverError.DiskFault → Rose (D.faults disk.old) (D.faults disk.new) }
+    ensures steady { ¬ IsErrOf result RecoverError.DiskFault → D.faults disk.new ≡ D.faults disk.old }
+{
+    let Given {
+        setting,
+        kinds,
+        names,
+        schedule: _,
+    } = given_of(alloc, script)?;
+    let rows = recover_rows(alloc, &setting, kinds.as_slice(), disk)?;
+    let mut written = Vec::new(alloc);
+    render_tables(&names, rows.as_slice(), &mut written)?;
+    Ok(written)
+}
+
+/// Writes where the log on the disk is damaged.
+fn tell_damage<W: Sink>(alloc: Global, offset: u64, sink: &mut W) -> Report
+    ensures writes { (result.status ≡ 5) × (sink.new ≡ sink.old)
+        ⊎ Writes 7 result.status (W.written sink.old) (W.written sink.new) (damaged_line offset) }
+    ensures nothing { IsNone result.outcome }
+    ensures write_fault { result.status ≡ 4 → Rose (W.faults sink.old) (W.faults sink.new) }
+    ensures sink_steady { result.status ≢ 4 → W.faults sink.new ≡ W.faults sink.old }
+    ensures statuses { (result.status ≢ 6) }
+{
+    match damaged(alloc, offset) {
+        Ok(line) => without_outcome(write(sink, line.as_slice(), BAD_LOG)),
+        Err(_) => without_outcome(NO_MEMORY),
+    }
+}

@@ -15,6 +15,11 @@ TouchedWhereTold at count None new = ⊤
 TouchedWhereTold at count (Some old) None = ⊥
 TouchedWhereTold at count (Some old) (Some new) = Touched at count old new
 
+-- these bytes are a disk's own, where it tells them
+abbrev pub IsOwn : Option (List ℕ) → List ℕ → Type 0
+IsOwn None bytes = ⊤
+IsOwn (Some own) bytes = own ≡ bytes
+
 -- where the bytes are told, they are so many
 abbrev pub HasLength : Option (List ℕ) → ℕ → Type 0
 HasLength None count = ⊤

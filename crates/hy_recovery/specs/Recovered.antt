@@ -1,5 +1,5 @@
 -- The tables that a setting begins with, and what bytes of a redo log make of their rows.
-use Rattle.std.specs.Prelude.{◌≡◌, ℕ, List, Option, None, Some, Ok, map}
+use Rattle.std.specs.Prelude.{◌≡◌, ℕ, List, Ok, map}
 use Rattle.std.specs.List.{zip}
 use Rattle.hy_value.specs.declared.Kind.{Kind}
 use Rattle.hy_value.specs.declared.Value.{Value}
@@ -25,7 +25,6 @@ first_tables kinds setting = held_tables kinds (opening_tables setting)
 abbrev pub rows_of : List HeldTable → List (List (List Value))
 rows_of tables = map (λ (table : HeldTable). rows_sorted table.rows) tables
 
--- These are the rows of the tables that the bytes make of these, where the bytes are told. Where they are not, nothing is said.
-abbrev pub AreRecovered : List HeldTable → Option (List ℕ) → List (List (List Value)) → Type 0
-AreRecovered tables None rows = Unit {0}
-AreRecovered tables (Some bytes) rows = (found : List HeldTable) × Recovers tables bytes (Ok found) × (rows ≡ rows_of found)
+-- these are the rows of the tables that the bytes make of these
+abbrev pub AreRecovered : List HeldTable → List ℕ → List (List (List Value)) → Type 0
+AreRecovered tables bytes rows = (found : List HeldTable) × Recovers tables bytes (Ok found) × (rows ≡ rows_of found)

@@ -3,11 +3,12 @@
 
 ghost use Rattle.std.specs.Prelude.{◌≡◌, ℕ, ◌≤◌, List, Some, IfOk, IfErr, IsErrOf, slice_get};
 ghost use Rattle.hy_outside.specs.Faults.{Rose};
+ghost use Rattle.hy_disk.specs.Bytes.{IsOwn};
 ghost use Rattle.hy_disk.specs.Calls.{IsDurable, Syncs};
 ghost use Rattle.hy_bound.specs.Changes.{present};
 ghost use Rattle.hy_machine.specs.Tables.{capacity, laid_out};
 ghost use Rattle.hy_machine.specs.Outcomes.{rows_sorted};
-ghost use Rattle.hy_redo.specs.Recovery.{DamagedAt};
+ghost use Rattle.hy_redo.specs.Recovery.{DamagedIn};
 ghost use Rattle.hy_recovery.specs.Recovered.{held, first_tables, rows_of, AreRecovered};
 
 use hy_body::{HeldRows, HeldTable, HeldTables};
@@ -118,9 +119,9 @@ pub fn recover_rows<D: Disk>(
     kinds: &[Kinds],
     disk: &mut D,
 ) -> Result<Seq<Rows>, RecoverError>
-    ensures found { IfOk result (AreRecovered (first_tables kinds.now setting.now) (D.held disk.old)) }
-    ensures damaged { IfErr result (λ e. (bytes : List ℕ) → D.held disk.old ≡ Some bytes
-        → DamagedAt (first_tables kinds.now setting.now) bytes e) }
+    ensures found { IfOk result (λ rows. (bytes : List ℕ) × IsOwn (D.held disk.old) bytes
+        × AreRecovered (first_tables kinds.now setting.now) bytes rows) }
+    ensures damaged { IfErr result (DamagedIn (first_tables kinds.now setting.now) (D.held disk.old)) }
     ensures sure { ¬ IsErrOf result RecoverError.DiskFault → IsDurable (D.held disk.new) (D.image disk.new) }
     ensures held { D.held disk.new ≡ D.held disk.old }
     ensures syncs { Syncs D.held D.clock D.image D.image_since disk.old disk.new }

@@ -1,6 +1,7 @@
 -- What bytes recover to: tables, or the offset where they are damaged.
 use Rattle.std.specs.Prelude.{◌≡◌, ◌⊎◌, ℕ, List, ◌∷◌, ◌++◌, Option, None, Result, Ok, Err}
 use Rattle.hy_journal.specs.declared.Entry.{Entry}
+use Rattle.hy_disk.specs.Bytes.{IsOwn}
 use Rattle.hy_redo.specs.declared.errors.RecoverError.{RecoverError}
 use Rattle.hy_redo.specs.declared.errors.RecoverError.TheVariants.{Damaged, DiskFault, OutOfMemory}
 use Rattle.hy_redo.specs.Tables.{Held, Stands, AllStand, applied, last_time}
@@ -45,3 +46,15 @@ abbrev pub DamagedAt : Held → List ℕ → RecoverError → Type 0
 DamagedAt tables bytes (Damaged offset) = Recovers tables bytes (Err offset)
 DamagedAt tables bytes DiskFault = Unit {0}
 DamagedAt tables bytes OutOfMemory = Unit {0}
+
+-- ---- of a disk
+
+-- what the bytes of a disk recover to: there are such bytes, and where it tells its own it is those
+abbrev pub RecoversFrom : Held → Option (List ℕ) → Result Held ℕ → Type 0
+RecoversFrom tables held outcome = (bytes : List ℕ) × IsOwn held bytes × Recovers tables bytes outcome
+
+-- an error that tells of damage tells where those are damaged
+abbrev pub DamagedIn : Held → Option (List ℕ) → RecoverError → Type 0
+DamagedIn tables held (Damaged offset) = RecoversFrom tables held (Err offset)
+DamagedIn tables held DiskFault = Unit {0}
+DamagedIn tables held OutOfMemory = Unit {0}

@@ -6,9 +6,9 @@ ghost use Rattle.hy_disk.specs.Calls.{IsDurable, Stays, Syncs};
 ghost use Rattle.hy_journal.specs.declared.Entry.{Entry};
 ghost use Rattle.hy_body.specs.Bodies.{IsBody};
 ghost use Rattle.hy_redo.specs.Tables.{Stands};
-ghost use Rattle.hy_disk.specs.Bytes.{HasLength, ReadsAt};
+ghost use Rattle.hy_disk.specs.Bytes.{IsOwn, HasLength, ReadsAt};
 ghost use Rattle.hy_redo.specs.Logs.{header};
-ghost use Rattle.hy_redo.specs.Recovery.{Recovers, DamagedAt};
+ghost use Rattle.hy_redo.specs.Recovery.{Recovers, DamagedAt, RecoversFrom, DamagedIn};
 ghost use Rattle.hy_redo.specs.Tests.{IsStanding, IsNext, IsNoDamage, StopsAt, as_stop};
 
 use crate::RecoverError;
@@ -124,7 +124,7 @@ fn redo(alloc: Global, bytes: &[u8], tables: HeldTables) -> Result<HeldTables, R
 
 /// All bytes of the disk.
 fn read_whole<D: Disk>(alloc: Global, disk: &mut D) -> Result<Vec<u8>, RecoverError>
-    ensures bytes { IfOk result (λ bytes. (told : List ℕ) → D.held disk.old ≡ Some told → bytes.items ≡ told) }
+    ensures bytes { IfOk result (λ bytes. IsOwn (D.held disk.old) bytes.items) }
     ensures held { D.held disk.new ≡ D.held disk.old }
     ensures stays { Stays D.clock D.image D.image_since disk.old disk.new }
     ensures no_damage { IfErr result IsNoDamage }
@@ -144,8 +144,8 @@ pub fn recover<D: Disk>(
     disk: &mut D,
     tables: HeldTables,
 ) -> Result<HeldTables, RecoverError>
-    ensures found { IfOk result (λ found. (bytes : List ℕ) → D.held disk.old ≡ Some bytes → Recovers tables bytes (Ok found)) }
-    ensures damaged { IfErr result (λ e. (bytes : List ℕ) → D.held disk.old ≡ Some bytes → DamagedAt tables bytes e) }
+    ensures found { IfOk result (λ found. RecoversFrom tables (D.held disk.old) (Ok found)) }
+    ensures damaged { IfErr result (DamagedIn tables (D.held disk.old)) }
     ensures sure { ¬ IsErrOf result RecoverError.DiskFault → IsDurable (D.held disk.new) (D.image disk.new) }
     ensures held { D.held disk.new ≡ D.held disk.old }
     ensures syncs { Syncs D.held D.clock D.image D.image_since disk.old disk.new }

@@ -1,8 +1,9 @@
 -- What the calls on a log leave, whatever moment a crash comes at.
-use Rattle.std.specs.Prelude.{◌⊎◌, ℕ, ◌+◌, ◌≤◌, List, [], ◌∷◌, ◌++◌, length}
+use Rattle.std.specs.Prelude.{◌≡◌, ◌⊎◌, ℕ, ◌+◌, ◌≤◌, List, [], ◌∷◌, ◌++◌, Option, IfSome, length}
 use Rattle.hy_journal.specs.declared.Entry.{Entry}
 use Rattle.hy_body.specs.Bytes.{record_of}
-use Rattle.hy_redo.specs.Logs.{IsLogOf}
+use Rattle.hy_disk.specs.Calls.{Stays, Writes}
+use Rattle.hy_redo.specs.Logs.{log_of, IsLogOf}
 
 -- the offset of the next gate, behind the record of an entry
 abbrev pub next_gate : ℕ → Entry → ℕ
@@ -32,3 +33,22 @@ pub record Appends {D : Type 0} (clock : D → ℕ) (image_since : D → ℕ →
   -- for a run that began earlier
   pub moments : (time : ℕ) (bytes : List ℕ) → time ≤ clock before → image_since after time bytes
       → image_since before time bytes ⊎ IsBeforeOrAfter entries entry gate bytes
+
+-- ---- the making of an empty log
+
+-- the disk was empty, and the bytes of an empty log were being written to it: of these a crash may leave any
+pub record IsBegun {D : Type 0} (held : D → Option (List ℕ)) (clock : D → ℕ) (image : D → List ℕ → Type 0) (image_since : D → ℕ → List ℕ → Type 0)
+    (before after : D) : Type 0 where
+  pub empty : IfSome (held before) (λ bytes. bytes ≡ [])
+  pub writes : Writes clock image image_since 0 (length (log_of [])) before after
+
+-- nothing was done: a read gives what it gave, and a crash leaves what it could
+pub record IsAsItWas {D : Type 0} (held : D → Option (List ℕ)) (clock : D → ℕ) (image : D → List ℕ → Type 0) (image_since : D → ℕ → List ℕ → Type 0)
+    (before after : D) : Type 0 where
+  pub reads : held after ≡ held before
+  pub stays : Stays clock image image_since before after
+
+-- a fault while it was made came before anything was done, or after it was begun
+abbrev pub IsBegunAtMost : {D : Type 0} → (D → Option (List ℕ)) → (D → ℕ) → (D → List ℕ → Type 0) → (D → ℕ → List ℕ → Type 0) → D → D → Type 0
+IsBegunAtMost held clock image image_since before after =
+    IsAsItWas held clock image image_since before after ⊎ IsBegun held clock image image_since before after

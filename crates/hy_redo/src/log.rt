@@ -6,7 +6,7 @@ ghost use Rattle.hy_journal.specs.declared.Entry.{Entry};
 ghost use Rattle.hy_disk.specs.Bytes.{overwritten, ReachesTo};
 ghost use Rattle.hy_disk.specs.Calls.{Stays, Writes, IsDurable};
 ghost use Rattle.hy_redo.specs.Logs.{log_of, IsWholeLog};
-ghost use Rattle.hy_redo.specs.Crashes.{next_gate, AreLogsOf, AreClosedAt, Appends};
+ghost use Rattle.hy_redo.specs.Crashes.{next_gate, AreLogsOf, AreClosedAt, Appends, IsBegun, IsBegunAtMost};
 
 use crate::{AppendError, CreateError};
 use hy_body::encode;
@@ -73,6 +73,9 @@ pub fn create<D: Disk>(disk: &mut D) -> Result<Log, CreateError>
     // Where memory ran out the disk is as it was too.
     ensures unchanged { IsErrOf result CreateError.OutOfMemory → Stays D.clock D.image D.image_since disk.old disk.new }
     ensures kept { IsErrOf result CreateError.OutOfMemory → D.held disk.new ≡ D.held disk.old }
+    // What a crash leaves at any moment of the call, where the log is made or the disk fails.
+    ensures begun { OnOk result (IsBegun D.held D.clock D.image D.image_since disk.old disk.new) }
+    ensures cut { IsErrOf result CreateError.DiskFault → IsBegunAtMost D.held D.clock D.image D.image_since disk.old disk.new }
     ensures later { D.clock disk.old ≤ D.clock disk.new }
     ensures fault { IsErrOf result CreateError.DiskFault → Rose (D.faults disk.old) (D.faults disk.new) }
     ensures steady { ¬ IsErrOf result CreateError.DiskFault → D.faults disk.new ≡ D.faults disk.old }

@@ -5,4 +5,4 @@ pub mod Writing
 pub mod Appending
 pub mod Redoing
 pub mod Outcomes
-pub mod Owning
+pub mod Pieces

@@ -63,6 +63,16 @@ module _ (tables : Held) (last : Option ℕ) (gate : ℕ) (behind : List ℕ) (n
         positive zero h = absurd (h refl)
         positive (suc n) h = omega arith
 
+-- a record of no entry that stands is so whatever follows it
+pub broken_whatever : (tables : Held) (last : Option ℕ) (gate : ℕ) (behind : List ℕ) (nonzero : gate ≡ 0 → ⊥) (tells : LengthsTell) (body rest : List ℕ)
+    → behind ≡ be64 (length body) ++ (body ++ rest) → length body < 2 ^ 64 → ((entry : Entry) → IsBody tables entry body → Stands tables last entry → ⊥)
+    → (more : List ℕ) → IsBroken tables last (gate ∷ (behind ++ more))
+broken_whatever tables last gate behind nonzero tells body rest parts short none more =
+    let size = be64 (length body) in
+    let longer : behind ++ more ≡ size ++ (body ++ (rest ++ more)) =
+    ap (λ (bs : List ℕ). bs ++ more) parts ∙ append_assoc size (body ++ rest) more ∙ ap (λ (bs : List ℕ). size ++ bs) (append_assoc body rest more) in
+    broken_body tables last gate (behind ++ more) nonzero tells body (rest ++ more) longer short none
+
 -- ---- all of them
 
 stand_push : (tables : Held) (last : Option ℕ) (entries : List Entry) (entry : Entry) → AllStand tables last entries
@@ -144,7 +154,7 @@ pub next_shorter : (tables : Held) (last : Option ℕ) (bytes : List ℕ) (entry
 next_shorter tables last bytes entry rest n = omega (arith, ap length n.opens.is, length-append (record_of entry) rest)
 
 -- what the body of a record is refused for is what stops there
-pub stops_body : (tables : Held) (last : Option ℕ) (bytes : List ℕ) (e : BodyError) → (e ≡ bodies.Malformed → IsBroken tables last bytes)
-    → StopsAt tables last bytes (as_stop e)
+pub stops_body : (tables : Held) (last : Option ℕ) (bytes : List ℕ) (e : BodyError)
+    → (e ≡ bodies.Malformed → (more : List ℕ) → IsBroken tables last (bytes ++ more)) → StopsAt tables last bytes (as_stop e)
 stops_body tables last bytes bodies.Malformed h = h refl
 stops_body tables last bytes bodies.OutOfMemory h = tt

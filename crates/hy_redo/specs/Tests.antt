@@ -1,11 +1,12 @@
 -- What the tests of the code compute. Proofs show that they decide whether an entry stands.
-use Rattle.std.specs.Prelude.{◌≡◌, ℕ, List, ◌∷◌, Bool, true, false, ◌&&◌, nat_lt, Option, None, Some}
+use Rattle.std.specs.Prelude.{◌≡◌, ℕ, List, ◌∷◌, ◌++◌, drop, Bool, true, false, ◌&&◌, nat_lt, Option, None, Some, Result, Ok, Err}
 use Rattle.std.specs.List.{list_all}
 use Rattle.std.specs.Ordering.{is_eq}
 use Rattle.hy_value.specs.Order.{row_cmp}
 use Rattle.hy_change.specs.declared.Change.{Change}
 use Rattle.hy_notes.specs.Notes.{Cell}
 use Rattle.hy_journal.specs.declared.Entry.{Entry}
+use Rattle.hy_disk.specs.Bytes.{IsOwn}
 use Rattle.hy_body.specs.Bytes.{net_of}
 use Rattle.hy_body.specs.Bodies.{IsBody}
 use Rattle.hy_redo.specs.declared.errors.RecoverError.{RecoverError}
@@ -63,17 +64,37 @@ pub record Redone (first : Held) (bytes : List ℕ) (now : Held) (time : Option 
   pub tables : now ≡ applied first entries
   pub last : time ≡ last_time None entries
 
+-- what was done so far of the bytes, up to the gate at this offset
+abbrev pub IsRedone : Held → List ℕ → Held → Option ℕ → ℕ → Type 0
+IsRedone first bytes now time gate = Redone first bytes now time (drop gate bytes)
+
+-- these bytes are the first of a disk's own, where it tells them
+abbrev pub IsFrontOf : Option (List ℕ) → List ℕ → Type 0
+IsFrontOf held bytes = (more : List ℕ) × IsOwn held (bytes ++ more)
+
+-- the bytes begin with those
+abbrev pub BeginsWith : List ℕ → List ℕ → Type 0
+BeginsWith bytes front = (more : List ℕ) × (bytes ≡ front ++ more)
+
 -- an error that tells of no damage
 abbrev pub IsNoDamage : RecoverError → Type 0
 IsNoDamage (Damaged offset) = ⊥
 IsNoDamage DiskFault = Unit {0}
 IsNoDamage OutOfMemory = Unit {0}
 
--- why no entry was read, of these bytes
+-- why no entry was read, of these bytes: where they are short that is so only if nothing follows them, else whatever does
 abbrev pub StopsAt : Held → Option ℕ → List ℕ → Stop → Type 0
 StopsAt tables last bytes stops.Closed = IsClosed bytes
-StopsAt tables last bytes stops.Broken = IsBroken tables last bytes
+StopsAt tables last bytes stops.Short = IsBroken tables last bytes
+StopsAt tables last bytes stops.Broken = (more : List ℕ) → IsBroken tables last (bytes ++ more)
 StopsAt tables last bytes stops.OutOfMemory = Unit {0}
+
+-- what reading comes to where it stops, with these tables, at the gate at this offset
+abbrev pub stopped_at : Stop → Held → ℕ → Result Held RecoverError
+stopped_at stops.Closed tables gate = Ok tables
+stopped_at stops.Short tables gate = Err (Damaged gate)
+stopped_at stops.Broken tables gate = Err (Damaged gate)
+stopped_at stops.OutOfMemory tables gate = Err OutOfMemory
 
 abbrev pub as_stop : BodyError → Stop
 as_stop bodies.Malformed = stops.Broken

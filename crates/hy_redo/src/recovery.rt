@@ -1,15 +1,16 @@
 //! The tables from a log.
 
-ghost use Rattle.std.specs.Prelude.{◌≡◌, ◌≢◌, ℕ, ◌+◌, ◌<◌, ◌≤◌, ◌++◌, List, Some, None, Ok, Err, length, vec_len, IfOk, IfErr, OnOk, IsErrOf, MatchOption};
+ghost use Rattle.std.specs.Prelude.{◌≡◌, ◌≢◌, true, false, ℕ, ◌+◌, ◌<◌, ◌≤◌, ◌++◌, List, Some, None, Ok, Err, length, drop, min, vec_len, IfOk, IfErr, IfSome, IfNone, OnOk, IsErrOf, MatchOption};
 ghost use Rattle.hy_outside.specs.Faults.{Rose};
 ghost use Rattle.hy_disk.specs.Calls.{IsDurable, Stays, Syncs};
 ghost use Rattle.hy_journal.specs.declared.Entry.{Entry};
 ghost use Rattle.hy_body.specs.Bodies.{IsBody};
-ghost use Rattle.hy_redo.specs.Tables.{Stands};
-ghost use Rattle.hy_disk.specs.Bytes.{IsOwn, HasLength, ReadsAt};
+ghost use Rattle.hy_redo.specs.Tables.{Held, Stands};
+ghost use Rattle.hy_disk.specs.Bytes.{HasLength, ReachesTo, ReadsAt};
 ghost use Rattle.hy_redo.specs.Logs.{header};
-ghost use Rattle.hy_redo.specs.Recovery.{Recovers, DamagedAt, RecoversFrom, DamagedIn};
-ghost use Rattle.hy_redo.specs.Tests.{IsStanding, IsNext, IsNoDamage, StopsAt, as_stop};
+ghost use Rattle.hy_redo.specs.Recovery.{HasNoHeader, RecoversFrom, DamagedIn};
+ghost use Rattle.hy_redo.specs.Tests.{IsStanding, IsNext, IsNoDamage, StopsAt, as_stop, stopped_at};
+ghost use Rattle.hy_redo.specs.Tests.{IsRedone, IsFrontOf, BeginsWith};
 
 use crate::RecoverError;
 use crate::standing::{put_changes, stand};
@@ -18,6 +19,9 @@ use hy_disk::Disk;
 use hy_journal::Entry;
 use hy_value::Seq;
 use std::alloc::Global;
+
+/// How many bytes are read at first, and at least at once.
+const PIECE: usize = 4096;
 
 /// The first bytes of a log.
 const HEADER: [u8; 8] = *b"HYREDO1\n";
@@ -52,7 +56,9 @@ fn entry_of_body(
 enum Stop {
     /// The gate is closed.
     Closed,
-    /// The gate is missing, or the record of an entry that stands next.
+    /// The bytes end before the gate, or before the end of its record.
+    Short,
+    /// The record is of no entry that stands next.
     Broken,
     /// Memory ran out.
     OutOfMemory,
@@ -81,64 +87,175 @@ fn next_entry<'a>(
 {
     bodies_are_one();
     let Some((gate, record)) = bytes.split_first() else {
-        return Err(Stop::Broken);
+        return Err(Stop::Short);
     };
     if *gate == 0 {
         return Err(Stop::Closed);
     }
     let Some((body, rest)) = split_record(record) else {
-        return Err(Stop::Broken);
+        return Err(Stop::Short);
     };
     let entry = entry_of_body(alloc, tables, last, body)?;
     Ok((entry, rest))
 }
 
-/// The tables after the log that the bytes are.
-fn redo(alloc: Global, bytes: &[u8], tables: HeldTables) -> Result<HeldTables, RecoverError>
-    ensures found { IfOk result (λ found. Recovers tables bytes.now (Ok found)) }
-    ensures damaged { IfErr result (DamagedAt tables bytes.now) }
-    ensures no_fault { ¬ IsErrOf result RecoverError.DiskFault }
+/// What is done so far of a log.
+#[derive(Drop)]
+struct SoFar {
+    /// The tables so far.
+    tables: Vec<HeldTable>,
+    /// The time of the last entry, where there was one.
+    last: Option<u64>,
+    /// Where the next gate stands, in bytes.
+    gate: usize,
+}
+
+/// Redoes what the bytes have from the next gate on, and tells why it went no further.
+fn redo(alloc: Global, bytes: &[u8], so_far: &mut SoFar) -> Stop
+    requires within { so_far.old.gate ≤ length bytes.now }
+    ensures redone { (first : Held) → IsRedone first bytes.now so_far.old.tables.items so_far.old.last so_far.old.gate
+        → IsRedone first bytes.now so_far.new.tables.items so_far.new.last so_far.new.gate }
+    ensures stop { StopsAt so_far.new.tables.items so_far.new.last (drop so_far.new.gate bytes.now) result }
+    ensures inside { so_far.new.gate ≤ length bytes.now }
 {
-    let Some(mut rest) = behind_header(bytes) else {
-        return Err(RecoverError::Damaged { at: 0 });
-    };
-    let mut tables = tables.into_vec();
-    let mut last = None;
+    let mut rest = &bytes[so_far.gate..];
     'entries: loop {
-        match next_entry(alloc, tables.as_slice(), last, rest) {
+        match next_entry(alloc, so_far.tables.as_slice(), so_far.last, rest) {
             Ok((entry, behind)) => {
-                last = Some(entry.time);
-                put_changes(&mut tables, entry.notes);
+                so_far.last = Some(entry.time);
+                put_changes(&mut so_far.tables, entry.notes);
                 rest = behind;
             }
-            Err(Stop::Closed) => return Ok(Seq::from_vec(tables)),
-            Err(Stop::Broken) => {
-                return Err(RecoverError::Damaged {
-                    at: (bytes.len() - rest.len()) as u64,
-                });
+            Err(stop) => {
+                so_far.gate = bytes.len() - rest.len();
+                return stop;
             }
-            Err(Stop::OutOfMemory) => return Err(RecoverError::OutOfMemory),
         }
     }
 }
 
-/// All bytes of the disk.
-fn read_whole<D: Disk>(alloc: Global, disk: &mut D) -> Result<Vec<u8>, RecoverError>
-    ensures bytes { IfOk result (λ bytes. IsOwn (D.held disk.old) bytes.items) }
+/// The header is done, and no entry yet. None where the bytes do not begin with it.
+fn begin(bytes: &[u8], tables: HeldTables) -> Option<SoFar>
+    ensures begun { IfSome result (λ so_far. IsRedone tables bytes.now so_far.tables.items so_far.last so_far.gate × (so_far.gate ≤ length bytes.now)) }
+    ensures none { IfNone result (HasNoHeader bytes.now) }
+{
+    behind_header(bytes)?;
+    Some(SoFar {
+        tables: tables.into_vec(),
+        last: None,
+        gate: HEADER.len(),
+    })
+}
+
+/// Whether these bytes are too short, and the disk has more.
+fn wants_more(stop: Stop, read: usize, len: u64) -> bool
+    ensures more { result ≡ true → read < len }
+    ensures ended { result ≡ false → stop ≡ Stop.Short → len ≤ read }
+{
+    match stop {
+        Stop::Short => (read as u64) < len,
+        _ => false,
+    }
+}
+
+/// What reading comes to where it stops.
+fn stopped(stop: Stop, so_far: SoFar) -> Result<HeldTables, RecoverError>
+    ensures { result ≡ stopped_at stop so_far.tables.items so_far.gate }
+{
+    let SoFar {
+        tables,
+        last: _,
+        gate,
+    } = so_far;
+    match stop {
+        Stop::Closed => Ok(Seq::from_vec(tables)),
+        Stop::Short | Stop::Broken => Err(RecoverError::Damaged { at: gate as u64 }),
+        Stop::OutOfMemory => Err(RecoverError::OutOfMemory),
+    }
+}
+
+/// So many bytes of the disk, from this offset on.
+fn read_piece<D: Disk>(
+    alloc: Global,
+    disk: &mut D,
+    start: u64,
+    count: usize,
+) -> Result<Vec<u8>, RecoverError>
+    requires within { ReachesTo (D.held disk.old) (start + count) }
+    ensures bytes { IfOk result (λ piece. ReadsAt (D.held disk.old) start piece.items) }
+    ensures count { IfOk result (λ piece. length piece.items ≡ count) }
+    ensures no_damage { IfErr result IsNoDamage }
     ensures held { D.held disk.new ≡ D.held disk.old }
     ensures stays { Stays D.clock D.image D.image_since disk.old disk.new }
+    ensures fault { IsErrOf result RecoverError.DiskFault → Rose (D.faults disk.old) (D.faults disk.new) }
+    ensures steady { ¬ IsErrOf result RecoverError.DiskFault → D.faults disk.new ≡ D.faults disk.old }
+    ensures never_fell { D.faults disk.old ≤ D.faults disk.new }
+{
+    let mut piece = vec![in alloc; 0; count]?;
+    disk.read(start, &mut piece)?;
+    Ok(piece)
+}
+
+/// Reads on behind the first bytes of a disk that has so many: as many again, and a piece at least, as far as the disk goes.
+fn read_on<D: Disk>(
+    alloc: Global,
+    disk: &mut D,
+    len: u64,
+    bytes: &mut Vec<u8>,
+) -> Result<(), RecoverError>
+    requires count { HasLength (D.held disk.old) len }
+    requires within { length bytes.old.items ≤ len }
+    requires front { IsFrontOf (D.held disk.old) bytes.old.items }
+    ensures front { OnOk result (IsFrontOf (D.held disk.old) bytes.new.items) }
+    ensures more { OnOk result (BeginsWith bytes.new.items bytes.old.items) }
+    ensures longer { OnOk result (length bytes.old.items < len → length bytes.old.items < length bytes.new.items) }
+    ensures long { OnOk result (min len PIECE ≤ length bytes.new.items) }
+    ensures within { OnOk result (length bytes.new.items ≤ len) }
     ensures no_damage { IfErr result IsNoDamage }
+    ensures held { D.held disk.new ≡ D.held disk.old }
+    ensures stays { Stays D.clock D.image D.image_since disk.old disk.new }
+    ensures fault { IsErrOf result RecoverError.DiskFault → Rose (D.faults disk.old) (D.faults disk.new) }
+    ensures steady { ¬ IsErrOf result RecoverError.DiskFault → D.faults disk.new ≡ D.faults disk.old }
+    ensures never_fell { D.faults disk.old ≤ D.faults disk.new }
+{
+    let start = bytes.len();
+    let count = start.max(PIECE).min(len as usize - start);
+    let piece = read_piece(alloc, disk, start as u64, count)?;
+    bytes.extend_from_slice(&piece)?;
+    Ok(())
+}
+
+/// The tables after the log on a disk, which is read as far as the closed gate, in pieces.
+fn redo_disk<D: Disk>(
+    alloc: Global,
+    disk: &mut D,
+    tables: HeldTables,
+) -> Result<HeldTables, RecoverError>
+    ensures found { IfOk result (λ found. RecoversFrom tables (D.held disk.old) (Ok found)) }
+    ensures damaged { IfErr result (DamagedIn tables (D.held disk.old)) }
+    ensures held { D.held disk.new ≡ D.held disk.old }
+    ensures stays { Stays D.clock D.image D.image_since disk.old disk.new }
     ensures fault { IsErrOf result RecoverError.DiskFault → Rose (D.faults disk.old) (D.faults disk.new) }
     ensures steady { ¬ IsErrOf result RecoverError.DiskFault → D.faults disk.new ≡ D.faults disk.old }
     ensures never_fell { D.faults disk.old ≤ D.faults disk.new }
 {
     let len = disk.len()?;
-    let mut bytes = vec![in alloc; 0; len as usize]?;
-    disk.read(0, &mut bytes)?;
-    Ok(bytes)
+    let mut bytes = Vec::new(alloc);
+    read_on(alloc, disk, len, &mut bytes)?;
+    let Some(mut so_far) = begin(&bytes, tables) else {
+        return Err(RecoverError::Damaged { at: 0 });
+    };
+    'pieces: loop {
+        let stop = redo(alloc, &bytes, &mut so_far);
+        if !wants_more(stop, bytes.len(), len) {
+            return stopped(stop, so_far);
+        }
+        read_on(alloc, disk, len, &mut bytes)?;
+    }
 }
 
-/// The tables after the log on the disk, from those before it. What the bytes recover to is sure before it is read.
+/// The tables after the log on the disk, from those before it. What the bytes recover to is sure before it is read, and of
+/// what follows the closed gate no more is read than a piece, or as much as stands before it.
 pub fn recover<D: Disk>(
     alloc: Global,
     disk: &mut D,
@@ -154,6 +271,5 @@ pub fn recover<D: Disk>(
     ensures never_fell { D.faults disk.old ≤ D.faults disk.new }
 {
     disk.sync()?;
-    let bytes = read_whole(alloc, disk)?;
-    redo(alloc, bytes.as_slice(), tables)
+    redo_disk(alloc, disk, tables)
 }

@@ -1,9 +1,9 @@
-use Rattle.std.proofs.Common.{◌≡◌, ◌∷◌, List, ℕ, Err, ap, sym, subst}
+use Rattle.std.proofs.Common.{◌≡◌, ◌∷◌, ◌++◌, List, ℕ, Err, ap, sym, subst}
 use Rattle.std.proofs.lemmas.Result.{err_from_is_err_and}
 use Rattle.hy_body.specs.declared.BodyError.{BodyError}
 use Rattle.hy_redo.specs.Recovery.{IsBroken}
 use Rattle.hy_redo.specs.Tests.{IsNext}
-use Rattle.hy_redo.proofs.Redoing.{broken_body, next_found, stops_body}
+use Rattle.hy_redo.proofs.Redoing.{broken_whatever, next_found, stops_body}
 use Rattle.hy_redo.proofs.recovery.next_entry.Goals as goal
 
 pub returns-in_err-entry-clause-stop : goal.returns-in_err-entry-clause-stop
@@ -16,10 +16,9 @@ returns-in_err-entry-clause-stop c =
     let parts = c.in-Some-split_record.ensures.parts in
     rw (p.1, p.2)
     (stops_body tables c.args.last c.args.bytes.now c.in_err-entry.field-0.0 (λ q.
-    subst (λ (bs : List ℕ). IsBroken tables c.args.last bs) (sym e)
-    (broken_body tables c.args.last gate record_bytes c.if-gate-eq0.false c.bodies_are_one.ensures.lengths c.in-Some-split_record.body.now
-    c.in-Some-split_record.rest.now parts.0 parts.1
-    (c.in_err-entry.ensures.none (ap (λ (x : BodyError). Err x) q)))))
+    λ more. subst (λ (bs : List ℕ). IsBroken tables c.args.last (bs ++ more)) (sym e)
+    (broken_whatever tables c.args.last gate record_bytes c.if-gate-eq0.false c.bodies_are_one.ensures.lengths c.in-Some-split_record.body.now
+    c.in-Some-split_record.rest.now parts.0 parts.1 (c.in_err-entry.ensures.none (ap (λ (x : BodyError). Err x) q)) more)))
 
 pub returns-clause-next : goal.returns-clause-next
 returns-clause-next c =

@@ -3,23 +3,23 @@ ghost use Rattle.std.specs.Prelude.{◌≡◌, None};
 ghost use Rattle.std.proofs.lemmas.Option.{none-some};
 ghost use Rattle.hy_outside.specs.Faults.{one_more};
 
+use crate::handle::{FileFault, Handle};
 use crate::{Disk, DiskError};
 use hy_outside::Failed;
-use std::fs::{File, OpenOptions};
-use std::io;
 use std::marker::Model;
-use std::os::unix::fs::FileExt;
 
-/// The file's name, in the folder that the process runs in.
+/// The name of a log's file, in the folder that the process runs in.
 const NAME: &str = "hy.log";
 
-/// The disk over the file `hy.log` in the folder that the process runs in. The first call opens it,
-/// and makes it where there is none. It tells neither its bytes nor what a crash may leave.
+/// The disk over a file in the folder that the process runs in. It is opened for reading by the first call, and made by
+/// the first write, where there is none: until then it has no bytes. While it is open no other program writes to it that
+/// asks for its lock too. It tells neither its bytes nor what a crash may leave.
 #[derive(Drop)]
 pub struct FileDisk<'a> {
     rt: &'a HostRuntime,
-    file: Option<File>,
+    handle: Handle<'a>,
     is_lost: bool,
+    cause: Option<FileFault>,
     faults: u64,
 }
 
@@ -34,64 +34,38 @@ impl<'a> Model for FileDisk<'a> {
 }
 
 impl<'a> FileDisk<'a> {
-    /// The disk, which is not open yet. There was no fault.
+    /// The disk over the file `hy.log`, which is not open yet. There was no fault.
     pub fn new(rt: &'a HostRuntime) -> FileDisk<'a>
+        ensures { result ≡ 0 }
+    {
+        FileDisk::named(rt, NAME)
+    }
+
+    /// The same over the file of this name.
+    pub fn named(rt: &'a HostRuntime, name: &'a str) -> FileDisk<'a>
         ensures { result ≡ 0 }
     {
         FileDisk {
             rt,
-            file: None,
+            handle: Handle::new(name),
             is_lost: false,
+            cause: None,
             faults: 0,
         }
     }
 
-    /// Counts a call that failed.
-    fn count_fault(&mut self)
+    /// Why the last call failed that did, where one did.
+    pub fn cause(&self) -> Option<FileFault> {
+        self.cause
+    }
+
+    /// Counts a call that failed, and keeps why.
+    fn count_fault(&mut self, cause: FileFault)
         ensures { self.new ≡ one_more self.old }
     {
+        self.cause = Some(cause);
         self.faults = self.faults.saturating_add(1);
     }
-}
-
-/// Opens the file, and sees to it that its name is sure.
-fn open(rt: &HostRuntime) -> io::Result<File> {
-    let file = OpenOptions::new()
-        .read(true)
-        .write(true)
-        .create(true)
-        .open(rt, NAME)?;
-    File::open(rt, ".")?.sync_all()?;
-    Ok(file)
-}
-
-/// The open file, which the first call opens.
-fn opened<'f>(rt: &HostRuntime, slot: &'f mut Option<File>) -> io::Result<&'f File> {
-    let file = match slot.take() {
-        Some(file) => file,
-        None => open(rt)?,
-    };
-    Ok(slot.insert(file))
-}
-
-/// How many bytes the file has.
-fn len_of(rt: &HostRuntime, slot: &mut Option<File>) -> io::Result<u64> {
-    Ok(opened(rt, slot)?.metadata()?.len())
-}
-
-/// Fills `into` from the offset on. It is an error where the file ends before.
-fn read(rt: &HostRuntime, slot: &mut Option<File>, at: u64, into: &mut [u8]) -> io::Result<()> {
-    opened(rt, slot)?.read_exact_at(into, at)
-}
-
-/// Writes all of `from` at the offset.
-fn write(rt: &HostRuntime, slot: &mut Option<File>, at: u64, from: &[u8]) -> io::Result<()> {
-    opened(rt, slot)?.write_all_at(from, at)
-}
-
-/// Makes sure what was written to the file.
-fn sync(rt: &HostRuntime, slot: &mut Option<File>) -> io::Result<()> {
-    opened(rt, slot)?.sync_all()
 }
 
 impl Disk for FileDisk<'_> {
@@ -106,24 +80,26 @@ impl Disk for FileDisk<'_> {
     ghost faults = { λ s. s };
 
     fn len(&mut self) -> Result<u64, Failed> {
-        let Ok(count) = len_of(self.rt, &mut self.file) else {
-            self.count_fault();
-            return Err(Failed);
-        };
-        Ok(count)
+        match self.handle.len(self.rt) {
+            Ok(count) => Ok(count),
+            Err(cause) => {
+                self.count_fault(cause);
+                Err(Failed)
+            }
+        }
     }
 
     fn read(&mut self, at: u64, into: &mut [u8]) -> Result<(), Failed> {
-        if read(self.rt, &mut self.file, at, into).is_err() {
-            self.count_fault();
+        if let Err(cause) = self.handle.read(self.rt, at, into) {
+            self.count_fault(cause);
             return Err(Failed);
         }
         Ok(())
     }
 
     fn write_at(&mut self, at: u64, from: &[u8]) -> Result<(), DiskError> {
-        if write(self.rt, &mut self.file, at, from).is_err() {
-            self.count_fault();
+        if let Err(cause) = self.handle.write(self.rt, at, from) {
+            self.count_fault(cause);
             return Err(DiskError::Failed);
         }
         Ok(())
@@ -132,9 +108,13 @@ impl Disk for FileDisk<'_> {
     // After a sync that failed the system may have dropped what was written, and a later one may succeed
     // all the same. So once one has failed, each fails.
     fn sync(&mut self) -> Result<(), Failed> {
-        if self.is_lost || sync(self.rt, &mut self.file).is_err() {
+        if self.is_lost {
+            self.count_fault(FileFault::Lost);
+            return Err(Failed);
+        }
+        if let Err(cause) = self.handle.sync(self.rt) {
             self.is_lost = true;
-            self.count_fault();
+            self.count_fault(cause);
             return Err(Failed);
         }
         Ok(())

@@ -12,11 +12,13 @@ ghost use Rattle.hy_disk.specs.Calls.{Stays, Writes, Syncs, IsDurable};
 mod absent;
 mod bytes;
 mod file;
+mod handle;
 mod memory;
 mod replay;
 
 pub use absent::NoDisk;
 pub use file::FileDisk;
+pub use handle::FileFault;
 use hy_outside::Failed;
 pub use memory::MemDisk;
 use std::alloc::AllocError;

@@ -1,5 +1,7 @@
-//! Tests of the redo log over a disk in memory: a worked row of each call, and what crashes leave.
+//! Tests of the redo log: a worked row of each call over a disk in memory, and the disk over a file.
 #![tactic(auto)]
 
+#[cfg(test)]
+mod files;
 #[cfg(test)]
 mod logs;

@@ -11,7 +11,7 @@ use std::alloc::{AllocError, Global};
 use std::test::*;
 
 /// The log of that transaction.
-const LOG: [u8; 74] = [
+pub(crate) const LOG: [u8; 74] = [
     72, 89, 82, 69, 68, 79, 49, 10, 1, 0, 0, 0, 0, 0, 0, 0, 56, 0, 0, 0, 0, 0, 0, 0, 1, 0, 0, 0, 0,
     0, 0, 0, 2, 0, 0, 0, 0, 0, 0, 0, 3, 0, 0, 0, 1, 0, 0, 0, 0, 0, 0, 0, 0, 1, 1, 0, 0, 0, 0, 0, 0,
     0, 1, 1, 1, 0, 0, 0, 0, 0, 0, 0, 5, 0,
@@ -25,7 +25,7 @@ fn row(alloc: Global, number: i64) -> Result<Row, AllocError> {
 }
 
 /// A table of one column, with one row of this number and a position that has none.
-fn tables(alloc: Global, number: i64) -> Result<HeldTables, AllocError> {
+pub(crate) fn tables(alloc: Global, number: i64) -> Result<HeldTables, AllocError> {
     let mut rows = Vec::new(alloc);
     rows.push(Some(row(alloc, number)?))?;
     rows.push(None)?;
@@ -66,7 +66,7 @@ fn disk_of(alloc: Global, bytes: &[u8]) -> Result<MemDisk, AllocError> {
 }
 
 /// Whether the one table has this number at position 0, and no row at position 1.
-fn has_number(tables: &HeldTables, number: i64) -> bool {
+pub(crate) fn has_number(tables: &HeldTables, number: i64) -> bool {
     match tables.as_slice() {
         [held] => match held.rows.as_slice() {
             [Some(row), None] => match row.as_slice() {

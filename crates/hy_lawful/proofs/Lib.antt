@@ -23,6 +23,7 @@ pub mod SerialScripts
 pub mod PrintedTables
 pub mod PrintedPlaces
 pub mod SerialRanges
+pub mod RangeNews
 pub mod RangeRows
 pub mod SerialEnd
 pub mod SerialRefusals

@@ -7,6 +7,7 @@ use Rattle.std.specs.List.{AllByRecursion}
 use Rattle.std.proofs.lemmas.List.{length-append}
 use Rattle.std.proofs.lemmas.Option.{same_Some, IfSome_then}
 use Rattle.hy_bound.specs.declared.Record.{Record}
+use Rattle.hy_stamp.specs.declared.Label.{Label}
 use Rattle.hy_render.specs.declared.Ending.{Ending}
 use Rattle.hy_render.specs.declared.Ending.TheVariants.{Committed, Read, RolledBack, Conflict, Invalid, Range, Full}
 use Rattle.hy_machine.specs.declared.Setting.{Setting}
@@ -28,6 +29,8 @@ use Rattle.hy_machine.specs.Turns.{ending_of}
 use Rattle.hy_machine.specs.Validation.{committed_of, record_hit, first_hit}
 use Rattle.hy_replay.specs.Laws.{IsUnseenAt, DifferUnseen}
 use Rattle.hy_lawful.specs.Outcomes.{committed_at}
+use Rattle.hy_lawful.proofs.Fits.{label_at}
+use Rattle.hy_lawful.proofs.Grows.{grows_by, label_within}
 use Rattle.hy_lawful.proofs.Lists.{all_so}
 use Rattle.hy_lawful.proofs.Moves.{moved_to, sessions_moved}
 use Rattle.hy_lawful.proofs.PassTables.{tables_at, cell_at, pair_at, AllFit, cell_next, stays_to, cell_stays, tables_grow, more_pairs, entry_item, entry_lays}
@@ -85,15 +88,22 @@ still_there setting order fit begun rank later passed table pos own =
     ∙ stays_to setting order fit begun.prefix table pos (rank - begun.prefix)
     (λ at from below. untouched setting order begun rank passed table pos own at from (omega (arith, below, later)))
 
--- one that is in conflict has not written that position; one that is invalid names the first hit of its records by the
--- entries from its start on
+-- the first hit of a transaction's records by the entries from its start on is one of this transaction's entry, and up to
+-- that one no entry does anything at the positions that it wrote
+pub record IsFirstHit (order : List Entry) (begun : Begun) (table pos : ℕ) (other : Label) (statement : ℕ) : Type 0 where
+  pub hit : first_hit begun.records (map committed_of (drop begun.prefix order)) ≡ Some (cause.Invalid table pos other statement)
+  pub rank : ℕ
+  pub stands : label_at order rank ≡ Some other
+  pub clear : (of at : ℕ) → is_some (item_at begun.own of at) ≡ true → (before : ℕ) → begun.prefix ≤ before → before ≤ rank
+      → pair_at order before of at ≡ None
+
+-- one that is in conflict has not written that position; one that is invalid names the first hit
 abbrev pub IsRefusal : List Entry → Begun → Ending → Type 0
 IsRefusal order begun (Committed rank) = Unit {0}
 IsRefusal order begun Read = Unit {0}
 IsRefusal order begun RolledBack = Unit {0}
 IsRefusal order begun (Conflict table pos other) = item_at begun.own table pos ≡ None
-IsRefusal order begun (Invalid table pos other statement) =
-    first_hit begun.records (map committed_of (drop begun.prefix order)) ≡ Some (cause.Invalid table pos other statement)
+IsRefusal order begun (Invalid table pos other statement) = IsFirstHit order begun table pos other statement
 IsRefusal order begun (Range table pos) = Unit {0}
 IsRefusal order begun (Full table) = Unit {0}
 
@@ -200,8 +210,13 @@ refusal_grows order more begun (Committed rank) h = tt
 refusal_grows order more begun Read h = tt
 refusal_grows order more begun RolledBack h = tt
 refusal_grows order more begun (Conflict table pos other) h = h
-refusal_grows order more begun (Invalid table pos other statement) h =
-    hit_stays begun.records begun.prefix order more (cause.Invalid table pos other statement) h
+refusal_grows order more begun (Invalid table pos other statement) h = record {
+  hit = hit_stays begun.records begun.prefix order more (cause.Invalid table pos other statement) h.hit;
+  rank = h.rank;
+  stands = (grows_by order more).stands h.rank other h.stands;
+  clear = λ of at own before from to.
+      pair_stays order more before of at (omega (arith, to, label_within order h.rank other h.stands)) ∙ h.clear of at own before from to;
+}
 refusal_grows order more begun (Range table pos) h = tt
 refusal_grows order more begun (Full table) h = tt
 

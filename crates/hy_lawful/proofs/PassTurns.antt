@@ -1,5 +1,5 @@
 -- What a session's turn makes of its open transaction passes.
-use Rattle.std.proofs.Common.{◌≡◌, ℕ, suc, ◌-◌, ◌*◌, ◌≤◌, List, [], Option, None, Some, Bool, true, false, is_some, Result, Ok, Err, length}
+use Rattle.std.proofs.Common.{◌≡◌, ℕ, suc, ◌+◌, ◌-◌, ◌*◌, ◌≤◌, List, [], Option, None, Some, Bool, true, false, is_some, Result, Ok, Err, length}
 use Rattle.std.proofs.Common.{map, drop, cond, ltb, refl, ap, sym, ◌∙◌, subst, arith, inl, inr}
 use Rattle.std.specs.Prelude.{IfSome, slice_get}
 use Rattle.std.proofs.lemmas.Bool.{cases_Bool, and_parts, and_from}
@@ -7,7 +7,6 @@ use Rattle.hy_value.specs.declared.Value.{Value}
 use Rattle.hy_bound.specs.declared.Txn.{Txn}
 use Rattle.hy_bound.specs.declared.Bound.{Bound}
 use Rattle.hy_bound.specs.declared.Bound.TheVariants.{Select, Group, Insert, Update, Delete}
-use Rattle.hy_bound.specs.declared.Record.{Record}
 use Rattle.hy_bound.specs.declared.Reply.{Reply}
 use Rattle.hy_bound.specs.declared.WriteKind.{WriteKind}
 use Rattle.hy_bound.specs.declared.WriteKind.TheVariants as kind
@@ -41,10 +40,11 @@ use Rattle.hy_machine.specs.Turns.{undo_turn, stamp_turn, validated_turn, commit
 use Rattle.hy_machine.specs.Steps.{after_visit, after_answer}
 use Rattle.hy_lawful.specs.Outcomes.{committed_at}
 use Rattle.hy_lawful.proofs.Fits.{FitsTables, Fits}
-use Rattle.hy_lawful.proofs.Refusals.{sweep_refuses, verdict_fails, is_invalid}
+use Rattle.hy_lawful.proofs.Opponents.{label_dropped}
+use Rattle.hy_lawful.proofs.Refusals.{sweep_refuses, verdict_fails, first_hit_is, any_record, is_invalid}
 use Rattle.hy_lawful.proofs.PassHolds.{own_among, fewer_among, written_is}
 use Rattle.hy_lawful.proofs.PassTables.{cell_at}
-use Rattle.hy_lawful.proofs.PassStates.{BornEmpty, Passed, IsRefusal, EndPasses, PhasePasses, HeldClear, OpenPasses, HoldsAlone, Passes}
+use Rattle.hy_lawful.proofs.PassStates.{BornEmpty, OwnClear, Passed, IsRefusal, EndPasses, PhasePasses, HeldClear, OpenPasses, HoldsAlone, Passes}
 use Rattle.hy_lawful.proofs.PassWritten.{Names, PhaseNames}
 use Rattle.hy_lawful.proofs.PassRivals.{opponent_wrote}
 use Rattle.hy_lawful.proofs.PassMays.{OwnMay, AllMay, MayWrite, IsAtWork, no_opponent, swept_may, found_is, free_may}
@@ -190,58 +190,51 @@ undo_writes setting state number begun visited cause h = elim (cases_Bool (ltb v
   | inr f ↦ rw f (unless_writes setting state number begun (Ends (ending_of cause)) (blocker state number) (undone_is cause, h))
 ]
 
-abbrev NoConflict : Cause → Type 0
-NoConflict RolledBack = Unit {0}
-NoConflict (Conflict table pos other) = ⊥
-NoConflict (Invalid table pos other statement) = Unit {0}
-NoConflict (Range table pos) = Unit {0}
-NoConflict (Full table) = Unit {0}
-
-no_conflict : (records : List Record) (entries : List Entry) (table pos : ℕ) (other : Label)
-    → first_hit records (map committed_of entries) ≡ Some (Conflict table pos other) → ⊥
-no_conflict records entries table pos other e =
-    is_invalid NoConflict records entries (Conflict table pos other) (λ of at label statement. tt) e
-
 -- what validation refuses names its hit
-hit_names : (order : List Entry) (begun : Begun) (cause : Cause) → first_hit begun.records (map committed_of (drop begun.prefix order)) ≡ Some cause
-    → IsRefusal order begun (ending_of cause)
-hit_names order begun RolledBack e = tt
-hit_names order begun (Conflict table pos other) e = absurd (no_conflict begun.records (drop begun.prefix order) table pos other e)
-hit_names order begun (Invalid table pos other statement) e = e
-hit_names order begun (Range table pos) e = tt
-hit_names order begun (Full table) e = tt
+hit_names : (order : List Entry) (begun : Begun) → OwnClear order begun → (cause : Cause)
+    → first_hit begun.records (map committed_of (drop begun.prefix order)) ≡ Some cause → IsRefusal order begun (ending_of cause)
+hit_names order begun clear cause e =
+    first_hit_is (λ (one : Cause). first_hit begun.records (map committed_of (drop begun.prefix order)) ≡ Some one → IsRefusal order begun (ending_of one))
+    (λ (n : ℕ). Unit {0}) begun.records (drop begun.prefix order) cause (any_record begun.records)
+    (λ i label at table pos statement q hit. record {
+      hit = hit;
+      rank = begun.prefix + i;
+      stands = sym (label_dropped begun.prefix order i) ∙ at;
+      clear = λ of there own before from to. clear of there own before from;
+    }) e e
 
-validated_writes : (setting : Setting) (state : State) (number : ℕ) (begun : Begun) (hit : Option Cause)
+validated_writes : (setting : Setting) (state : State) (number : ℕ) (begun : Begun) → OwnClear state.order begun → (hit : Option Cause)
     → first_hit begun.records (map committed_of (drop begun.prefix state.order)) ≡ hit
     → WorkTurn setting state number begun (validated_turn hit)
-validated_writes setting state number begun None e = e
-validated_writes setting state number begun (Some cause) e = (
+validated_writes setting state number begun clear None e = e
+validated_writes setting state number begun clear (Some cause) e = (
   tt,
   (
-    hit_names state.order begun cause e,
+    hit_names state.order begun clear cause e,
     is_invalid (λ (one : Cause). Names state (ending_of one)) begun.records (drop begun.prefix state.order) cause
         (λ table pos label statement. tt) e,
   ),
 )
 
-commit_writes : (setting : Setting) (state : State) (number : ℕ) (begun : Begun)
+commit_writes : (setting : Setting) (state : State) (number : ℕ) (begun : Begun) → OwnClear state.order begun
     → WorkTurn setting state number begun (commit_turn setting state number begun)
-commit_writes setting state number begun = unless_writes setting state number begun
+commit_writes setting state number begun clear = unless_writes setting state number begun
     (cond (wrote_nothing begun.own) (Ends ways.Read) (validated_turn (first_hit begun.records (map committed_of (drop begun.prefix state.order)))))
     (blocker state number)
     (elim (cases_Bool (wrote_nothing begun.own)) [
       | inl t ↦ rw t (refl, (tt, tt))
-      | inr f ↦ rw f (validated_writes setting state number begun (first_hit begun.records (map committed_of (drop begun.prefix state.order))) refl)
+      | inr f ↦ rw f (validated_writes setting state number begun clear (first_hit begun.records (map committed_of (drop begun.prefix state.order))) refl)
     ])
 
-closing_writes : (setting : Setting) (state : State) (number : ℕ) (begun : Begun) (commits : Bool)
+closing_writes : (setting : Setting) (state : State) (number : ℕ) (begun : Begun) → OwnClear state.order begun → (commits : Bool)
     → WorkTurn setting state number begun (closing_turn setting state number begun commits)
-closing_writes setting state number begun true = commit_writes setting state number begun
-closing_writes setting state number begun false = undo_writes setting state number begun 0 RolledBack (tt, tt)
+closing_writes setting state number begun clear true = commit_writes setting state number begun clear
+closing_writes setting state number begun clear false = undo_writes setting state number begun 0 RolledBack (tt, tt)
 
 working_writes : (setting : Setting) (state : State) (number : ℕ) (txn : Txn) (begun : Begun) (visited count : ℕ) → IsAtWork setting state number begun
     → (statement : Option Bound) → WorkTurn setting state number begun (working_turn setting state number txn begun visited count statement)
-working_writes setting state number txn begun visited count w None = closing_writes setting state number begun txn.commits
+working_writes setting state number txn begun visited count w None =
+    closing_writes setting state number begun (λ table pos own. (w.may table pos own).clear) txn.commits
 working_writes setting state number txn begun visited count w (Some statement) = statement_writes setting state number begun visited count statement w
 
 -- ---- what the open transaction is then

@@ -11,13 +11,15 @@ use Rattle.hy_render.specs.declared.Place.{Place}
 use Rattle.hy_machine.specs.declared.Setting.{Setting}
 use Rattle.hy_machine.specs.declared.Begun.{Begun}
 use Rattle.hy_machine.specs.declared.Entry.{Entry}
+use Rattle.hy_machine.specs.declared.Pair.{Pair}
 use Rattle.hy_machine.specs.Positions.{item_at}
 use Rattle.hy_machine.specs.Tables.{Cell, Own}
 use Rattle.hy_machine.specs.Writes.{place_at, written}
 use Rattle.hy_machine.specs.Validation.{committed_of, record_hit}
-use Rattle.hy_lawful.specs.Passing.{has_place, PassesBy, ChangesLieIn}
+use Rattle.hy_lawful.specs.Passing.{has_place, ChangesLieApart, PassesBy, ChangesLieIn}
 use Rattle.hy_lawful.proofs.PrintedChanges.{all_by_place, any_by_place, all_changes}
 use Rattle.hy_lawful.proofs.PrintedTables.{pair_there}
+use Rattle.hy_lawful.proofs.PassTables.{pair_at}
 use Rattle.hy_lawful.proofs.PassStates.{Passed}
 
 -- ---- places
@@ -75,6 +77,20 @@ pass_by setting order begun rank passed at from to =
       missed = all_changes (λ (change : Change). record_hit begun.records change.table change.before change.after ≡ None) entry.cells
           (λ table pos pair e some. (passed.passes at from to table pos pair (pair_there order at entry here table pos ∙ e)).missed);
     })
+
+-- an entry that does nothing where something was written changes none of it
+pub lies_apart : (order : List Entry) (own : Own) (at : ℕ)
+    → ((table pos : ℕ) → is_some (item_at own table pos) ≡ true → pair_at order at table pos ≡ None)
+    → IfSome (slice_get (map committed_of order) at) (ChangesLieApart (written own))
+lies_apart order own at clear =
+    mapped_if (ChangesLieApart (written own)) committed_of order at (λ entry here.
+    all_changes (λ (change : Change). IsFalse (has_place (written own) change.table change.pos)) entry.cells
+    (λ table pos pair e some. place_missing own table pos (by_item table pos pair (pair_there order at entry here table pos ∙ e) (item_at own table pos) refl)))
+  where
+    by_item : (table pos : ℕ) (pair : Pair) → pair_at order at table pos ≡ Some pair → (item : Option Cell) → item_at own table pos ≡ item
+        → item_at own table pos ≡ None
+    by_item table pos pair e None i = i
+    by_item table pos pair e (Some cell) i = absurd (let never : None ≡ Some pair = sym (clear table pos (ap is_some i)) ∙ e in cc)
 
 -- the entry at its place changes what it wrote
 pub lies_in : (setting : Setting) (order : List Entry) (begun : Begun) (rank : ℕ) → Passed setting order begun rank

@@ -141,7 +141,7 @@ first_hit_is P Q records (entry ∷ entries) cause q f e =
       | inr h ↦ first_hit_is P Q records entries cause q (λ i label. f (suc i) label) h
     ]
 
-any_record : (records : List Record) → AllByRecursion (λ (of : Record). Unit {0}) records
+pub any_record : (records : List Record) → AllByRecursion (λ (of : Record). Unit {0}) records
 any_record [] = tt
 any_record (of ∷ records) = (tt, any_record records)
 

@@ -1,16 +1,19 @@
 -- What a visit of an INSERT makes of what its transaction has run.
-use Rattle.std.proofs.Common.{◌≡◌, ℕ, suc, ◌+◌, ◌-◌, ◌*◌, ◌<◌, ◌≤◌, List, [], Option, None, Some, Bool, true, false, length}
-use Rattle.std.proofs.Common.{cond, not, is_some, ltb, refl, ap, ◌∙◌, arith, inl, inr, mul-le-mul_right}
-use Rattle.std.specs.Prelude.{◌&&◌}
-use Rattle.std.specs.List.{list_any, range_with_len}
-use Rattle.std.proofs.lemmas.Bool.{cases_Bool, cases_lt, lt-ltb, le-ltb, ltb-true}
+use Rattle.std.proofs.Common.{◌≡◌, ℕ, zero, suc, ◌+◌, ◌-◌, ◌*◌, ◌<◌, ◌≤◌, List, [], ◌∷◌, Option, None, Some, Bool, true, false, length}
+use Rattle.std.proofs.Common.{cond, get_or, not, is_some, ltb, refl, ap, ◌∙◌, arith, inl, inr, mul-le-mul_right}
+use Rattle.std.specs.Prelude.{◌&&◌, ◌==◌, slice_get}
+use Rattle.std.specs.List.{AllByRecursion, list_any, range_with_len}
+use Rattle.std.proofs.Math.ListN.{get_or-eq_default}
+use Rattle.std.proofs.lemmas.Bool.{cases_Bool, cases_lt, lt-ltb, le-ltb, ltb-true, or_from}
 use Rattle.hy_value.specs.declared.Value.{Value}
 use Rattle.hy_bound.specs.declared.Record.{Record}
 use Rattle.hy_bound.specs.declared.Reply.TheVariants as reply
 use Rattle.hy_bound.specs.declared.Bound.{Bound}
 use Rattle.hy_bound.specs.declared.Bound.TheVariants.{Insert}
+use Rattle.hy_bound.specs.Changes.{present}
 use Rattle.hy_bound.specs.Records.{shape_of}
 use Rattle.hy_plan.specs.Reads.{records_of}
+use Rattle.hy_meaning.specs.Statement.{has_key_of}
 use Rattle.hy_machine.specs.declared.Setting.{Setting}
 use Rattle.hy_machine.specs.declared.State.{State}
 use Rattle.hy_machine.specs.declared.Begun.{Begun}
@@ -22,8 +25,12 @@ use Rattle.hy_machine.specs.Writes.{with_write}
 use Rattle.hy_machine.specs.Sessions.{session_at, snapshot, view}
 use Rattle.hy_machine.specs.Holding.{is_free}
 use Rattle.hy_machine.specs.Visits.{has_key_in, sees_key, free_position, checks_of}
-use Rattle.hy_machine.specs.Turns.{check_turn, place_turn, insert_turn}
+use Rattle.hy_machine.specs.Turns.{rows_seen, check_turn, place_turn, insert_turn}
+use Rattle.hy_replay.specs.Laws.{AreTables}
 use Rattle.hy_replay.specs.Ran.{One, Ran, has_key_at, placed_at}
+use Rattle.hy_lawful.specs.Refusing.{finds_key}
+use Rattle.hy_lawful.proofs.Booleans.{and_second}
+use Rattle.hy_lawful.proofs.PassTables.{covered_are, tables_are}
 use Rattle.hy_lawful.proofs.RunFree.{PassesAt, any_within, any_at, none_at, none_within, found_at, HasNothing, free_has_nothing}
 use Rattle.hy_lawful.proofs.RunVisits.{HasLooked, IsNext, RunTurn, visits}
 
@@ -61,6 +68,35 @@ unseen_is_nowhere setting visited row (Some key) tables table past clear =
     none_within (λ pos. has_key_in row (Some key) (item_at tables table pos)) 0 (capacity setting) (capacity setting) (omega arith)
     (λ pos from below. clear pos
     (let more : setting.chunks * setting.rows ≤ visited * setting.rows = mul-le-mul_right setting.rows past in omega arith) below)
+
+-- ---- a new row
+
+-- a position behind the end of a table has no row
+behind_end : (tables : Tables) (most table pos : ℕ) → AllByRecursion (λ (cells : List Cell). length cells ≡ most) tables → most ≤ pos
+    → item_at tables table pos ≡ None
+behind_end [] most table pos l past = refl
+behind_end (cells ∷ tables) most zero pos l past = get_or-eq_default cells None (omega (arith, l.0, past))
+behind_end (cells ∷ tables) most (suc table) pos l past = behind_end tables most table pos l.1 past
+
+-- a key that no check sees is at no position
+no_key_at : (setting : Setting) (visited : ℕ) (row : List Value) (key : Option ℕ) (tables : Tables) (table : ℕ) → AreTables setting tables
+    → checks_of setting key ≤ visited
+    → ((pos : ℕ) → pos < visited * setting.rows → pos < checks_of setting key * setting.rows → has_key_in row key (item_at tables table pos) ≡ false)
+    → (pos : ℕ) → has_key_in row key (item_at tables table pos) ≡ false
+no_key_at setting visited row None tables table are past clear pos = no_key row (item_at tables table pos)
+no_key_at setting visited row (Some key) tables table are past clear pos = elim (cases_lt pos (capacity setting)) [
+  | inl below ↦ clear pos
+      (let more : setting.chunks * setting.rows ≤ visited * setting.rows = mul-le-mul_right setting.rows past in omega (arith, more, below)) below
+  | inr behind ↦ ap (has_key_in row (Some key)) (behind_end tables (capacity setting) table pos are.long behind)
+]
+
+-- a key that is at no position is in no row
+no_row : (row : List Value) (key : Option ℕ) (cells : List Cell) → ((pos : ℕ) → has_key_in row key (get_or cells pos None) ≡ false)
+    → list_any (has_key_of row key) (present cells) ≡ false
+no_row row key [] clear = refl
+no_row row key (None ∷ cells) clear = no_row row key cells (λ pos. clear (suc pos))
+no_row row key (Some other ∷ cells) clear =
+    or_from (has_key_of row key other) (list_any (has_key_of row key) (present cells)) (clear 0) (no_row row key cells (λ pos. clear (suc pos)))
 
 -- ---- visits
 
@@ -109,6 +145,21 @@ check_run setting state statements number begun given visited count table row l 
       few = omega (arith, chunks);
     })
 
+-- where all is looked through, the row is new
+is_new : (setting : Setting) (state : State) (statements : List Bound) (number : ℕ) (begun : Begun) (given : Ran) (visited count table : ℕ)
+    (row : List Value) → Looks setting state statements number begun given visited count table row → checks_of setting (key_of setting table) ≤ visited
+    → finds_key setting.shapes table (slice_get statements (length begun.replies)) (rows_seen (over (snapshot setting state begun.prefix) given.own) table)
+    ≡ false
+is_new setting state statements number begun given visited count table row l past =
+    let tables : Tables = snapshot setting state begun.prefix in
+    let seen : Tables = over tables begun.own in
+    ap (λ (own : Own). finds_key setting.shapes table (slice_get statements (length begun.replies)) (rows_seen (over tables own) table)) l.looked.own
+    ∙ (ap (λ (statement : Option Bound). finds_key setting.shapes table statement (rows_seen seen table)) l.next.here
+    ∙ and_second (table == table) (list_any (has_key_of row (key_of setting table)) (rows_seen seen table))
+    (no_row row (key_of setting table) (get_or seen table [])
+    (no_key_at setting visited row (key_of setting table) seen table
+    (covered_are setting (λ (own : Cell). own) tables begun.own (tables_are setting state.order begun.prefix)) past l.looked.clear)))
+
 place_run : (setting : Setting) (state : State) (statements : List Bound) (number : ℕ) (begun : Begun) (given : Ran) (visited count table : ℕ)
     (row : List Value) → Looks setting state statements number begun given visited count table row → checks_of setting (key_of setting table) ≤ visited
     → (chunk : ℕ) → visited ≡ checks_of setting (key_of setting table) + chunk
@@ -144,7 +195,7 @@ place_run setting state statements number begun given visited count table row l 
             short;
         few = omega (arith, ltb-true (suc chunk) setting.chunks t, at);
       }))
-  | inr f ↦ rw f tt
+  | inr f ↦ rw f (is_new setting state statements number begun given visited count table row l past)
 ]
 
 pub insert_run : (setting : Setting) (state : State) (statements : List Bound) (number : ℕ) (begun : Begun) (given : Ran) (visited count table : ℕ)

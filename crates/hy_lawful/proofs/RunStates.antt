@@ -53,7 +53,7 @@ pub record EndedRun (setting : Setting) (order : List Entry) (statements : List 
   pub run : IsRun setting (tables_at setting order finished.begun.prefix) statements finished.begun given
   pub wrote : IfSome (committed_at finished.ending) (λ (rank : ℕ). given.own ≡ finished.begun.own)
   pub start : finished.begun.prefix ≤ length order
-  pub refused : WasRefused (over (tables_at setting order finished.begun.prefix) finished.begun.own)
+  pub refused : WasRefused setting.shapes (over (tables_at setting order finished.begun.prefix) finished.begun.own)
       (over (tables_at setting order finished.begun.prefix) given.own) (slice_get statements (length finished.begun.replies)) finished.ending
 
 -- an open transaction has run so far
@@ -94,7 +94,7 @@ ended_grows setting order more statements finished h = record {
       (sym (tables_kept setting order more finished.begun.prefix h.start)) h.run;
   wrote = h.wrote;
   start = omega (arith, h.start, length-append order more);
-  refused = subst (λ (tables : Tables). WasRefused (over tables finished.begun.own) (over tables h.given.own)
+  refused = subst (λ (tables : Tables). WasRefused setting.shapes (over tables finished.begun.own) (over tables h.given.own)
       (slice_get statements (length finished.begun.replies)) finished.ending)
       (sym (tables_kept setting order more finished.begun.prefix h.start)) h.refused;
 }

@@ -98,7 +98,7 @@ unless_run setting tables statements begun given turn (Some by) h = tt
 
 -- what is undone has not committed
 undone_run : (setting : Setting) (tables : Tables) (statements : List Bound) (begun : Begun) (given : Ran) (cause : Cause)
-    → WasRefused (over tables begun.own) (over tables given.own) (slice_get statements (length begun.replies)) (ending_of cause)
+    → WasRefused setting.shapes (over tables begun.own) (over tables given.own) (slice_get statements (length begun.replies)) (ending_of cause)
     → RunTurn setting tables statements begun given (Ends (ending_of cause))
 undone_run setting tables statements begun given RolledBack h = (tt, h)
 undone_run setting tables statements begun given (Conflict table pos other) h = (tt, h)
@@ -127,7 +127,8 @@ validated_run : (setting : Setting) (tables : Tables) (statements : List Bound) 
     → RunTurn setting tables statements begun given (validated_turn hit)
 validated_run setting tables statements begun given same entries None e = same
 validated_run setting tables statements begun given same entries (Some cause) e =
-    is_invalid (λ (one : Cause). WasRefused (over tables begun.own) (over tables given.own) (slice_get statements (length begun.replies)) (ending_of one))
+    is_invalid (λ (one : Cause). WasRefused setting.shapes (over tables begun.own) (over tables given.own) (slice_get statements (length begun.replies))
+    (ending_of one))
     begun.records entries cause (λ table pos label statement. tt) e
 
 commit_run : (setting : Setting) (state : State) (statements : List Bound) (number : ℕ) (begun : Begun) (given : Ran) → given.own ≡ begun.own

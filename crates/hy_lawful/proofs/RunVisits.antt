@@ -74,7 +74,7 @@ Stands setting tables statements begun given (Working visited count) =
     At setting tables begun given visited count (slice_get statements (length begun.replies))
 Stands setting tables statements begun given (Stamping visited) = given.own ≡ begun.own
 Stands setting tables statements begun given (Undoing visited cause) =
-    WasRefused (over tables begun.own) (over tables given.own) (slice_get statements (length begun.replies)) (ending_of cause)
+    WasRefused setting.shapes (over tables begun.own) (over tables given.own) (slice_get statements (length begun.replies)) (ending_of cause)
 
 -- what a turn of an open transaction does
 abbrev pub RunTurn : Setting → Tables → List Bound → Begun → Ran → Turn → Type 0
@@ -88,7 +88,7 @@ RunTurn setting tables statements begun given (Answers writes reply took records
 RunTurn setting tables statements begun given Enters = given.own ≡ begun.own
 RunTurn setting tables statements begun given (Ends ending) =
     IfSome (committed_at ending) (λ (rank : ℕ). given.own ≡ begun.own)
-    × WasRefused (over tables begun.own) (over tables given.own) (slice_get statements (length begun.replies)) ending
+    × WasRefused setting.shapes (over tables begun.own) (over tables given.own) (slice_get statements (length begun.replies)) ending
 
 -- ---- a statement is begun
 
@@ -186,11 +186,11 @@ refused_run : (setting : Setting) (state : State) (number : ℕ) (begun : Begun)
     (kind : WriteKind) (pred : Condition) (table : ℕ) → Writes statement kind pred table
     → HasSwept setting (snapshot setting state begun.prefix) begun given visited count kind pred table
     → (cause : Cause) → swept setting state number begun kind pred table visited ≡ Err cause
-    → WasRefused (over (snapshot setting state begun.prefix) begun.own) (over (snapshot setting state begun.prefix) given.own) (Some statement)
+    → WasRefused setting.shapes (over (snapshot setting state begun.prefix) begun.own) (over (snapshot setting state begun.prefix) given.own) (Some statement)
     (ending_of cause)
 refused_run setting state number begun given visited count statement kind pred table w s cause e =
     let tables : Tables = snapshot setting state begun.prefix in
-    let P : Cause → Type 0 = λ one. WasRefused (over tables begun.own) (over tables given.own) (Some statement) (ending_of one) in
+    let P : Cause → Type 0 = λ one. WasRefused setting.shapes (over tables begun.own) (over tables given.own) (Some statement) (ending_of one) in
     range_refuses P table (verdict_at setting state number begun kind pred table) (visited * setting.rows) setting.rows cause
     (λ pos one from v.
     verdict_fails P kind pred table pos (opponent setting state number begun.prefix table pos) (item_at (over tables begun.own) table pos) one
@@ -213,7 +213,7 @@ pub write_run : (setting : Setting) (state : State) (statements : List Bound) (n
     → (writes : Result (List Write) Cause) → swept setting state number begun kind pred table visited ≡ writes
     → RunTurn setting (snapshot setting state begun.prefix) statements begun given (write_turn setting begun visited count statement kind writes)
 write_run setting state statements number begun given visited count statement kind pred table n w at gives s (Err cause) e =
-    subst (λ (next : Option Bound). WasRefused (over (snapshot setting state begun.prefix) begun.own)
+    subst (λ (next : Option Bound). WasRefused setting.shapes (over (snapshot setting state begun.prefix) begun.own)
     (over (snapshot setting state begun.prefix) given.own) next (ending_of cause)) (sym n.here)
     (refused_run setting state number begun given visited count statement kind pred table w s cause e)
 write_run setting state statements number begun given visited count statement kind pred table n w at gives s (Ok writes) e =

@@ -1,6 +1,6 @@
--- A row out of range at a position is one of the rows that stand in its table.
+-- A row out of range at a position, or one that has a key, is one of the rows that stand in its table.
 use Rattle.std.proofs.Common.{◌≡◌, ℕ, zero, suc, List, [], ◌∷◌, Option, None, Some, Bool, true, false, get_or, cond, refl, ap, ◌∙◌}
-use Rattle.std.specs.Prelude.{◌||◌}
+use Rattle.std.specs.Prelude.{◌&&◌, ◌||◌, ◌==◌}
 use Rattle.std.specs.List.{list_any}
 use Rattle.std.specs.Ordering.{is_lt}
 use Rattle.std.proofs.lemmas.Bool.{or_left, or_right}
@@ -8,12 +8,16 @@ use Rattle.hy_value.specs.declared.Value.{Value}
 use Rattle.hy_value.specs.Order.{row_cmp}
 use Rattle.hy_value.specs.Sorted.{put_row, sorted}
 use Rattle.hy_bound.specs.declared.Bound.{Bound}
+use Rattle.hy_bound.specs.declared.Bound.TheVariants.{Select, Group, Insert, Update, Delete}
+use Rattle.hy_bound.specs.declared.Shape.{Shape}
 use Rattle.hy_bound.specs.Changes.{present}
-use Rattle.hy_meaning.specs.Statement.{rows_in}
+use Rattle.hy_bound.specs.Records.{shape_of}
+use Rattle.hy_meaning.specs.Statement.{rows_in, has_key_of}
 use Rattle.hy_machine.specs.Positions.{item_at}
 use Rattle.hy_machine.specs.Tables.{Cell, Tables}
+use Rattle.hy_machine.specs.Turns.{rows_seen}
 use Rattle.hy_replay.specs.Laws.{bags_of}
-use Rattle.hy_lawful.specs.Refusing.{goes_out, goes_out_at}
+use Rattle.hy_lawful.specs.Refusing.{goes_out, goes_out_at, finds_key}
 
 or_swapped : (a b c : Bool) → (a || (b || c)) ≡ (b || (a || c))
 or_swapped true true c = refl
@@ -48,6 +52,19 @@ bag_at : (tables : Tables) (table : ℕ) → rows_in (bags_of tables) table ≡ 
 bag_at [] table = refl
 bag_at (cells ∷ tables) zero = refl
 bag_at (cells ∷ tables) (suc table) = bag_at tables table
+
+-- a statement finds its key among the rows of a table or in its bag
+pub found_in_bags : (shapes : List Shape) (table : ℕ) (statement : Option Bound) (tables : Tables)
+    → finds_key shapes table statement (rows_in (bags_of tables) table) ≡ finds_key shapes table statement (rows_seen tables table)
+found_in_bags shapes table None tables = refl
+found_in_bags shapes table (Some (Select from ons pred items)) tables = refl
+found_in_bags shapes table (Some (Group of pred key aggregate)) tables = refl
+found_in_bags shapes table (Some (Insert of new)) tables =
+    ap (λ (found : Bool). of == table && found)
+    (ap (list_any (has_key_of new (shape_of shapes table).key)) (bag_at tables table)
+    ∙ any_sorted (has_key_of new (shape_of shapes table).key) (rows_seen tables table))
+found_in_bags shapes table (Some (Update of sets pred)) tables = refl
+found_in_bags shapes table (Some (Delete of pred)) tables = refl
 
 -- a row out of range at a position is in its table's bag
 pub out_in_bags : (table : ℕ) (statement : Option Bound) (tables : Tables) (pos : ℕ) → goes_out_at table statement (item_at tables table pos) ≡ true

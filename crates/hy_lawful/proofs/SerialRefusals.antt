@@ -1,14 +1,15 @@
 -- What was refused was so for a cause.
-use Rattle.std.proofs.Common.{◌≡◌, ℕ, suc, ◌+◌, ◌<◌, ◌≤◌, List, Option, None, Some, true, false, is_some}
+use Rattle.std.proofs.Common.{◌≡◌, ℕ, suc, ◌+◌, ◌<◌, ◌≤◌, List, Option, None, Some, Bool, true, false, is_some}
 use Rattle.std.proofs.Common.{inl, inr, length, map, take, drop, refl, ap, sym, ◌∙◌, subst, arith}
 use Rattle.std.proofs.lemmas.Bool.{cases_Bool, ltb-true}
-use Rattle.std.specs.Prelude.{IsTrue, IsFalse, nat_lt, slice_get, ◌||◌, ◌&&◌, ◌==◌, is_none}
+use Rattle.std.specs.Prelude.{IsTrue, IsFalse, IfSome, nat_lt, slice_get, ◌||◌, ◌&&◌, ◌==◌, is_none}
 use Rattle.std.specs.List.{list_any}
 use Rattle.std.specs.Option.{IsSomeAnd}
 use Rattle.std.proofs.lemmas.List.{drop-map}
 use Rattle.hy_bound.specs.declared.Bound.{Bound}
 use Rattle.hy_bound.specs.declared.Bound.TheVariants.{Select, Group, Insert, Update, Delete}
 use Rattle.hy_bound.specs.declared.Record.{Record}
+use Rattle.hy_bound.specs.declared.Reply.{Reply}
 use Rattle.hy_meaning.specs.Statement.{Database, rows_in}
 use Rattle.hy_meaning.specs.Serial.{Alone, alone_of}
 use Rattle.hy_stamp.specs.declared.Label.{Label}
@@ -23,7 +24,6 @@ use Rattle.hy_machine.specs.declared.Finished.{Finished}
 use Rattle.hy_machine.specs.Positions.{item_at}
 use Rattle.hy_machine.specs.Tables.{Cell, Tables, over}
 use Rattle.hy_machine.specs.Sessions.{session_at, snapshot}
-use Rattle.hy_machine.specs.declared.Cause.TheVariants as cause
 use Rattle.hy_machine.specs.Writes.{written}
 use Rattle.hy_machine.specs.Validation.{committed_of, first_hit}
 use Rattle.hy_machine.specs.Outcomes.{txn_outcome_of, outcome_of}
@@ -33,9 +33,9 @@ use Rattle.hy_lawful.specs.Scripts.{statements_of}
 use Rattle.hy_lawful.specs.Outcomes.{outcome_at, committed_at, refused_statement}
 use Rattle.hy_lawful.specs.Reached.{EndedHasRun, statements_at}
 use Rattle.hy_lawful.specs.Databases.{database_at}
-use Rattle.hy_lawful.specs.Refusing.{IsRefusedBy, IsMetBy, WasRefused, goes_out, goes_out_at}
-use Rattle.hy_lawful.specs.Written.{would_write, followed}
-use Rattle.hy_lawful.specs.Passing.{has_place}
+use Rattle.hy_lawful.specs.Refusing.{IsRefusedBy, IsMetBy, IsLeftAloneTo, WasRefused, goes_out, goes_out_at, finds_key}
+use Rattle.hy_lawful.specs.Written.{would_write, followed, some_inserted}
+use Rattle.hy_lawful.specs.Passing.{has_place, ChangesLieApart}
 use Rattle.hy_lawful.specs.Cells.{cell_at as printed_at}
 use Rattle.hy_lawful.proofs.Booleans.{and_right}
 use Rattle.hy_lawful.specs.Overlaps.{reaches, may_overlap, is_below, stands_before}
@@ -51,11 +51,11 @@ use Rattle.hy_lawful.proofs.Outcomes.{outcome_found}
 use Rattle.hy_lawful.proofs.SerialScripts.{statements_behind}
 use Rattle.hy_lawful.proofs.PrintedTables.{printed_is}
 use Rattle.hy_lawful.proofs.PassTables.{tables_are}
-use Rattle.hy_lawful.proofs.PassStates.{IsRefusal}
+use Rattle.hy_lawful.proofs.PassStates.{IsFirstHit, IsRefusal}
 use Rattle.hy_lawful.proofs.Lists.{one_of}
-use Rattle.hy_lawful.proofs.PrintedPlaces.{place_missing, place_found}
+use Rattle.hy_lawful.proofs.PrintedPlaces.{place_missing, place_found, lies_apart}
 use Rattle.hy_lawful.proofs.PassWritten.{HasWritten, by_ended, by_open, Names}
-use Rattle.hy_lawful.proofs.SerialRanges.{out_in_bags}
+use Rattle.hy_lawful.proofs.SerialRanges.{found_in_bags, out_in_bags}
 use Rattle.hy_lawful.proofs.RangeRows.{out_followed}
 use Rattle.hy_lawful.proofs.RunSweeps.{kept_item}
 use Rattle.hy_lawful.proofs.SerialEnd.{answered_all}
@@ -64,12 +64,12 @@ use Rattle.hy_lawful.proofs.SerialEnd.{ending_at, stands_committed, bags_at, ord
 -- the refused statement, by its label
 refused_over : (setting : Setting) (state : State) (end : AtEnd setting state) → (number before : ℕ) (finished : Finished)
     → (at : slice_get (session_at state number).done before ≡ Some finished)
-    → WasRefused (over (snapshot setting state finished.begun.prefix) finished.begun.own)
+    → WasRefused setting.shapes (over (snapshot setting state finished.begun.prefix) finished.begun.own)
     (over (snapshot setting state finished.begun.prefix) (end.ran number before finished at).given.own)
     (refused_statement setting.programs (txn_outcome_of setting number before finished)) finished.ending
 refused_over setting state end number before finished at =
     let has : EndedHasRun setting state number before finished = end.ran number before finished at in
-    subst (λ (statements : List Bound). WasRefused (over (snapshot setting state finished.begun.prefix) finished.begun.own)
+    subst (λ (statements : List Bound). WasRefused setting.shapes (over (snapshot setting state finished.begun.prefix) finished.begun.own)
     (over (snapshot setting state finished.begun.prefix) has.given.own) (slice_get statements (length finished.begun.replies)) finished.ending)
     (sym (statements_behind setting (record { session = number; txn = suc before }) before refl)) has.refused
 
@@ -178,6 +178,19 @@ named_met setting state end number before finished other m =
     (λ (rank : ℕ). IsTrue (reaches (outcome_of setting state) (txn_outcome_of setting number before finished) (rank + 1)))) (sym committed.ending)
     (reaches_told setting state number before (m.rank + 1) finished m.reaches))
 
+-- at the end no entry up to the one of a hit has changed what the refused one wrote
+left_alone_to : (setting : Setting) (state : State) → AtEnd setting state → (number before : ℕ) (finished : Finished) (table pos : ℕ) (other : Label)
+    (statement : ℕ) → IsFirstHit state.order finished.begun table pos other statement
+    → IsSomeAnd (outcome_at (outcome_of setting state) other) (IsLeftAloneTo (outcome_of setting state) (txn_outcome_of setting number before finished))
+left_alone_to setting state end number before finished table pos other statement first =
+    let committed : HasCommitted state other first.rank =
+    entry_committed setting state end.over first.rank other (end.over.fits.ranked first.rank other first.stands) in
+    subst (λ (o : Option TxnOutcome). IsSomeAnd o (IsLeftAloneTo (outcome_of setting state) (txn_outcome_of setting number before finished)))
+    (sym (outcome_has setting state other committed.has))
+    (subst (λ (ending : Ending). IsSomeAnd (committed_at ending) (λ (rank : ℕ). (at : ℕ) → finished.begun.prefix ≤ at → at ≤ rank
+    → IfSome (slice_get (map committed_of state.order) at) (ChangesLieApart (written finished.begun.own)))) (sym committed.ending)
+    (λ at from to. lies_apart state.order finished.begun.own at (λ of there own. first.clear of there own at from to)))
+
 end_names : (setting : Setting) (state : State) → AtEnd setting state → (number before : ℕ) (finished : Finished)
     → slice_get (session_at state number).done before ≡ Some finished → Names state finished.ending
 end_names setting state end number before finished at =
@@ -200,7 +213,7 @@ refused_by laws setting state end number before finished at (Conflict table pos 
     let selected : would_write table statement (item_at (snapshot setting state finished.begun.prefix) table pos) ≡ true =
     ap (would_write table statement)
     (sym (kept_item (λ (own : Cell). own) (snapshot setting state finished.begun.prefix) finished.begun.own table pos free))
-    ∙ subst (WasRefused (over (snapshot setting state finished.begun.prefix) finished.begun.own)
+    ∙ subst (WasRefused setting.shapes (over (snapshot setting state finished.begun.prefix) finished.begun.own)
     (over (snapshot setting state finished.begun.prefix) has.given.own) statement) e (refused_over setting state end number before finished at) in
     record {
       selects = ap (would_write table statement) (printed_is setting state.order (order_of setting state end) finished.begun.prefix table pos) ∙ selected;
@@ -215,33 +228,48 @@ refused_by laws setting state end number before finished at (Invalid table pos o
     let invalid : IsInvalid setting state.order (txn_outcome_of setting number before finished) other statement =
     subst (Ends setting state.order (txn_outcome_of setting number before finished)) e
     (done_fits setting state end.over.fits number before finished at).ends in
-    let hit : first_hit finished.begun.records (map committed_of (drop finished.begun.prefix state.order)) ≡ Some (cause.Invalid table pos other statement) =
+    let first : IsFirstHit state.order finished.begun table pos other statement =
     subst (IsRefusal state.order finished.begun) e (end_passes setting state end number before finished at).1 in
     record {
       hit = ap (λ (records : List Record). first_hit records (drop finished.begun.prefix (map committed_of state.order)))
           (sym (logs_alone laws setting state end number before finished at (answered_all setting number before finished invalid.answers)))
-          ∙ (ap (first_hit finished.begun.records) (drop-map committed_of finished.begun.prefix state.order) ∙ hit);
+          ∙ (ap (first_hit finished.begun.records) (drop-map committed_of finished.begun.prefix state.order) ∙ first.hit);
       met = named_met setting state end number before finished other
           (subst (EndRoom setting state number before finished.begun.prefix) e (ended_room setting state end.reached number before finished at));
+      left_alone = left_alone_to setting state end number before finished table pos other statement first;
     }
 refused_by laws setting state end number before finished at (Range table pos) e =
     let has : EndedHasRun setting state number before finished = end.ran number before finished at in
     let tables : Tables = snapshot setting state finished.begun.prefix in
     let many : ℕ = length finished.begun.replies in
     let label : Label = record { session = number; txn = suc before } in
+    let out_here : List Bound → Cell → List Reply → Bool = λ statements cell replies.
+    goes_out_at table (refused_statement setting.programs (txn_outcome_of setting number before finished)) (followed table statements cell)
+    || (is_none cell && (has_place (written finished.begun.own) table pos
+    && some_inserted (goes_out_at table (refused_statement setting.programs (txn_outcome_of setting number before finished))) table statements replies)) in
     let statement : Option Bound = refused_statement setting.programs (txn_outcome_of setting number before finished) in
-    let refused : WasRefused (over tables finished.begun.own) (over tables has.given.own) statement (Range table pos) =
-    subst (WasRefused (over tables finished.begun.own) (over tables has.given.own) statement) e (refused_over setting state end number before finished at) in
+    let refused : WasRefused setting.shapes (over tables finished.begun.own) (over tables has.given.own) statement (Range table pos) =
+    subst (WasRefused setting.shapes (over tables finished.begun.own) (over tables has.given.own) statement) e
+    (refused_over setting state end number before finished at) in
     record {
       some = ap (λ (one : Alone). list_any (goes_out table statement) (rows_in one.database table))
           (answered_alone laws setting state end number before finished at)
           ∙ out_in_bags table statement (over tables has.given.own) pos refused.0;
-      here = ap (λ (cell : Cell). goes_out_at table statement (followed table (take many (statements_of setting.programs label)) cell)
-          || (is_none cell && has_place (written finished.begun.own) table pos))
+      here = ap (λ (cell : Cell). out_here (take many (statements_of setting.programs label)) cell finished.begun.replies)
           (printed_is setting state.order (order_of setting state end) finished.begun.prefix table pos)
-          ∙ (ap (λ (statements : List Bound). goes_out_at table statement (followed table (take many statements) (item_at tables table pos))
-          || (is_none (item_at tables table pos) && has_place (written finished.begun.own) table pos)) (statements_behind setting label before refl)
+          ∙ (ap (λ (statements : List Bound). out_here (take many statements) (item_at tables table pos) finished.begun.replies)
+          (statements_behind setting label before refl)
+          ∙ (ap (out_here (take many (statements_at setting number before)) (item_at tables table pos)) (sym has.has_run.replies)
           ∙ out_followed setting tables (take many (statements_at setting number before)) finished.begun.took has.given finished.begun.own table pos statement
-          (tables_are setting state.order finished.begun.prefix) has.has_run.came_to refused.0 refused.1);
+          (tables_are setting state.order finished.begun.prefix) has.has_run.came_to refused.0 refused.1));
     }
-refused_by laws setting state end number before finished at (Full table) e = tt
+refused_by laws setting state end number before finished at (Full table) e =
+    let has : EndedHasRun setting state number before finished = end.ran number before finished at in
+    let tables : Tables = snapshot setting state finished.begun.prefix in
+    let statement : Option Bound = refused_statement setting.programs (txn_outcome_of setting number before finished) in
+    let refused : WasRefused setting.shapes (over tables finished.begun.own) (over tables has.given.own) statement (Full table) =
+    subst (WasRefused setting.shapes (over tables finished.begun.own) (over tables has.given.own) statement) e
+    (refused_over setting state end number before finished at) in
+    ap (λ (one : Alone). finds_key setting.shapes table statement (rows_in one.database table))
+    (answered_alone laws setting state end number before finished at)
+    ∙ (found_in_bags setting.shapes table statement (over tables has.given.own) ∙ refused)

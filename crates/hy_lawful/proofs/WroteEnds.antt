@@ -32,21 +32,21 @@ use Rattle.hy_lawful.proofs.RunSweeps.{writes_apart, sweep_below}
 use Rattle.hy_lawful.proofs.WroteSweeps.{HadSwept, HadWritten}
 use Rattle.hy_lawful.proofs.WroteStates.{EndedWrote}
 use Rattle.hy_lawful.proofs.WroteFollows.{RoomIn, Room}
-use Rattle.hy_lawful.proofs.WroteRows.{IsRowAt, StandsSo, change_writes, change_follows, all_follow, or_false}
+use Rattle.hy_lawful.proofs.WroteRows.{IsCellAt, StandsSo, change_writes, change_follows, all_follow, or_false}
 
 -- ---- a row at the start
 
 -- a row stands at a position that its table has
-record IsThere (tables : Tables) (most table pos : ℕ) : Type 0 where
-  table_below : table < length tables
-  below : pos < most
+pub record IsThere (tables : Tables) (most table pos : ℕ) : Type 0 where
+  pub table_below : table < length tables
+  pub below : pos < most
 
 cell_there : (cells : List Cell) (pos : ℕ) (row : List Value) → get_or cells pos None ≡ Some row → pos < length cells
 cell_there [] pos row e = absurd cc
 cell_there (cell ∷ cells) zero row e = omega arith
 cell_there (cell ∷ cells) (suc pos) row e = omega (arith, cell_there cells pos row e)
 
-row_there : (tables : Tables) (most table pos : ℕ) (row : List Value) → AllByRecursion (λ (cells : List Cell). length cells ≡ most) tables
+pub row_there : (tables : Tables) (most table pos : ℕ) (row : List Value) → AllByRecursion (λ (cells : List Cell). length cells ≡ most) tables
     → item_at tables table pos ≡ Some row → IsThere tables most table pos
 row_there [] most table pos row l e = absurd cc
 row_there (cells ∷ tables) most zero pos row l e = record { table_below = omega arith; below = omega (arith, cell_there cells pos row e, l.0) }
@@ -77,26 +77,31 @@ blank_item n (one ∷ rows) zero pos = blank_cell n pos
 blank_item n (one ∷ rows) (suc table) pos = blank_item n rows table pos
 
 pub row_at : (setting : Setting) (tables : Tables) (table pos : ℕ) (row : List Value) → AreTables setting tables → item_at tables table pos ≡ Some row
-    → IsRowAt setting tables table pos row
+    → IsCellAt setting tables table pos (Some row)
 row_at setting tables table pos row are e =
-    record { are = are; row_is = e; below = (row_there tables (capacity setting) table pos row are.long e).below }
+    record { are = are; under_is = e; below = (row_there tables (capacity setting) table pos row are.long e).below }
 
-pub starts_so : (setting : Setting) (tables : Tables) (table pos : ℕ) (row : List Value) → IsRowAt setting tables table pos row
-    → StandsSo setting (blank_own setting) table pos row (Some row) false
-starts_so setting tables table pos row is =
-    let there : IsThere tables (capacity setting) table pos = row_there tables (capacity setting) table pos row is.are.long is.row_is in
+-- where a cell stands nothing is written yet
+pub begins_so : (setting : Setting) (tables : Tables) (table pos : ℕ) (under : Cell) → IsCellAt setting tables table pos under → table < length tables
+    → StandsSo setting (blank_own setting) table pos under under false
+begins_so setting tables table pos under is there =
     let none : item_at (blank_own setting) table pos ≡ None = blank_item (capacity setting) setting.first table pos in
     record {
       fits = blank_fits setting;
-      room = blank_room (capacity setting) setting.first table pos (omega (arith, there.table_below, is.are.many)) there.below;
+      room = blank_room (capacity setting) setting.first table pos (omega (arith, there, is.are.many)) is.below;
       wrote_is = ap is_some none;
-      cell_is = ap (covered (λ (item : Cell). item) (Some row)) none;
+      cell_is = ap (covered (λ (item : Cell). item) under) none;
     }
+
+pub starts_so : (setting : Setting) (tables : Tables) (table pos : ℕ) (row : List Value) → IsCellAt setting tables table pos (Some row)
+    → StandsSo setting (blank_own setting) table pos (Some row) (Some row) false
+starts_so setting tables table pos row is =
+    begins_so setting tables table pos (Some row) is (row_there tables (capacity setting) table pos row is.are.long is.under_is).table_below
 
 -- the answered statements of an ended transaction
 answers_so : (setting : Setting) (order : List Entry) (statements : List Bound) (finished : Finished) (ended : EndedWrote setting order statements finished)
-    → (table pos : ℕ) (row : List Value) → IsRowAt setting (tables_at setting order finished.begun.prefix) table pos row
-    → StandsSo setting ended.given.own table pos row (followed table (take (length finished.begun.replies) statements) (Some row))
+    → (table pos : ℕ) (row : List Value) → IsCellAt setting (tables_at setting order finished.begun.prefix) table pos (Some row)
+    → StandsSo setting ended.given.own table pos (Some row) (followed table (take (length finished.begun.replies) statements) (Some row))
     (some_writes table (take (length finished.begun.replies) statements) (Some row))
 answers_so setting order statements finished ended table pos row is =
     all_follow setting (tables_at setting order finished.begun.prefix) (blank_own setting) 1 (take (length finished.begun.replies) statements)
@@ -138,7 +143,7 @@ outside_so false t = refl
 
 -- what an UPDATE or a DELETE wrote that was refused at a position of a table
 swept_so : (setting : Setting) (tables : Tables) (statements : List Bound) (begun : Begun) (given : Ran) (of at table pos : ℕ) (row : List Value)
-    (cell : Cell) (wrote : Bool) → IsRowAt setting tables table pos row → StandsSo setting given.own table pos row cell wrote
+    (cell : Cell) (wrote : Bool) → IsCellAt setting tables table pos (Some row) → StandsSo setting given.own table pos (Some row) cell wrote
     → HadSwept setting tables statements begun given of at
     → is_some (item_at begun.own table pos) ≡ (wrote || (is_in_chunk_before setting.rows (cond (of == table) (Some at) None) pos
     && would_write table (slice_get statements (length begun.replies)) cell))
@@ -150,7 +155,7 @@ swept_so setting tables statements begun given of at table pos row cell wrote is
     in_chunk (of == table) setting.rows at pos ∙ ap (λ (n : ℕ). of == table && ltb pos n) start in
     elim (cases_lt pos (h.visited * setting.rows)) [
       | inl short ↦
-          let after = change_follows setting tables given.own h.kind h.pred of (h.visited * setting.rows) h.writes table pos row cell wrote is short
+          let after = change_follows setting tables given.own h.kind h.pred of (h.visited * setting.rows) h.writes table pos (Some row) cell wrote is short
           h.swept s in
           ap (λ (own : Own). is_some (item_at own table pos)) (sym h.own)
           ∙ (after.wrote_is
@@ -176,12 +181,12 @@ swept_so setting tables statements begun given of at table pos row cell wrote is
 -- ---- what was written
 
 own_so : (setting : Setting) (begun : Begun) (given : Ran) (table pos : ℕ) (row : List Value) (cell : Cell) (wrote : Bool)
-    → StandsSo setting given.own table pos row cell wrote → given.own ≡ begun.own → is_some (item_at begun.own table pos) ≡ (wrote || false)
+    → StandsSo setting given.own table pos (Some row) cell wrote → given.own ≡ begun.own → is_some (item_at begun.own table pos) ≡ (wrote || false)
 own_so setting begun given table pos row cell wrote s same =
     ap (λ (own : Own). is_some (item_at own table pos)) (sym same) ∙ (s.wrote_is ∙ or_false wrote)
 
 written_so : (setting : Setting) (tables : Tables) (statements : List Bound) (begun : Begun) (given : Ran) (table pos : ℕ) (row : List Value)
-    (cell : Cell) (wrote : Bool) → IsRowAt setting tables table pos row → StandsSo setting given.own table pos row cell wrote → (ending : Ending)
+    (cell : Cell) (wrote : Bool) → IsCellAt setting tables table pos (Some row) → StandsSo setting given.own table pos (Some row) cell wrote → (ending : Ending)
     → HadWritten setting tables statements begun given ending
     → is_some (item_at begun.own table pos) ≡ (wrote || (is_in_chunk_before setting.rows (refused_at table ending) pos
     && would_write table (slice_get statements (length begun.replies)) cell))
@@ -210,7 +215,7 @@ pub writes_what_it_selects : (setting : Setting) (order : List Entry) (statement
     && would_write table (slice_get statements (length finished.begun.replies))
     (followed table (take (length finished.begun.replies) statements) (Some row))))
 writes_what_it_selects setting order statements finished ended table pos row e =
-    let is : IsRowAt setting (tables_at setting order finished.begun.prefix) table pos row =
+    let is : IsCellAt setting (tables_at setting order finished.begun.prefix) table pos (Some row) =
     row_at setting (tables_at setting order finished.begun.prefix) table pos row (tables_are setting order finished.begun.prefix) e in
     place_is finished.begun.own table pos (item_at finished.begun.own table pos) refl
     ∙ written_so setting (tables_at setting order finished.begun.prefix) statements finished.begun ended.given table pos row
@@ -233,7 +238,7 @@ pub leaves_what_follows : (setting : Setting) (order : List Entry) (statements :
     → item_at (tables_at setting order finished.begun.prefix) table pos ≡ Some row
     → pair.after ≡ followed table (take (length finished.begun.replies) statements) (Some row)
 leaves_what_follows setting order statements finished ended fit rank passed same table pos pair at row e =
-    let is : IsRowAt setting (tables_at setting order finished.begun.prefix) table pos row =
+    let is : IsCellAt setting (tables_at setting order finished.begun.prefix) table pos (Some row) =
     row_at setting (tables_at setting order finished.begun.prefix) table pos row (tables_are setting order finished.begun.prefix) e in
     let s = answers_so setting order statements finished ended table pos row is in
     let fits : FitsTables setting finished.begun.own = subst (FitsTables setting) same s.fits in

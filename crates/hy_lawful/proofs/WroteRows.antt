@@ -63,29 +63,29 @@ verdict_writes kind pred table pos of (Some row) written e = by_truth (truth_of 
     by_truth true h = selected_written kind pred table pos of row written h
     by_truth false h = cc
 
--- ---- a row as it is followed
+-- ---- a cell as it is followed
 
--- what holds of a position where a row stands
-pub record IsRowAt (setting : Setting) (tables : Tables) (table pos : ℕ) (row : List Value) : Type 0 where
+-- what holds of a position where this cell stands
+pub record IsCellAt (setting : Setting) (tables : Tables) (table pos : ℕ) (under : Cell) : Type 0 where
   pub are : AreTables setting tables
-  pub row_is : item_at tables table pos ≡ Some row
+  pub under_is : item_at tables table pos ≡ under
   pub below : pos < capacity setting
 
--- at the position of a row a transaction sees the followed cell, and has written it or not
-pub record StandsSo (setting : Setting) (own : Own) (table pos : ℕ) (row : List Value) (cell : Cell) (wrote : Bool) : Type 0 where
+-- where this cell stands a transaction sees the followed one, and has written it or not
+pub record StandsSo (setting : Setting) (own : Own) (table pos : ℕ) (under cell : Cell) (wrote : Bool) : Type 0 where
   pub fits : FitsTables setting own
   pub room : Room own table pos
   pub wrote_is : is_some (item_at own table pos) ≡ wrote
-  pub cell_is : covered (λ (item : Cell). item) (Some row) (item_at own table pos) ≡ cell
+  pub cell_is : covered (λ (item : Cell). item) under (item_at own table pos) ≡ cell
 
-laid_so : (row : List Value) (item : Option Cell) (cell left : Cell) (wrote b : Bool) → is_some item ≡ wrote
-    → covered (λ (one : Cell). one) (Some row) item ≡ cell
+laid_so : (under : Cell) (item : Option Cell) (cell left : Cell) (wrote b : Bool) → is_some item ≡ wrote
+    → covered (λ (one : Cell). one) under item ≡ cell
     → (is_some (laid (cond b (Some left) None) item) ≡ (wrote || b))
-    × (covered (λ (one : Cell). one) (Some row) (laid (cond b (Some left) None) item) ≡ cond b left cell)
-laid_so row item cell left true true w c = (refl, refl)
-laid_so row item cell left true false w c = (w, c)
-laid_so row item cell left false true w c = (refl, refl)
-laid_so row item cell left false false w c = (w, c)
+    × (covered (λ (one : Cell). one) under (laid (cond b (Some left) None) item) ≡ cond b left cell)
+laid_so under item cell left true true w c = (refl, refl)
+laid_so under item cell left true false w c = (w, c)
+laid_so under item cell left false true w c = (refl, refl)
+laid_so under item cell left false false w c = (w, c)
 
 -- which rows a change selects
 pub change_writes : (kind : WriteKind) (pred : Condition) (of table : ℕ) (cell : Cell)
@@ -97,19 +97,19 @@ pub or_false : (b : Bool) → b ≡ (b || false)
 or_false true = refl
 or_false false = refl
 
-abbrev StandsAfter : Setting → Own → ℕ → ℕ → List Value → Cell → Bool → Bound → Bool → Type 0
-StandsAfter setting own table pos row cell wrote statement b =
-    StandsSo setting own table pos row (cond b (left_by statement cell) cell) (wrote || b)
+abbrev pub StandsAfter : Setting → Own → ℕ → ℕ → Cell → Cell → Bool → Bound → Bool → Type 0
+StandsAfter setting own table pos under cell wrote statement b =
+    StandsSo setting own table pos under (cond b (left_by statement cell) cell) (wrote || b)
 
--- where nothing is written a row stays
-stays_so : (setting : Setting) (own other : Own) (table pos : ℕ) (row : List Value) (cell : Cell) (wrote : Bool) (statement : Bound)
+-- where nothing is written a cell stays
+pub stays_so : (setting : Setting) (own other : Own) (table pos : ℕ) (under cell : Cell) (wrote : Bool) (statement : Bound)
     → FitsTables setting other → Room other table pos → item_at other table pos ≡ item_at own table pos
-    → StandsSo setting own table pos row cell wrote → StandsAfter setting other table pos row cell wrote statement false
-stays_so setting own other table pos row cell wrote statement fits room same s = record {
+    → StandsSo setting own table pos under cell wrote → StandsAfter setting other table pos under cell wrote statement false
+stays_so setting own other table pos under cell wrote statement fits room same s = record {
   fits = fits;
   room = room;
   wrote_is = ap is_some same ∙ (s.wrote_is ∙ or_false wrote);
-  cell_is = ap (covered (λ (item : Cell). item) (Some row)) same ∙ s.cell_is;
+  cell_is = ap (covered (λ (item : Cell). item) under) same ∙ s.cell_is;
 }
 
 not_equal : (a b : ℕ) → (a ≡ b → ⊥) → (c : Bool) → (a == b) ≡ c → c ≡ false
@@ -118,47 +118,47 @@ not_equal a b n false e = refl
 
 -- an UPDATE or a DELETE of a table over its first positions
 here_follows : (setting : Setting) (tables : Tables) (own : Own) (kind : WriteKind) (pred : Condition) (many : ℕ) (all : List Write)
-    (table pos : ℕ) (row : List Value) (cell : Cell) (wrote : Bool) → IsRowAt setting tables table pos row → pos < many
-    → writes_at kind pred (over tables own) table (range_with_len 0 many) ≡ Ok all → StandsSo setting own table pos row cell wrote
-    → StandsAfter setting (with_writes own all) table pos row cell wrote (change_of kind pred table) (truth_at pred cell)
-here_follows setting tables own kind pred many all table pos row cell wrote is short e s =
+    (table pos : ℕ) (under cell : Cell) (wrote : Bool) → IsCellAt setting tables table pos under → pos < many
+    → writes_at kind pred (over tables own) table (range_with_len 0 many) ≡ Ok all → StandsSo setting own table pos under cell wrote
+    → StandsAfter setting (with_writes own all) table pos under cell wrote (change_of kind pred table) (truth_at pred cell)
+here_follows setting tables own kind pred many all table pos under cell wrote is short e s =
     let at : SweptAt (verdict kind pred table pos None (item_at (over tables own) table pos)) (item_at own table pos)
     (item_at (with_writes own all) table pos) =
     sweep_at table (λ at. verdict kind pred table at None (item_at (over tables own) table at)) 0 many all own pos e s.room (omega arith) (omega arith) in
     let view : item_at (over tables own) table pos ≡ cell =
     covered_at setting (λ (item : Cell). item) tables own is.are s.fits table pos
-    ∙ (ap (λ (under : Cell). covered (λ (item : Cell). item) under (item_at own table pos)) is.row_is ∙ s.cell_is) in
+    ∙ (ap (λ (under : Cell). covered (λ (item : Cell). item) under (item_at own table pos)) is.under_is ∙ s.cell_is) in
     let written : at.cell ≡ put_by kind pred table cell =
     verdict_writes kind pred table pos table cell at.cell (ap (verdict kind pred table pos None) (sym view) ∙ at.here) in
     let item : item_at (with_writes own all) table pos ≡ laid (put_by kind pred table cell) (item_at own table pos) =
     at.item ∙ ap (λ (new : Option Cell). laid new (item_at own table pos)) written in
-    let two = laid_so row (item_at own table pos) cell (left_by (change_of kind pred table) cell) wrote (truth_at pred cell) s.wrote_is s.cell_is in
+    let two = laid_so under (item_at own table pos) cell (left_by (change_of kind pred table) cell) wrote (truth_at pred cell) s.wrote_is s.cell_is in
     record {
       fits = writes_fit setting own all s.fits;
       room = writes_room own all table pos s.room;
       wrote_is = ap is_some item ∙ two.0;
-      cell_is = ap (covered (λ (item : Cell). item) (Some row)) item ∙ two.1;
+      cell_is = ap (covered (λ (item : Cell). item) under) item ∙ two.1;
     }
 
 pub change_follows : (setting : Setting) (tables : Tables) (own : Own) (kind : WriteKind) (pred : Condition) (of many : ℕ) (all : List Write)
-    (table pos : ℕ) (row : List Value) (cell : Cell) (wrote : Bool) → IsRowAt setting tables table pos row → pos < many
-    → writes_at kind pred (over tables own) of (range_with_len 0 many) ≡ Ok all → StandsSo setting own table pos row cell wrote
-    → StandsAfter setting (with_writes own all) table pos row cell wrote (change_of kind pred of) (writes table (change_of kind pred of) cell)
-change_follows setting tables own kind pred of many all table pos row cell wrote is short e s =
-    subst (StandsAfter setting (with_writes own all) table pos row cell wrote (change_of kind pred of)) (sym (change_writes kind pred of table cell))
+    (table pos : ℕ) (under cell : Cell) (wrote : Bool) → IsCellAt setting tables table pos under → pos < many
+    → writes_at kind pred (over tables own) of (range_with_len 0 many) ≡ Ok all → StandsSo setting own table pos under cell wrote
+    → StandsAfter setting (with_writes own all) table pos under cell wrote (change_of kind pred of) (writes table (change_of kind pred of) cell)
+change_follows setting tables own kind pred of many all table pos under cell wrote is short e s =
+    subst (StandsAfter setting (with_writes own all) table pos under cell wrote (change_of kind pred of)) (sym (change_writes kind pred of table cell))
     (elim (cases_eq of table) [
       | inl same ↦
-          let there : StandsAfter setting (with_writes own all) table pos row cell wrote (change_of kind pred table) (truth_at pred cell) =
-          here_follows setting tables own kind pred many all table pos row cell wrote is short
+          let there : StandsAfter setting (with_writes own all) table pos under cell wrote (change_of kind pred table) (truth_at pred cell) =
+          here_follows setting tables own kind pred many all table pos under cell wrote is short
           (ap (λ (n : ℕ). writes_at kind pred (over tables own) n (range_with_len 0 many)) (sym same) ∙ e) s in
-          subst (λ (n : ℕ). StandsAfter setting (with_writes own all) table pos row cell wrote (change_of kind pred n) (n == table && truth_at pred cell))
+          subst (λ (n : ℕ). StandsAfter setting (with_writes own all) table pos under cell wrote (change_of kind pred n) (n == table && truth_at pred cell))
           (sym same)
-          (subst (λ (b : Bool). StandsAfter setting (with_writes own all) table pos row cell wrote (change_of kind pred table) (b && truth_at pred cell))
+          (subst (λ (b : Bool). StandsAfter setting (with_writes own all) table pos under cell wrote (change_of kind pred table) (b && truth_at pred cell))
           (sym (eq-eqb table table refl)) there)
       | inr apart ↦
-          subst (λ (b : Bool). StandsAfter setting (with_writes own all) table pos row cell wrote (change_of kind pred of) (b && truth_at pred cell))
+          subst (λ (b : Bool). StandsAfter setting (with_writes own all) table pos under cell wrote (change_of kind pred of) (b && truth_at pred cell))
           (sym (not_equal of table apart (of == table) refl))
-          (stays_so setting own (with_writes own all) table pos row cell wrote (change_of kind pred of) (writes_fit setting own all s.fits)
+          (stays_so setting own (with_writes own all) table pos under cell wrote (change_of kind pred of) (writes_fit setting own all s.fits)
           (writes_room own all table pos s.room)
           (sweep_other of (λ at. verdict kind pred of at None (item_at (over tables own) of at)) 0 many all own table pos e apart) s)
     ])
@@ -170,13 +170,13 @@ chosen_so true x y e = (refl, same_Some x y e)
 chosen_so false x y e = absurd cc
 
 insert_follows : (setting : Setting) (tables : Tables) (own : Own) (of : ℕ) (new : List Value) (records : List Record) (at : Option ℕ) (first : One)
-    (table pos : ℕ) (row : List Value) (cell : Cell) (wrote : Bool) → IsRowAt setting tables table pos row
-    → placed_at setting tables own of new records at ≡ Some first → StandsSo setting own table pos row cell wrote
-    → StandsAfter setting first.own table pos row cell wrote (Insert of new) false
+    (table pos : ℕ) (row : List Value) (cell : Cell) (wrote : Bool) → IsCellAt setting tables table pos (Some row)
+    → placed_at setting tables own of new records at ≡ Some first → StandsSo setting own table pos (Some row) cell wrote
+    → StandsAfter setting first.own table pos (Some row) cell wrote (Insert of new) false
 insert_follows setting tables own of new records None first table pos row cell wrote is e s =
-    subst (λ (other : Own). StandsAfter setting other table pos row cell wrote (Insert of new) false)
+    subst (λ (other : Own). StandsAfter setting other table pos (Some row) cell wrote (Insert of new) false)
     (ap (λ (one : One). one.own) (chosen_so _ _ first e).1)
-    (stays_so setting own own table pos row cell wrote (Insert of new) s.fits s.room refl s)
+    (stays_so setting own own table pos (Some row) cell wrote (Insert of new) s.fits s.room refl s)
 insert_follows setting tables own of new records (Some at) first table pos row cell wrote is e s =
     let write : Write = record { table = of; pos = at; cell = Some new } in
     let placed : One = record { own = with_write own write; reply = reply.Inserted; records = records } in
@@ -186,14 +186,14 @@ insert_follows setting tables own of new records (Some at) first table pos row c
     and_right (not (has_key_at setting (over tables own) of new) && not (is_some (item_at own of at))) (not (is_some (item_at tables of at))) c.0 in
     let clear : item_at tables of at ≡ Some row → ⊥ =
     λ h. absurd (let never : false ≡ true = ap (λ (item : Cell). not (is_some item)) (sym h) ∙ unplaced in cc) in
-    subst (λ (other : Own). StandsAfter setting other table pos row cell wrote (Insert of new) false)
+    subst (λ (other : Own). StandsAfter setting other table pos (Some row) cell wrote (Insert of new) false)
     (ap (λ (one : One). one.own) c.1)
-    (stays_so setting own (with_writes own (write ∷ [])) table pos row cell wrote (Insert of new) (writes_fit setting own (write ∷ []) s.fits)
+    (stays_so setting own (with_writes own (write ∷ [])) table pos (Some row) cell wrote (Insert of new) (writes_fit setting own (write ∷ []) s.fits)
     (writes_room own (write ∷ []) table pos s.room)
     (elim (cases_eq of table) [
       | inr apart ↦ put_other own of at (Some new) table pos apart
       | inl same ↦ write_apart own of at (Some new) table pos (λ e. clear
-          (ap (λ (n : ℕ). item_at tables n at) same ∙ (ap (item_at tables table) (sym e) ∙ is.row_is)))
+          (ap (λ (n : ℕ). item_at tables n at) same ∙ (ap (item_at tables table) (sym e) ∙ is.under_is)))
     ]) s)
 
 -- what an UPDATE or a DELETE that is answered wrote
@@ -208,33 +208,35 @@ changed_so own kind records (Err cause) first e = absurd cc
 changed_so own kind records (Ok all) first e =
     record { all = all; swept = refl; own_is = ap (λ (one : One). one.own) (same_Some _ first e) }
 
-one_changes : (setting : Setting) (tables : Tables) (own : Own) (kind : WriteKind) (pred : Condition) (of : ℕ) (records : List Record) (first : One)
-    (table pos : ℕ) (row : List Value) (cell : Cell) (wrote : Bool) → IsRowAt setting tables table pos row
+pub one_changes : (setting : Setting) (tables : Tables) (own : Own) (kind : WriteKind) (pred : Condition) (of : ℕ) (records : List Record) (first : One)
+    (table pos : ℕ) (under cell : Cell) (wrote : Bool) → IsCellAt setting tables table pos under
     → changed_by own kind records (writes_at kind pred (over tables own) of (range_with_len 0 (capacity setting))) ≡ Some first
-    → StandsSo setting own table pos row cell wrote
-    → StandsAfter setting first.own table pos row cell wrote (change_of kind pred of) (writes table (change_of kind pred of) cell)
-one_changes setting tables own kind pred of records first table pos row cell wrote is e s =
+    → StandsSo setting own table pos under cell wrote
+    → StandsAfter setting first.own table pos under cell wrote (change_of kind pred of) (writes table (change_of kind pred of) cell)
+one_changes setting tables own kind pred of records first table pos under cell wrote is e s =
     let c : IsChanged own (writes_at kind pred (over tables own) of (range_with_len 0 (capacity setting))) first =
     changed_so own kind records _ first e in
-    subst (λ (other : Own). StandsAfter setting other table pos row cell wrote (change_of kind pred of) (writes table (change_of kind pred of) cell)) c.own_is
-    (change_follows setting tables own kind pred of (capacity setting) c.all table pos row cell wrote is is.below c.swept s)
+    subst (λ (other : Own). StandsAfter setting other table pos under cell wrote (change_of kind pred of) (writes table (change_of kind pred of) cell)) c.own_is
+    (change_follows setting tables own kind pred of (capacity setting) c.all table pos under cell wrote is is.below c.swept s)
 
 one_follows : (setting : Setting) (tables : Tables) (own : Own) (number : ℕ) (statement : Bound) (at : Option ℕ) (first : One)
-    (table pos : ℕ) (row : List Value) (cell : Cell) (wrote : Bool) → IsRowAt setting tables table pos row
-    → one setting tables own number statement at ≡ Some first → StandsSo setting own table pos row cell wrote
-    → StandsAfter setting first.own table pos row cell wrote statement (writes table statement cell)
+    (table pos : ℕ) (row : List Value) (cell : Cell) (wrote : Bool) → IsCellAt setting tables table pos (Some row)
+    → one setting tables own number statement at ≡ Some first → StandsSo setting own table pos (Some row) cell wrote
+    → StandsAfter setting first.own table pos (Some row) cell wrote statement (writes table statement cell)
 one_follows setting tables own number (Select from ons pred items) at first table pos row cell wrote is e s =
-    subst (λ (other : Own). StandsAfter setting other table pos row cell wrote (Select from ons pred items) false)
-    (ap (λ (one : One). one.own) (same_Some _ first e)) (stays_so setting own own table pos row cell wrote (Select from ons pred items) s.fits s.room refl s)
+    subst (λ (other : Own). StandsAfter setting other table pos (Some row) cell wrote (Select from ons pred items) false)
+    (ap (λ (one : One). one.own) (same_Some _ first e))
+    (stays_so setting own own table pos (Some row) cell wrote (Select from ons pred items) s.fits s.room refl s)
 one_follows setting tables own number (Group of pred key aggregate) at first table pos row cell wrote is e s =
-    subst (λ (other : Own). StandsAfter setting other table pos row cell wrote (Group of pred key aggregate) false)
-    (ap (λ (one : One). one.own) (same_Some _ first e)) (stays_so setting own own table pos row cell wrote (Group of pred key aggregate) s.fits s.room refl s)
+    subst (λ (other : Own). StandsAfter setting other table pos (Some row) cell wrote (Group of pred key aggregate) false)
+    (ap (λ (one : One). one.own) (same_Some _ first e))
+    (stays_so setting own own table pos (Some row) cell wrote (Group of pred key aggregate) s.fits s.room refl s)
 one_follows setting tables own number (Insert of new) at first table pos row cell wrote is e s =
     insert_follows setting tables own of new _ at first table pos row cell wrote is e s
 one_follows setting tables own number (Update of sets pred) at first table pos row cell wrote is e s =
-    one_changes setting tables own (kind.Set sets) pred of _ first table pos row cell wrote is e s
+    one_changes setting tables own (kind.Set sets) pred of _ first table pos (Some row) cell wrote is e s
 one_follows setting tables own number (Delete of pred) at first table pos row cell wrote is e s =
-    one_changes setting tables own kind.Delete pred of _ first table pos row cell wrote is e s
+    one_changes setting tables own kind.Delete pred of _ first table pos (Some row) cell wrote is e s
 
 or_joined : (a b c : Bool) → ((a || b) || c) ≡ (a || (b || c))
 or_joined true b c = refl
@@ -242,19 +244,19 @@ or_joined false b c = refl
 
 -- a row is followed through statements
 pub all_follow : (setting : Setting) (tables : Tables) (own : Own) (number : ℕ) (statements : List Bound) (took : List (Option ℕ)) (given : Ran)
-    (table pos : ℕ) (row : List Value) (cell : Cell) (wrote : Bool) → IsRowAt setting tables table pos row
-    → ran_from setting tables own number statements took ≡ Some given → StandsSo setting own table pos row cell wrote
-    → StandsSo setting given.own table pos row (followed table statements cell) (wrote || some_writes table statements cell)
+    (table pos : ℕ) (row : List Value) (cell : Cell) (wrote : Bool) → IsCellAt setting tables table pos (Some row)
+    → ran_from setting tables own number statements took ≡ Some given → StandsSo setting own table pos (Some row) cell wrote
+    → StandsSo setting given.own table pos (Some row) (followed table statements cell) (wrote || some_writes table statements cell)
 all_follow setting tables own number [] took given table pos row cell wrote is e s =
-    subst (λ (ran : Ran). StandsSo setting ran.own table pos row cell (wrote || false)) (same_Some _ given e)
-    (subst (StandsSo setting own table pos row cell) (or_false wrote) s)
+    subst (λ (ran : Ran). StandsSo setting ran.own table pos (Some row) cell (wrote || false)) (same_Some _ given e)
+    (subst (StandsSo setting own table pos (Some row) cell) (or_false wrote) s)
 all_follow setting tables own number (statement ∷ statements) [] given table pos row cell wrote is e s = absurd cc
 all_follow setting tables own number (statement ∷ statements) (at ∷ took) given table pos row cell wrote is e s =
     let w : Went setting tables own number statement statements at took given = went setting tables own number statement statements at took given e in
     let next : Cell = after_one table statement cell in
-    subst (λ (ran : Ran). StandsSo setting ran.own table pos row (followed table statements next)
+    subst (λ (ran : Ran). StandsSo setting ran.own table pos (Some row) (followed table statements next)
     (wrote || (writes table statement cell || some_writes table statements next))) w.both
-    (subst (StandsSo setting w.rest.own table pos row (followed table statements next))
+    (subst (StandsSo setting w.rest.own table pos (Some row) (followed table statements next))
     (or_joined wrote (writes table statement cell) (some_writes table statements next))
     (all_follow setting tables w.first.own (suc number) statements took w.rest table pos row next (wrote || writes table statement cell) is w.rest_is
     (one_follows setting tables own number statement at w.first table pos row cell wrote is w.first_is s)))

@@ -11,9 +11,13 @@ use Rattle.hy_machine.specs.Validation.{record_hit}
 abbrev pub has_place : List Place → ℕ → ℕ → Bool
 has_place places table pos = list_any (λ (place : Place). place.table == table && place.pos == pos) places
 
+-- no change of an entry is at one of these places
+abbrev pub ChangesLieApart : List Place → Entry → Type 0
+ChangesLieApart places entry = AllByRecursion (λ (change : Change). IsFalse (has_place places change.table change.pos)) entry.changes
+
 -- no change of an entry is at one of these places, and none hits one of these records
 pub record PassesBy (places : List Place) (records : List Record) (entry : Entry) : Type 0 where
-  pub apart : AllByRecursion (λ (change : Change). IsFalse (has_place places change.table change.pos)) entry.changes
+  pub apart : ChangesLieApart places entry
   pub missed : AllByRecursion (λ (change : Change). record_hit records change.table change.before change.after ≡ None) entry.changes
 
 -- every change of an entry is at one of these places

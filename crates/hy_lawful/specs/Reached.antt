@@ -35,7 +35,7 @@ pub record EndedHasRun (setting : Setting) (state : State) (number before : ℕ)
   pub given : Ran
   pub has_run : HasRun setting state (statements_at setting number before) finished.begun given
   pub wrote : IfSome (committed_at finished.ending) (λ (rank : ℕ). given.own ≡ finished.begun.own)
-  pub refused : WasRefused (over (snapshot setting state finished.begun.prefix) finished.begun.own)
+  pub refused : WasRefused setting.shapes (over (snapshot setting state finished.begun.prefix) finished.begun.own)
       (over (snapshot setting state finished.begun.prefix) given.own)
       (slice_get (statements_at setting number before) (length finished.begun.replies)) finished.ending
 

@@ -95,6 +95,21 @@ abbrev pub followed : ℕ → List Bound → Cell → Cell
 followed table [] cell = cell
 followed table (statement ∷ statements) cell = followed table statements (after_one table statement cell)
 
+-- the row that an answered statement inserted into a table, if it inserted one there
+abbrev pub row_inserted : ℕ → Bound → Reply → Cell
+row_inserted table (Select tables ons pred items) reply = None
+row_inserted table (Group of pred key aggregate) reply = None
+row_inserted table (Insert of row) reply = if of == table && is_inserted reply then Some row else None
+row_inserted table (Update of sets pred) reply = None
+row_inserted table (Delete of pred) reply = None
+
+-- whether some row that answered statements inserted into a table passes a test, followed through the statements behind
+abbrev pub some_inserted : (Cell → Bool) → ℕ → List Bound → List Reply → Bool
+some_inserted test table [] replies = false
+some_inserted test table (statement ∷ statements) [] = false
+some_inserted test table (statement ∷ statements) (reply ∷ replies) =
+    test (followed table statements (row_inserted table statement reply)) || some_inserted test table statements replies
+
 -- whether one of these statements writes a cell, as it is followed through those before
 abbrev pub some_writes : ℕ → List Bound → Cell → Bool
 some_writes table [] cell = false

@@ -22,16 +22,18 @@ pub use states::{
 
 /// Whatever the script, and whatever the steps after which every session has ended, what the machine has come to is
 /// lawful: every transaction has its outcome once, the order has exactly the committed ones, every ending is one that
-/// may come, and a table is full only where there was no room. Where the script fits, it is also serializable in the
-/// order of its commits: the replies of every transaction are the first of those that it gets alone over the rows that
-/// the commits before its start leave, those of a committed one are all that it gets alone over the rows that the
-/// commits before its own leave, and the final tables are those of the whole order. The printed changes tell the rows
-/// at every rank, each change starting from what stands at its position. What committed between the start of a
-/// committed transaction and its own commit passes by what it wrote and by what it logs alone; its own entry changes
-/// only positions that it wrote, and each of these where a row stood at its start. What was refused was so for a cause:
-/// the first hit of what it logs alone; a row that it selects, at a position where the transaction which is named found
-/// one too and has written; or a value out of range, of a row as its answered statements left it. Whatever a
-/// transaction wrote is what its statements select and place, and who only reads writes nothing.
+/// may come, and a table is called full only where its first rows, and what was placed in it by those that may have
+/// been in the way, are as many as its positions. Where the script fits, it is also serializable in the order of its
+/// commits: the replies of every transaction are the first of those that it gets alone over the rows that the commits
+/// before its start leave, those of a committed one are all that it gets alone over the rows that the commits before
+/// its own leave, and the final tables are those of the whole order. The printed changes tell the rows at every rank,
+/// each change starting from what stands at its position. What committed between the start of a committed transaction
+/// and its own commit passes by what it wrote and by what it logs alone; its own entry changes only positions that it
+/// wrote, and each of these where a row stood at its start. What was refused was so for a cause: the first hit of what
+/// it logs alone, up to which nothing changed what it wrote; a row that it selects, at a position where the transaction
+/// which is named found one too and has written; a value out of range, of a row as its answered statements left it; or
+/// want of room for a row whose key these leave nowhere. Whatever a transaction wrote is what its statements select and
+/// place, and who only reads writes nothing.
 pub fn ends_are_lawful()
     ensures lawful { (setting : Setting) (state : State) → IsReached setting state → all_ended_from setting 0 state.sessions ≡ true
         → Lawful setting (outcome_of setting state) }

@@ -14,10 +14,6 @@ pub and_true : (b c : Bool) → b ≡ true → c ≡ true → (b && c) ≡ true
 and_true true c e f = f
 and_true false c e f = absurd cc
 
-pub and_second : (b c : Bool) → c ≡ false → (b && c) ≡ false
-and_second true c e = e
-and_second false c e = refl
-
 pub or_first : (b c : Bool) → b ≡ true → (b || c) ≡ true
 or_first true c e = refl
 or_first false c e = absurd cc

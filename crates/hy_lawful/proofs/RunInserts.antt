@@ -4,7 +4,7 @@ use Rattle.std.proofs.Common.{cond, get_or, not, is_some, ltb, refl, ap, ◌∙�
 use Rattle.std.specs.Prelude.{◌&&◌, ◌==◌, slice_get}
 use Rattle.std.specs.List.{AllByRecursion, list_any, range_with_len}
 use Rattle.std.proofs.Math.ListN.{get_or-eq_default}
-use Rattle.std.proofs.lemmas.Bool.{cases_Bool, cases_lt, lt-ltb, le-ltb, ltb-true, or_from}
+use Rattle.std.proofs.lemmas.Bool.{cases_Bool, cases_lt, lt-ltb, le-ltb, ltb-true, and_right, or_from}
 use Rattle.hy_value.specs.declared.Value.{Value}
 use Rattle.hy_bound.specs.declared.Record.{Record}
 use Rattle.hy_bound.specs.declared.Reply.TheVariants as reply
@@ -29,7 +29,6 @@ use Rattle.hy_machine.specs.Turns.{rows_seen, check_turn, place_turn, insert_tur
 use Rattle.hy_replay.specs.Laws.{AreTables}
 use Rattle.hy_replay.specs.Ran.{One, Ran, has_key_at, placed_at}
 use Rattle.hy_lawful.specs.Refusing.{finds_key}
-use Rattle.hy_lawful.proofs.Booleans.{and_second}
 use Rattle.hy_lawful.proofs.PassTables.{covered_are, tables_are}
 use Rattle.hy_lawful.proofs.RunFree.{PassesAt, any_within, any_at, none_at, none_within, found_at, HasNothing, free_has_nothing}
 use Rattle.hy_lawful.proofs.RunVisits.{HasLooked, IsNext, RunTurn, visits}
@@ -155,7 +154,7 @@ is_new setting state statements number begun given visited count table row l pas
     let seen : Tables = over tables begun.own in
     ap (λ (own : Own). finds_key setting.shapes table (slice_get statements (length begun.replies)) (rows_seen (over tables own) table)) l.looked.own
     ∙ (ap (λ (statement : Option Bound). finds_key setting.shapes table statement (rows_seen seen table)) l.next.here
-    ∙ and_second (table == table) (list_any (has_key_of row (key_of setting table)) (rows_seen seen table))
+    ∙ and_right (table == table) (list_any (has_key_of row (key_of setting table)) (rows_seen seen table))
     (no_row row (key_of setting table) (get_or seen table [])
     (no_key_at setting visited row (key_of setting table) seen table
     (covered_are setting (λ (own : Cell). own) tables begun.own (tables_are setting state.order begun.prefix)) past l.looked.clear)))

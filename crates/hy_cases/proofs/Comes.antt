@@ -58,6 +58,10 @@ pub out_of_range : Comes right.out_of_range by_itself
 unfolding computed
 out_of_range = refl
 
+pub own_row_out_of_range : Comes right.own_row_out_of_range by_itself
+unfolding computed
+own_row_out_of_range = refl
+
 pub chunk_before : Comes right.chunk_before by_itself
 unfolding computed
 chunk_before = refl

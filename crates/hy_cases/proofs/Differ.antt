@@ -1,6 +1,6 @@
 -- Tests by which values are told apart that a case has.
 use Rattle.std.proofs.Common.{◌≡◌, sym, ◌∙◌, ap, ℕ, Bool, true, false, List, [], ◌∷◌, ℤ, pos, negsuc}
-use Rattle.std.specs.Prelude.{Option, None, Some, ◌&&◌, ◌==◌, IsTrue, IsFalse}
+use Rattle.std.specs.Prelude.{Option, None, Some, not, ◌&&◌, ◌==◌, IsTrue, IsFalse}
 use Rattle.hy_value.specs.declared.Value.{Value}
 use Rattle.hy_value.specs.declared.Value.TheVariants as value
 use Rattle.hy_bound.specs.declared.Grouped.{Grouped}
@@ -8,7 +8,9 @@ use Rattle.hy_bound.specs.declared.Reply.{Reply}
 use Rattle.hy_bound.specs.declared.Reply.TheVariants as reply
 use Rattle.hy_render.specs.declared.Ending.{Ending}
 use Rattle.hy_render.specs.declared.Ending.TheVariants as ending
+use Rattle.hy_render.specs.declared.Outcome.{Outcome}
 use Rattle.hy_render.specs.declared.Place.{Place}
+use Rattle.hy_render.specs.declared.TxnOutcome.{TxnOutcome}
 use Rattle.hy_machine.specs.declared.Cause.{Cause}
 use Rattle.hy_machine.specs.declared.Cause.TheVariants as cause
 use Rattle.hy_lawful.specs.Outcomes.{is_label}
@@ -82,7 +84,17 @@ same_ending (ending.Committed rank) (ending.Committed other) = rank == other
 same_ending ending.Read ending.Read = true
 same_ending ending.RolledBack ending.RolledBack = true
 same_ending (ending.Conflict table place other) (ending.Conflict of at rival) = table == of && (place == at && is_label other rival)
+same_ending (ending.Range table place) (ending.Range of at) = table == of && place == at
+same_ending (ending.Full table) (ending.Full of) = table == of
 same_ending one other = false
 
 abbrev pub same_place : Place → Place → Bool
 same_place place other = place.table == other.table && place.pos == other.pos
+
+-- whether transactions have come to the same, and whether the ones of two outcomes have not
+abbrev same_told : TxnOutcome → TxnOutcome → Bool
+same_told txn other = is_label txn.label other.label && (txn.start == other.start && (same_replies txn.replies other.replies
+    && (same_ending txn.ending other.ending && same_list same_place txn.wrote other.wrote)))
+
+abbrev pub differs : Outcome → Outcome → Bool
+differs outcome other = not (same_list same_told outcome.txns other.txns)

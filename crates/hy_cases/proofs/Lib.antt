@@ -10,3 +10,6 @@ pub mod Orders
 pub mod Commits
 pub mod Refusals
 pub mod Writes
+pub mod Explored
+pub mod NeverSerial
+pub mod Never

@@ -33,6 +33,10 @@ wrong_invalids = record {
   names_nobody = λ claim. claim.endings.1.0.since;
   names_one_before_the_start = λ claim. absurd (omega (arith, claim.endings.1.0.since));
   names_one_that_came_later = record { lawful = search arith parts 12; refused = λ claim. not_true claim.refusals.1.0.met };
+  writes_over_what_was_committed = record {
+    lawful = search arith parts 12;
+    refused = λ claim. not_false (claim.refusals.1.0.left_alone 0 (omega arith) (omega arith)).0;
+  };
   before_all_was_answered = λ claim. differ same_number claim.endings.1.0.answers refl refl;
   of_a_reader = λ claim. absurd (omega (arith, claim.endings.1.0.wrote));
   of_a_rollback = λ claim. not_true claim.endings.1.0.closes;
@@ -42,10 +46,12 @@ pub wrong_refusals : WrongRefusals
 wrong_refusals = record {
   full_with_room_left = record { serial = full_with_room_is_serial; refused = λ claim. absurd (omega (arith, claim.full.0)) };
   full_though_the_place_was_given_back = λ claim. absurd (omega (arith, claim.full.1.1.0));
+  full_though_the_key_is_there = record { lawful = search arith parts 12; refused = λ claim. not_false claim.refusals.0 };
   full_in_another_table = λ claim. not_true claim.endings.0;
   full_for_an_update = λ claim. not_true claim.endings.0;
   out_of_range_where_it_stays_in_range = record { lawful = search arith parts 12; refused = λ claim. not_true claim.refusals.0.some };
   out_of_range_at_another_row = record { lawful = search arith parts 12; refused = λ claim. not_true claim.refusals.0.here };
   out_of_range_at_a_row_that_it_wrote = record { lawful = search arith parts 12; refused = λ claim. not_true claim.refusals.0.here };
+  out_of_range_at_a_row_that_it_inserted = record { lawful = search arith parts 12; refused = λ claim. not_true claim.refusals.0.here };
   out_of_range_for_a_delete = λ claim. not_true claim.endings.0;
 }

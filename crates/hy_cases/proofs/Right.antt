@@ -41,6 +41,7 @@ right_outcomes lawful serial = record {
   is_told_of_a_duplicate = is_right lawful serial right.duplicate _ comes.duplicate (omega arith) refl;
   is_told_that_the_table_is_full = is_right lawful serial right.no_room _ comes.no_room (omega arith) refl;
   is_out_of_range = is_right lawful serial right.out_of_range _ comes.out_of_range (omega arith) refl;
+  is_out_of_range_at_its_own_row = is_right lawful serial right.own_row_out_of_range _ comes.own_row_out_of_range (omega arith) refl;
   is_out_of_range_in_the_second_chunk = is_right lawful serial right.chunk_before _ comes.chunk_before (omega arith) refl;
   reads_its_own_commit = is_right lawful serial right.own_commit _ comes.own_commit (omega arith) refl;
   uses_a_place_again = is_right lawful serial right.place_used_again _ comes.place_used_again (omega arith) refl;

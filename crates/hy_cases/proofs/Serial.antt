@@ -12,23 +12,23 @@ use Rattle.hy_cases.specs.Right.{reader, writer, new_row, own_commit}
 
 -- ---- what is said of every row of a table with two, of every rank of a short order, of whatever a cell holds
 
-two_rows : (P : ℕ → ℕ → List Value → Type 0) (one two : List Value) → P 0 0 one → P 0 1 two → (table place : ℕ)
+pub two_rows : (P : ℕ → ℕ → List Value → Type 0) (one two : List Value) → P 0 0 one → P 0 1 two → (table place : ℕ)
     → IfSome (slice_get (slice_index_or ((one ∷ two ∷ []) ∷ []) table []) place) (P table place)
 two_rows P one two h k zero zero = h
 two_rows P one two h k zero (suc zero) = k
 two_rows P one two h k zero (suc (suc place)) = tt
 two_rows P one two h k (suc table) place = tt
 
-no_rank_more : (P : ℕ → Type 0) → P 0 → (rank : ℕ) → rank ≤ 0 → P rank
+pub no_rank_more : (P : ℕ → Type 0) → P 0 → (rank : ℕ) → rank ≤ 0 → P rank
 no_rank_more P h zero below = h
 no_rank_more P h (suc rank) below = absurd (omega (arith, below))
 
-one_rank_more : (P : ℕ → Type 0) → P 0 → P 1 → (rank : ℕ) → rank ≤ 1 → P rank
+pub one_rank_more : (P : ℕ → Type 0) → P 0 → P 1 → (rank : ℕ) → rank ≤ 1 → P rank
 one_rank_more P h k zero below = h
 one_rank_more P h k (suc zero) below = k
 one_rank_more P h k (suc (suc rank)) below = absurd (omega (arith, below))
 
-whatever : {X Y : Type 0} (o : Option X) → Y → IfSome o (λ x. Y)
+pub whatever : {X Y : Type 0} (o : Option X) → Y → IfSome o (λ x. Y)
 whatever None y = tt
 whatever (Some x) y = y
 
@@ -64,7 +64,7 @@ full_with_room_is_serial = record {
   tables = refl;
   entries = (tt, tt);
   changed = (tt, tt);
-  refusals = (tt, tt);
+  refusals = (refl, tt);
   changes = tt;
   history = no_rank_more _ refl;
   readers = ((λ none. refl), tt);

@@ -31,6 +31,7 @@ wrong_changes = record {
   from_nothing_to_nothing = record { lawful = search arith parts 12; refused = λ claim. not_true claim.changes.0.0.changes };
   where_nothing_was_written = record { lawful = search arith parts 12; refused = λ claim. not_true claim.entries.0.1.0 };
   to_another_row = record { lawful = search arith parts 12; refused = λ claim. differ (same_option same_row) claim.leaves.0.0 refl refl };
+  to_rows_exchanged = record { lawful = search arith parts 12; refused = λ claim. differ (same_option same_row) claim.leaves.0.0 refl refl };
   to_another_row_than_inserted = record {
     lawful = search arith parts 12;
     refused = λ claim. differ (same_list same_rows) (claim.history 1 (omega arith)) refl refl;

@@ -1,5 +1,5 @@
 -- A case: a script and an outcome of it, whether the engine may give it or not; and how one case is made from another.
-use Rattle.std.specs.Prelude.{◌≡◌, ℕ, List, map, if◌then◌else◌}
+use Rattle.std.specs.Prelude.{◌≡◌, ℕ, List, true, map, if◌then◌else◌}
 use Rattle.hy_value.specs.declared.Value.{Value}
 use Rattle.hy_bound.specs.declared.Reply.{Reply}
 use Rattle.hy_bound.specs.declared.Txn.{Txn}
@@ -12,7 +12,8 @@ use Rattle.hy_render.specs.declared.Outcome.{Outcome}
 use Rattle.hy_render.specs.declared.Place.{Place}
 use Rattle.hy_render.specs.declared.TxnOutcome.{TxnOutcome}
 use Rattle.hy_machine.specs.declared.Setting.{Setting}
-use Rattle.hy_machine.specs.Runs.{run_of}
+use Rattle.hy_machine.specs.declared.State.{State}
+use Rattle.hy_machine.specs.Runs.{run_of, IsReached, all_ended_from}
 use Rattle.hy_machine.specs.Outcomes.{outcome_of}
 use Rattle.hy_lawful.specs.Outcomes.{is_label}
 use Rattle.hy_lawful.specs.Lawful.{Lawful}
@@ -42,6 +43,14 @@ pub record IsNotSerial (case : Case) : Type 0 where
 pub record IsNotLawful (case : Case) : Type 0 where
   pub serial : IsSerial case.setting case.outcome
   pub refused : Lawful case.setting case.outcome → ⊥
+
+-- the outcome is lawful and serializable, and still no steps of the machine come to it: whatever the sessions do, when all
+-- have ended there is another one
+pub record IsNeverGiven (case : Case) : Type 0 where
+  pub lawful : Lawful case.setting case.outcome
+  pub serial : IsSerial case.setting case.outcome
+  pub never : (state : State) → IsReached case.setting state → all_ended_from case.setting 0 state.sessions ≡ true
+      → case.outcome ≡ outcome_of case.setting state → ⊥
 
 -- ---- a case with another script, other outcomes of transactions, another order, other final tables
 

@@ -3,3 +3,4 @@ pub mod Cases
 pub mod Scripts
 pub mod Right
 pub mod Wrong
+pub mod Never

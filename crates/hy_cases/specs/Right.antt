@@ -3,7 +3,7 @@ use Rattle.std.specs.Prelude.{List, [], ◌∷◌, None, Some}
 use Rattle.hy_bound.specs.declared.Reply.TheVariants.{Inserted, Duplicate, Updated, Deleted}
 use Rattle.hy_schedule.specs.declared.Item.{Item}
 use Rattle.hy_render.specs.declared.Ending.TheVariants.{Committed, Read, RolledBack, Conflict, Invalid, Range, Full}
-use Rattle.hy_cases.specs.Words.{int, row, overdrawn, goes, a1, a2, b1, b2, c1, at, change, told, entry, rows, balance, total, group, groups}
+use Rattle.hy_cases.specs.Words.{int, greatest, row, overdrawn, goes, a1, a2, b1, b2, c1, at, change, told, entry, rows, balance, total, group, groups}
 use Rattle.hy_cases.specs.Scripts as script
 use Rattle.hy_cases.specs.Scripts.{hundreds}
 use Rattle.hy_cases.specs.Cases.{Case, IsRight}
@@ -131,6 +131,17 @@ out_of_range = record {
   };
 }
 
+-- an UPDATE to a number that is too large, of a row that was inserted before
+abbrev pub own_row_out_of_range : Case
+own_row_out_of_range = record {
+  setting = script.inserts_and_adds;
+  outcome = record {
+    txns = told a1 0 (Inserted ∷ []) (Range 0 2) (at 0 2 ∷ []) (1 ∷ []) ∷ [];
+    order = [];
+    tables = hundreds ∷ [];
+  };
+}
+
 -- an UPDATE that has written the chunk before the one in which a number is too large
 abbrev pub chunk_before : Case
 chunk_before = record {
@@ -138,7 +149,7 @@ chunk_before = record {
   outcome = record {
     txns = told a1 0 [] (Range 0 1) (at 0 0 ∷ []) (0 ∷ []) ∷ [];
     order = [];
-    tables = (row 1 100 ∷ row 2 9223372036854775807 ∷ []) ∷ [];
+    tables = (row 1 100 ∷ row 2 greatest ∷ []) ∷ [];
   };
 }
 
@@ -483,6 +494,7 @@ pub record RightOutcomes : Type 0 where
   pub is_told_of_a_duplicate : IsRight duplicate by_itself
   pub is_told_that_the_table_is_full : IsRight no_room by_itself
   pub is_out_of_range : IsRight out_of_range by_itself
+  pub is_out_of_range_at_its_own_row : IsRight own_row_out_of_range by_itself
   pub is_out_of_range_in_the_second_chunk : IsRight chunk_before by_itself
   pub reads_its_own_commit : IsRight own_commit by_itself
   pub uses_a_place_again : IsRight place_used_again by_itself

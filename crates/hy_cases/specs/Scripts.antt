@@ -2,7 +2,7 @@
 use Rattle.std.specs.Prelude.{ℕ, List, [], ◌∷◌}
 use Rattle.hy_value.specs.declared.Value.{Value}
 use Rattle.hy_machine.specs.declared.Setting.{Setting}
-use Rattle.hy_cases.specs.Words.{int, minus, row, accounts, one_table, two_tables, commits, only_reads, rolls_back, read_all, read_numbers}
+use Rattle.hy_cases.specs.Words.{int, greatest, minus, row, accounts, one_table, two_tables, commits, only_reads, rolls_back, read_all, read_numbers}
 use Rattle.hy_cases.specs.Words.{read_balance, sum_balances}
 use Rattle.hy_cases.specs.Words.{count_accounts, count_over, count_by_balance, sum_of_named, insert, set_balance, add_to_balance, add_to_all, delete}
 
@@ -44,7 +44,24 @@ inserts_without_room = one_table 2 hundreds ((commits (insert 0 (row 3 70) ∷ [
 
 -- the greatest number is added to 100
 abbrev pub adds_too_much : Setting
-adds_too_much = one_table 2 hundreds ((commits (set_balance 0 1 90 ∷ add_to_balance 0 2 (int 9223372036854775807) ∷ []) ∷ []) ∷ [])
+adds_too_much = one_table 2 hundreds ((commits (set_balance 0 1 90 ∷ add_to_balance 0 2 (int greatest) ∷ []) ∷ []) ∷ [])
+
+-- a new row with the greatest number, and then 1 more to each
+abbrev pub inserts_and_adds : Setting
+inserts_and_adds = one_table 3 hundreds ((commits (insert 0 (row 3 greatest) ∷ add_to_all 0 (int 1) ∷ []) ∷ []) ∷ [])
+
+-- two numbers go out of range
+abbrev pub adds_to_two : Setting
+adds_to_two = one_table 2 (row 1 greatest ∷ row 2 greatest ∷ []) ((commits (add_to_all 0 (int 1) ∷ []) ∷ []) ∷ [])
+
+-- two new rows, one with the greatest number, and then 1 more to each
+abbrev pub inserts_two_and_adds : Setting
+inserts_two_and_adds =
+    one_table 4 hundreds ((commits (insert 0 (row 3 70) ∷ insert 0 (row 4 greatest) ∷ add_to_all 0 (int 1) ∷ []) ∷ []) ∷ [])
+
+-- more places than are needed
+abbrev pub inserts_with_room : Setting
+inserts_with_room = one_table 4 hundreds ((commits (insert 0 (row 3 70) ∷ []) ∷ []) ∷ [])
 
 -- two chunks of one place; 1 is added to the greatest number
 abbrev pub adds_to_two_chunks : Setting
@@ -52,7 +69,7 @@ adds_to_two_chunks = record {
   chunks = 2;
   rows = 1;
   shapes = accounts ∷ [];
-  first = (row 1 100 ∷ row 2 9223372036854775807 ∷ []) ∷ [];
+  first = (row 1 100 ∷ row 2 greatest ∷ []) ∷ [];
   programs = (commits (add_to_all 0 (int 1) ∷ []) ∷ []) ∷ [];
 }
 
@@ -63,6 +80,9 @@ writes_then_reads = one_table 2 hundreds ((commits (set_balance 0 1 90 ∷ []) �
 
 abbrev pub deletes_then_inserts : Setting
 deletes_then_inserts = one_table 2 hundreds ((commits (delete 0 1 ∷ []) ∷ commits (insert 0 (row 3 70) ∷ read_all 0 ∷ []) ∷ []) ∷ [])
+
+abbrev pub deletes_then_inserts_with_room : Setting
+deletes_then_inserts_with_room = one_table 3 hundreds ((commits (delete 0 1 ∷ []) ∷ commits (insert 0 (row 3 70) ∷ []) ∷ []) ∷ [])
 
 -- ---- two or three sessions
 
@@ -148,6 +168,26 @@ insert_where_one_was_undone = one_table 3 hundreds
 abbrev pub take_the_last_place : Setting
 take_the_last_place =
     one_table 2 (row 1 100 ∷ []) ((rolls_back (insert 0 (row 2 50) ∷ []) ∷ []) ∷ (commits (insert 0 (row 3 70) ∷ []) ∷ []) ∷ [])
+
+-- a takes a place and undoes it, twice; b inserts too
+abbrev pub take_a_place_twice : Setting
+take_a_place_twice = one_table 3 (row 1 100 ∷ [])
+    ((rolls_back (insert 0 (row 2 50) ∷ []) ∷ rolls_back (insert 0 (row 2 50) ∷ []) ∷ []) ∷ (commits (insert 0 (row 3 70) ∷ []) ∷ []) ∷ [])
+
+-- both add to all balances
+abbrev pub add_to_both : Setting
+add_to_both = one_table 2 hundreds ((commits (add_to_all 0 (int 1) ∷ []) ∷ []) ∷ (commits (add_to_all 0 (int 2) ∷ []) ∷ []) ∷ [])
+
+-- a sets the second balance; b adds to both, and to the first too much
+abbrev pub set_one_and_add_too_much : Setting
+set_one_and_add_too_much = one_table 2 (row 1 greatest ∷ row 2 100 ∷ [])
+    ((commits (set_balance 0 2 90 ∷ []) ∷ []) ∷ (commits (add_to_all 0 (int 1) ∷ []) ∷ []) ∷ [])
+
+-- a inserts, and then sets a balance; b inserts and sets the same balance
+abbrev pub insert_and_set : Setting
+insert_and_set = one_table 3 hundreds
+    ((commits (insert 0 (row 3 70) ∷ []) ∷ rolls_back (set_balance 0 1 90 ∷ []) ∷ [])
+    ∷ (commits (insert 0 (row 4 50) ∷ set_balance 0 1 80 ∷ []) ∷ []) ∷ [])
 
 -- a sets the balance of an account; b sums the balances of the accounts that table 1 names, which is account 2, and inserts
 abbrev pub set_and_join : ℕ → Setting

@@ -33,6 +33,10 @@ int n = Int (pos n)
 abbrev pub minus : ℕ → Value
 minus n = Int (negsuc (n - 1))
 
+-- the greatest number that a value may be
+abbrev pub greatest : ℕ
+greatest = 9223372036854775807
+
 abbrev pub row : ℕ → ℕ → List Value
 row id balance = int id ∷ int balance ∷ []
 

@@ -2,11 +2,11 @@
 use Rattle.std.specs.Prelude.{[], ◌∷◌, None, Some}
 use Rattle.hy_bound.specs.declared.Reply.TheVariants.{Inserted, Duplicate, Updated, Deleted}
 use Rattle.hy_render.specs.declared.Ending.TheVariants.{Committed, Read, RolledBack, Conflict, Invalid, Range, Full}
-use Rattle.hy_cases.specs.Words.{int, minus, row, overdrawn, a1, a2, b1, b2, c1, at, change, told, entry, rows, balance, total, group, groups}
+use Rattle.hy_cases.specs.Words.{int, greatest, minus, row, overdrawn, a1, a2, b1, b2, c1, at, change, told, entry, rows, balance, total, group, groups}
 use Rattle.hy_cases.specs.Words.{commits, rolls_back, read_all, read_balance, sum_balances, insert, set_balance, add_to_balance}
 use Rattle.hy_cases.specs.Scripts.{hundreds}
 use Rattle.hy_cases.specs.Right.{reader, group_reader, writer, own_write, own_delete, new_row, came_and_went, all_written, duplicate, no_room}
-use Rattle.hy_cases.specs.Right.{out_of_range, chunk_before, own_commit}
+use Rattle.hy_cases.specs.Right.{out_of_range, own_row_out_of_range, chunk_before, own_commit}
 use Rattle.hy_cases.specs.Right.{insert_undone, different_rows, old_reader, before_and_after, undone_unseen, conflict}
 use Rattle.hy_cases.specs.Right.{undone_rival, undone_before, place_given_back, skew_refused, phantom_refused}
 use Rattle.hy_cases.specs.Right.{hit_without_effect, first_hit_named, refused_then_reads, room_taken, join_refused, join_passed_by}
@@ -150,6 +150,10 @@ pub record WrongInvalids : Type 0 where
   pub names_nobody : IsUnlawful (with_ending b1 (Invalid 0 0 c1 1) skew_refused)
   pub names_one_before_the_start : IsUnlawful (with_start b1 1 (with_replies b1 (total 50 ∷ Updated 1 ∷ []) skew_refused))
   pub names_one_that_came_later : IsNotSerial (with_start b2 0 (with_replies b2 (balance 100 ∷ []) refused_then_reads))
+  pub writes_over_what_was_committed : IsNotSerial (with_programs
+      ((commits (sum_balances 0 ∷ add_to_balance 0 1 (minus 150) ∷ []) ∷ [])
+      ∷ (commits (sum_balances 0 ∷ add_to_balance 0 1 (minus 10) ∷ []) ∷ []) ∷ [])
+      (with_wrote b1 (at 0 0 ∷ []) skew_refused))
   pub before_all_was_answered : IsUnlawful (with_replies b1 (total 200 ∷ []) skew_refused)
   pub of_a_reader : IsUnlawful (with_ending b1 (Invalid 0 0 a1 1) old_reader)
   pub of_a_rollback : IsUnlawful (with_programs
@@ -163,14 +167,17 @@ pub record WrongRefusals : Type 0 where
       (with_txns (told a1 0 (Inserted ∷ []) RolledBack (at 0 1 ∷ []) (1 ∷ []) ∷ told a2 0 (Updated 1 ∷ []) (Committed 0) (at 0 0 ∷ []) (0 ∷ [])
       ∷ told b1 1 [] (Full 0) [] (0 ∷ []) ∷ [])
       (with_order (entry a2 (change 0 0 (Some (row 1 100)) (Some (row 1 90)) ∷ []) ∷ []) (with_tables ((row 1 90 ∷ []) ∷ []) room_taken))))
+  pub full_though_the_key_is_there : IsNotSerial (with_programs ((commits (insert 0 (row 1 50) ∷ []) ∷ []) ∷ []) no_room)
   pub full_in_another_table : IsUnlawful (with_ending a1 (Full 1) no_room)
   pub full_for_an_update : IsUnlawful (with_txns (told a1 0 [] (Full 0) [] (0 ∷ []) ∷ []) (with_order [] (with_tables (hundreds ∷ []) writer)))
   pub out_of_range_where_it_stays_in_range : IsNotSerial
       (with_txns (told a1 0 [] (Range 0 0) [] (0 ∷ []) ∷ []) (with_order [] (with_tables (hundreds ∷ []) writer)))
   pub out_of_range_at_another_row : IsNotSerial
-      (with_programs ((commits (add_to_balance 0 2 (int 9223372036854775807) ∷ []) ∷ []) ∷ [])
+      (with_programs ((commits (add_to_balance 0 2 (int greatest) ∷ []) ∷ []) ∷ [])
       (with_txns (told a1 0 [] (Range 0 0) [] (0 ∷ []) ∷ []) out_of_range))
   pub out_of_range_at_a_row_that_it_wrote : IsNotSerial (with_ending a1 (Range 0 0) out_of_range)
+  pub out_of_range_at_a_row_that_it_inserted : IsNotSerial
+      (with_programs ((commits (insert 0 (row 3 70) ∷ add_to_balance 0 1 (int greatest) ∷ []) ∷ []) ∷ []) own_row_out_of_range)
   pub out_of_range_for_a_delete : IsUnlawful (with_txns (told a1 0 [] (Range 0 0) [] (0 ∷ []) ∷ []) (with_order [] (with_tables (hundreds ∷ []) own_delete)))
 
 -- ---- what is written and changed
@@ -201,6 +208,8 @@ pub record WrongChanges : Type 0 where
   pub where_nothing_was_written : IsNotSerial
       (with_changes a1 (change 0 0 (Some (row 1 100)) (Some (row 1 90)) ∷ change 0 1 (Some (row 2 100)) (Some (row 2 100)) ∷ []) writer)
   pub to_another_row : IsNotSerial (with_changes a1 (change 0 0 (Some (row 1 100)) (Some (row 1 91)) ∷ []) writer)
+  pub to_rows_exchanged : IsNotSerial (with_changes a1
+      (change 0 0 (Some (row 1 100)) (Some (row 2 101)) ∷ change 0 1 (Some (row 2 100)) (Some (row 1 101)) ∷ []) all_written)
   pub to_another_row_than_inserted : IsNotSerial (with_changes a1 (change 0 2 None (Some (row 3 71)) ∷ []) new_row)
   pub to_nothing_for_an_update : IsNotSerial (with_changes a1 (change 0 0 (Some (row 1 100)) None ∷ []) writer)
   pub missing : IsNotSerial (with_changes a1 [] writer)

@@ -2,6 +2,7 @@
 //! which it refuses, each made from a right one by what its name says.
 #![tactic(auto)]
 
+ghost use Rattle.hy_cases.specs.Never.{NeverGiven};
 ghost use Rattle.hy_cases.specs.Right.{RightOutcomes};
 ghost use Rattle.hy_cases.specs.Wrong.{WrongReplies, WrongStarts, WrongOrders, WrongCommits};
 ghost use Rattle.hy_cases.specs.Wrong.{WrongConflicts, WrongInvalids, WrongRefusals, WrongWrites, WrongChanges};
@@ -45,4 +46,12 @@ pub fn wrong_refusals_are_refused()
 pub fn wrong_writes_are_refused()
     ensures writes { WrongWrites }
     ensures changes { WrongChanges }
+{}
+
+/// These outcomes are lawful and serializable, and still no steps of the machine come to them, whatever the schedule: a
+/// table is called full beside a place that is free, a place is taken that isn't the least, another row is named than the
+/// first that is refused, or what is told of who came before whom goes in a circle. That an outcome is one of the machine
+/// is what refuses them.
+pub fn lawful_outcomes_that_no_schedule_gives()
+    ensures { NeverGiven }
 {}

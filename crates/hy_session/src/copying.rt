@@ -1,19 +1,46 @@
 //! Copies of assignments.
 
 ghost use Rattle.std.specs.Prelude.{◌≡◌, IfOk};
+ghost use Rattle.hy_bound.specs.Expression.{Literal};
+ghost use Rattle.hy_value.specs.declared.Value.TheVariants as value;
 
 use hy_bound::{Assign, ExprRoot, SetExpr, Sets};
-use hy_value::{Seq, Value};
+use hy_value::{Seq, Text, Value};
 use std::alloc::{AllocError, Global};
+
+/// NULL. This and the other literals stand by themselves: a value takes much room, and a copy of a long chain of operators
+/// is to take little for each.
+#[inline(never)]
+fn null(alloc: Global) -> Result<SetExpr, AllocError>
+    ensures { IfOk result (λ copy. copy ≡ Literal value.Null) }
+{
+    SetExpr::literal(alloc, Value::Null)
+}
+
+/// A number.
+#[inline(never)]
+fn number(alloc: Global, number: i64) -> Result<SetExpr, AllocError>
+    ensures { IfOk result (λ copy. copy ≡ Literal (value.Int number)) }
+{
+    SetExpr::literal(alloc, Value::Int(number))
+}
+
+/// A text.
+#[inline(never)]
+fn text(alloc: Global, text: &Text) -> Result<SetExpr, AllocError>
+    ensures { IfOk result (λ copy. copy ≡ Literal (value.Text text.now)) }
+{
+    SetExpr::literal(alloc, Value::Text(text.copy()))
+}
 
 /// A copy of an expression. Err is for want of memory.
 fn copy_expression(alloc: Global, expression: &SetExpr) -> Result<SetExpr, AllocError>
     ensures { IfOk result (λ copy. copy ≡ expression.now) }
 {
     match expression.root() {
-        ExprRoot::Null => SetExpr::literal(alloc, Value::Null),
-        ExprRoot::Int(number) => SetExpr::literal(alloc, Value::Int(number)),
-        ExprRoot::Text(text) => SetExpr::literal(alloc, Value::Text(text.copy())),
+        ExprRoot::Null => null(alloc),
+        ExprRoot::Int(value) => number(alloc, value),
+        ExprRoot::Text(value) => text(alloc, value),
         ExprRoot::Column(column) => Ok(SetExpr::column(column)),
         ExprRoot::Add(left, right) => {
             let left = copy_expression(alloc, left)?;

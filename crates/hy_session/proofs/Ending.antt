@@ -1,38 +1,46 @@
 -- A session whose open transaction ends.
-use Rattle.std.proofs.Common.{◌≡◌, List, [], ◌∷◌, ◌++◌, ap, ◌∙◌, sym, None, Some, Option}
-use Rattle.hy_bound.specs.declared.Reply.{Reply}
+use Rattle.std.proofs.Common.{◌≡◌, ℕ, List, [], ◌∷◌, ◌++◌, ap, ◌∙◌, sym, refl, map, length, false, None, Some}
+use Rattle.std.specs.Prelude.{if◌then◌else◌}
+use Rattle.std.specs.List.{range_with_len}
 use Rattle.hy_render.specs.declared.Ending.{Ending}
+use Rattle.hy_render.specs.declared.Place.{Place}
 use Rattle.hy_render.specs.declared.TxnOutcome.{TxnOutcome}
+use Rattle.hy_stamp.specs.declared.Label.{Label}
 use Rattle.hy_event.specs.declared.SessionData.{SessionData}
 use Rattle.hy_event.specs.declared.Open.{Open}
-use Rattle.hy_event.specs.Ended.{outcome_of}
+use Rattle.hy_event.specs.declared.Phase.{Phase}
+use Rattle.hy_event.specs.declared.Phase.TheVariants.{Working, Stamping, Undoing}
+use Rattle.hy_event.specs.Ended.{outcome_of, placed_in, statements_in}
+use Rattle.hy_event.specs.Sessions.{label_of, txn_at, written, written_in}
 use Rattle.hy_event.specs.Turns.{done_with, with_ended}
+use Rattle.hy_session.specs.Entered.{is_stamping}
 
--- its outcome, with its replies put in last, stands behind those of the others
-pub ended_with : (session : SessionData) (now : Open) (ending : Ending) (outcome : TxnOutcome) (replies : List Reply) (done : List TxnOutcome)
-    → session.now ≡ Some now
-    → ((others : List Reply) → record outcome { replies = others } ≡ record (outcome_of session now ending) { replies = others })
-    → replies ≡ now.replies → done ≡ session.done ++ record outcome { replies = replies } ∷ []
-    → record session { done = done; now = None } ≡ with_ended ending session
-ended_with session now ending outcome replies done opened given same after =
-    let one : record outcome { replies = replies } ≡ outcome_of session now ending =
-    given replies ∙ ap (λ (others : List Reply). record (outcome_of session now ending) { replies = others }) same in
+-- the positions that it wrote: it kept them at its entry, or they were given
+written_at : (now : Open) (phase : Phase) (places : List Place) → (is_stamping phase ≡ false → places ≡ written_in now phase)
+    → (if is_stamping phase then now.wrote else places) ≡ written_in now phase
+written_at now (Working visited count) places given = given refl
+written_at now (Stamping visited time) places given = refl
+written_at now (Undoing visited cause) places given = given refl
+
+-- how many positions of each table it took
+abbrev pub placed_of : SessionData → Open → List ℕ
+placed_of session now = map (λ table. placed_in table (statements_in (txn_at session)) now.took) (range_with_len 0 (length session.shapes))
+
+-- an outcome of these parts
+abbrev pub outcome_by : Open → Ending → Label → List Place → List ℕ → TxnOutcome
+outcome_by now ending label wrote placed =
+    record { label = label; start = now.prefix; replies = now.replies; ending = ending; wrote = wrote; placed = placed }
+
+-- its outcome stands behind those of the others
+pub ended_by : (session : SessionData) (now : Open) (ending : Ending) (label : Label) (places wrote : List Place) (placed : List ℕ) (done : List TxnOutcome)
+    → session.now ≡ Some now → label ≡ label_of session → (is_stamping now.phase ≡ false → places ≡ written now)
+    → wrote ≡ (if is_stamping now.phase then now.wrote else places) → placed ≡ placed_of session now
+    → done ≡ session.done ++ outcome_by now ending label wrote placed ∷ [] → record session { done = done; now = None } ≡ with_ended ending session
+ended_by session now ending label places wrote placed done opened labelled given wrote_is placed_is after =
+    let same : outcome_by now ending label wrote placed ≡ outcome_of session now ending =
+    ap (λ (l : Label). outcome_by now ending l wrote placed) labelled
+    ∙ (ap (λ (w : List Place). outcome_by now ending (label_of session) w placed) (wrote_is ∙ written_at now now.phase places given)
+    ∙ ap (outcome_by now ending (label_of session) (written now)) placed_is) in
     let all : done ≡ done_with session ending session.now =
-    after ∙ (ap (λ (last : TxnOutcome). session.done ++ last ∷ []) one ∙ ap (done_with session ending) (sym opened)) in
+    after ∙ (ap (λ (last : TxnOutcome). session.done ++ last ∷ []) same ∙ ap (done_with session ending) (sym opened)) in
     ap (λ (outcomes : List TxnOutcome). record session { done = outcomes; now = None }) all
-
--- the transaction that is there, if one is
-abbrev open_or : Open → Option Open → Open
-open_or other None = other
-open_or other (Some now) = now
-
--- the same where the open transaction was seen first and then taken out
-pub ended_now : (session : SessionData) (seen taken : Open) (before after : Option Open) (ending : Ending) (outcome : TxnOutcome) (replies : List Reply)
-    (done : List TxnOutcome) → session.now ≡ before → before ≡ Some seen → Some taken ≡ before → after ≡ None
-    → ((others : List Reply) → record outcome { replies = others } ≡ record (outcome_of session seen ending) { replies = others })
-    → replies ≡ taken.replies → done ≡ session.done ++ record outcome { replies = replies } ∷ []
-    → record session { done = done; now = after } ≡ with_ended ending session
-ended_now session seen taken before after ending outcome replies done held is_seen is_taken gone given told put =
-    let same : taken ≡ seen = ap (open_or taken) (is_taken ∙ is_seen) in
-    ap (λ (now : Option Open). record session { done = done; now = now }) gone
-    ∙ ended_with session seen ending outcome replies done (held ∙ is_seen) given (told ∙ ap (λ (now : Open). now.replies) same) put

@@ -1,6 +1,8 @@
 mod Seeks
 mod Tables
 mod Ending
+mod Chunks
+mod Entries
 pub mod Planned
 pub mod Visiting
 pub mod Stepping

@@ -1,6 +1,7 @@
 pub mod Limits
 pub mod Seeking
 pub mod Near
+pub mod Entered
 pub mod Short
 pub mod Works
 pub mod Preparing

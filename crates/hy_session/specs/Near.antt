@@ -25,9 +25,10 @@ abbrev pub IsActive : List ℕ → Option Open → Type 0
 IsActive active None = Unit {0}
 IsActive active (Some now) = Contains active now.start
 
--- the clock has times left, and the start of the session's open transaction is open in the core
+-- the clock has times left, ranks are of 32 bits, and the start of the session's open transaction is open in the core
 pub record NearCore (session : SessionData) (core : CoreData) : Type 0 where
   pub clock : core.next < 2 ^ 63
+  pub few : length core.entries < 2 ^ 32
   pub active : IsActive core.active session.now
 
 -- ---- a chunk

@@ -1,5 +1,5 @@
 -- What a session does at the core, chosen before anything changes.
-use Rattle.std.specs.Prelude.{Option, None, Some}
+use Rattle.std.specs.Prelude.{Bool, true, false, Option, None, Some}
 use Rattle.hy_journal.specs.declared.CoreData.{CoreData}
 use Rattle.hy_journal.specs.Core.{core_entered, core_left, core_closed}
 use Rattle.hy_render.specs.declared.Ending.TheVariants.{Committed}
@@ -23,6 +23,15 @@ left_by core (Some now) = core_left core now.start
 abbrev pub closed_by : CoreData → Option Open → CoreData
 closed_by core None = core
 closed_by core (Some now) = core_closed core now.start
+
+-- whether it is the end of a transaction that has its entry
+abbrev pub leaves : Work → Bool
+leaves (work.Wait by) = false
+leaves work.Begin = false
+leaves work.Enter = false
+leaves (work.Refuse cause) = false
+leaves (work.Close cause) = false
+leaves (work.Leave rank) = true
 
 -- the turn that a session takes by what it has chosen to do, and the core after it
 abbrev pub turn_by : Work → SessionData → CoreData → CoreTurn

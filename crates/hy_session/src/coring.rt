@@ -1,17 +1,17 @@
 //! A visit of the core: BEGIN, COMMIT, and the ends of transactions.
 
-ghost use Rattle.std.specs.Prelude.{◌≡◌, ◌^◌, ◌<◌, [], IfOk, OnOk, OnErr, length};
+ghost use Rattle.std.specs.Prelude.{◌≡◌, ◌^◌, ◌<◌, [], true, false, IfOk, OnOk, OnErr, length};
 ghost use Rattle.hy_event.specs.declared.Need.{Need};
 ghost use Rattle.hy_event.specs.Needs.{need_of};
 ghost use Rattle.hy_event.specs.Coring.{CoreEvent, beginning};
 ghost use Rattle.hy_event.specs.Turns.{Begins, Enters, Ends, Takes, refused};
 ghost use Rattle.hy_render.specs.declared.Ending.TheVariants.{Committed};
 ghost use Rattle.hy_journal.specs.Core.{core_begun};
+ghost use Rattle.hy_session.specs.Entered.{has_entry};
 ghost use Rattle.hy_session.specs.Near.{IsActive, NearCore};
 ghost use Rattle.hy_session.specs.Works.{closed_by, entered_by, left_by};
 
 use crate::ends::written_places;
-use crate::numbers::number;
 use crate::works::Work;
 use crate::{Running, Session};
 use hy_core::Core;
@@ -26,13 +26,14 @@ use std::mem;
 /// A transaction begins at the core, with room for notes that was spare. Err is for want of memory, and changes nothing.
 fn begun(alloc: Global, core: &mut Core, spare: &mut Changes) -> Result<Running, AllocError>
     requires clock { core.old.next < 2 ^ 63 }
+    requires few { length core.old.entries < 2 ^ 32 }
     requires none_noted { spare.old.notes ≡ [] }
     ensures now { IfOk result (λ now. now ≡ beginning core.old) }
     ensures ok { OnOk result (core.new ≡ core_begun core.old) }
     ensures err { OnErr result (core.new ≡ core.old) }
     ensures none_left { spare.new.notes ≡ [] }
 {
-    let prefix = number(core.since(0).len())?;
+    let prefix = core.since(0).len() as u32;
     let begun = core.begin()?;
     Ok(Running {
         start: begun.start,
@@ -52,15 +53,19 @@ fn begun(alloc: Global, core: &mut Core, spare: &mut Changes) -> Result<Running,
 }
 
 impl Session {
-    /// It begins a transaction. Err is for want of memory, and changes nothing.
+    /// It begins a transaction, with room for what it comes to. Err is for want of memory, and changes nothing.
     fn begin(&mut self, alloc: Global, core: &mut Core) -> Result<Progress, AllocError>
-        requires { core.old.next < 2 ^ 63 }
+        requires clock { core.old.next < 2 ^ 63 }
+        requires few { length core.old.entries < 2 ^ 32 }
         ensures turn { IfOk result (λ progress. Takes self.old (Begins (beginning core.old)) progress self.new) }
         ensures core { OnOk result (core.new ≡ core_begun core.old) }
         ensures err { OnErr result (self.new ≡ self.old) }
         ensures core_err { OnErr result (core.new ≡ core.old) }
     {
+        let counts = Vec::with_capacity(alloc, self.shapes.len())?;
+        self.done.reserve(1)?;
         self.now = Some(begun(alloc, core, &mut self.spare)?);
+        self.counts = counts;
         Ok(Progress::Answered)
     }
 
@@ -108,33 +113,38 @@ impl Session {
         ensures err { OnErr result (self.new ≡ self.old) }
         ensures core_err { OnErr result (core.new ≡ core.old) }
     {
-        if let Some(start) = self.end(alloc, cause)? {
+        let places = match &self.now {
+            Some(now) => written_places(alloc, now)?,
+            None => Seq::new(alloc),
+        };
+        if let Some(start) = self.end(alloc, cause, places) {
             core.close(start);
         }
         Ok(Progress::Answered)
     }
 
-    /// Its open transaction ends, whose entry has this rank. Err is for want of memory, and changes nothing.
-    fn leave(&mut self, alloc: Global, core: &mut Core, rank: u32) -> Result<Progress, AllocError>
+    /// Its open transaction ends, whose entry has this rank. It takes no memory.
+    fn leave(&mut self, alloc: Global, core: &mut Core, rank: u32) -> Progress
         requires active { IsActive core.old.active self.old.now }
         requires at { length self.old.done < length self.old.program }
-        ensures turn { IfOk result (λ progress. Takes self.old (Ends (Committed rank)) progress self.new) }
-        ensures core { OnOk result (core.new ≡ left_by core.old self.old.now) }
-        ensures err { OnErr result (self.new ≡ self.old) }
-        ensures core_err { OnErr result (core.new ≡ core.old) }
+        requires entered { has_entry self.old ≡ true }
+        ensures turn { Takes self.old (Ends (Committed rank)) result self.new }
+        ensures core { core.new ≡ left_by core.old self.old.now }
     {
-        if let Some(start) = self.end(alloc, Ending::Committed { rank })? {
+        if let Some(start) = self.end(alloc, Ending::Committed { rank }, Seq::new(alloc)) {
             core.leave(start);
         }
-        Ok(Progress::Answered)
+        Progress::Answered
     }
 
-    /// Visits the core, which it needs. Err is for want of memory, and changes nothing.
+    /// Visits the core, which it needs. Err is for want of memory, and changes nothing; it never comes where its open
+    /// transaction has its entry, so that the end for which others wait takes no memory.
     pub fn visit_core(&mut self, alloc: Global, core: &mut Core) -> Result<Progress, AllocError>
         requires needs { need_of self.old ≡ Need.Core }
         requires near { NearCore self.old core.old }
         ensures event { IfOk result (λ progress. CoreEvent self.old core.old progress self.new core.new) }
         ensures kept { OnErr result ((self.new ≡ self.old) × (core.new ≡ core.old)) }
+        ensures entered { OnErr result (has_entry self.old ≡ false) }
     {
         match self.choose(alloc, core)? {
             Work::Wait(by) => Ok(Progress::Blocked { by }),
@@ -142,7 +152,7 @@ impl Session {
             Work::Enter => self.enter(alloc, core),
             Work::Refuse(cause) => Ok(self.refuse(cause)),
             Work::Close(cause) => self.close(alloc, core, cause),
-            Work::Leave(rank) => self.leave(alloc, core, rank),
+            Work::Leave(rank) => Ok(self.leave(alloc, core, rank)),
         }
     }
 }

@@ -1,13 +1,13 @@
 //! The end of a transaction.
 
-ghost use Rattle.std.specs.Prelude.{◌≡◌, List, ◌<◌, IfOk, OnOk, OnErr, map, length};
+ghost use Rattle.std.specs.Prelude.{◌≡◌, [], Some, false, ◌<◌, ◌≤◌, IfOk, map, length, vec_capacity, if◌then◌else◌};
 ghost use Rattle.std.specs.List.{range_with_len};
 ghost use Rattle.std.specs.Option.{option_map};
 ghost use Rattle.hy_event.specs.declared.Open.{Open};
-ghost use Rattle.hy_bound.specs.declared.Reply.{Reply};
-ghost use Rattle.hy_event.specs.Ended.{inserts_into, outcome_of, placed_in, statements_in};
+ghost use Rattle.hy_event.specs.Ended.{inserts_into, placed_in, statements_in};
 ghost use Rattle.hy_event.specs.Sessions.{place_noted, txn_at, written};
 ghost use Rattle.hy_event.specs.Turns.{with_ended};
+ghost use Rattle.hy_session.specs.Entered.{is_stamping};
 
 use crate::{Running, Session};
 use hy_bound::Bound;
@@ -16,6 +16,7 @@ use hy_event::Phase;
 use hy_render::{Ending, Place, Places, TxnOutcome};
 use hy_value::Seq;
 use std::alloc::{AllocError, Global};
+use std::mem;
 
 /// Whether a statement is an INSERT into a table.
 fn is_insert_into(table: u32, statement: &Bound) -> bool
@@ -43,20 +44,18 @@ fn count_placed(table: u32, statements: &[Bound], took: &[Option<u32>]) -> u64
     count
 }
 
-/// Of each of so many tables how many of its positions answered statements took.
-fn placed_each(
-    alloc: Global,
-    statements: &[Bound],
-    took: &[Option<u32>],
-    tables: u32,
-) -> Result<Seq<u64>, AllocError>
-    ensures { IfOk result (λ counts. counts ≡ map (λ table. placed_in table statements.now took.now) (range_with_len 0 tables)) }
+/// Of each of so many tables how many of its positions answered statements took. It takes no memory: the list is empty, and
+/// has room for as many numbers.
+fn placed_each(room: Vec<u64>, statements: &[Bound], took: &[Option<u32>], tables: u32) -> Seq<u64>
+    requires empty { room.items ≡ [] }
+    requires room { tables ≤ vec_capacity room }
+    ensures { result ≡ map (λ table. placed_in table statements.now took.now) (range_with_len 0 tables) }
 {
-    let mut counts = Seq::new(alloc);
+    let mut counts = room;
     for table in 0..tables {
-        counts.push(count_placed(table, statements, took))?;
+        counts.push_reserved(count_placed(table, statements, took));
     }
-    Ok(counts)
+    Seq::from_vec(counts)
 }
 
 /// The positions of notes.
@@ -83,6 +82,16 @@ pub fn written_places(alloc: Global, now: &Running) -> Result<Places, AllocError
     }
 }
 
+/// The positions that a transaction wrote which stands here: those that it kept at its entry, or without one these.
+fn written_by(phase: Phase, wrote: Places, places: Places) -> Places
+    ensures { result ≡ (if is_stamping phase then wrote else places) }
+{
+    match phase {
+        Phase::Stamping { .. } => wrote,
+        Phase::Working { .. } | Phase::Undoing { .. } => places,
+    }
+}
+
 impl Session {
     /// The statements of the transaction that it is at.
     pub(crate) fn statements(&self) -> &[Bound]
@@ -94,56 +103,40 @@ impl Session {
         }
     }
 
-    /// What its open transaction comes to that ends so, its replies aside. Err is for want of memory.
-    fn outcome(
-        &self,
-        alloc: Global,
-        now: &Running,
-        ending: Ending,
-    ) -> Result<TxnOutcome, AllocError>
-        requires { length self.now.done < length self.now.program }
-        ensures { IfOk result (λ outcome. (replies : List Reply)
-            → record outcome { replies = replies } ≡ record (outcome_of self.entry.now now.now ending) { replies = replies }) }
+    /// Its open transaction ends, if there is one: this was its start. The room of its notes is spare from then on. Where
+    /// it has no entry, which keeps them, these are the positions that it wrote. It takes no memory.
+    pub(crate) fn end(&mut self, alloc: Global, ending: Ending, places: Places) -> Option<u64>
+        requires at { length self.old.done < length self.old.program }
+        requires places { (now : Open) → self.old.now ≡ Some now → is_stamping now.phase ≡ false → places ≡ written now }
+        ensures start { result ≡ option_map (λ (now : Open). now.start) self.old.now }
+        ensures after { self.new ≡ with_ended ending self.old }
     {
-        let tables = self.shapes.len() as u32;
-        Ok(TxnOutcome {
-            label: self.label(),
-            start: now.prefix,
-            replies: Seq::new(alloc),
-            ending,
-            wrote: written_places(alloc, now)?,
-            placed: placed_each(alloc, self.statements(), now.took.as_slice(), tables)?,
-        })
-    }
-
-    /// Its open transaction ends, if there is one: this was its start. The room of its notes is spare from then on. Err
-    /// is for want of memory, and changes nothing.
-    pub(crate) fn end(&mut self, alloc: Global, ending: Ending) -> Result<Option<u64>, AllocError>
-        requires { length self.old.done < length self.old.program }
-        ensures start { IfOk result (λ start. start ≡ option_map (λ (now : Open). now.start) self.old.now) }
-        ensures ok { OnOk result (self.new ≡ with_ended ending self.old) }
-        ensures err { OnErr result (self.new ≡ self.old) }
-    {
-        let Some(now) = &self.now else {
-            return Ok(None);
+        let Some(now) = self.now.take() else {
+            return None;
         };
-        let mut outcome = self.outcome(alloc, now, ending)?;
-        self.done.reserve(1)?;
-        match self.now.take() {
-            Some(now) => {
-                let Running {
-                    start,
-                    replies,
-                    mut notes,
-                    ..
-                } = now;
-                outcome.replies = Seq::from_vec(replies);
-                self.done.push_reserved(outcome);
-                notes.clear();
-                self.spare = notes;
-                Ok(Some(start))
-            }
-            None => Ok(None),
-        }
+        let label = self.label();
+        let tables = self.shapes.len() as u32;
+        let room = mem::replace(&mut self.counts, Vec::new(alloc));
+        let placed = placed_each(room, self.statements(), now.took.as_slice(), tables);
+        let Running {
+            start,
+            prefix,
+            replies,
+            mut notes,
+            wrote,
+            phase,
+            ..
+        } = now;
+        self.done.push_reserved(TxnOutcome {
+            label,
+            start: prefix,
+            replies: Seq::from_vec(replies),
+            ending,
+            wrote: written_by(phase, wrote, places),
+            placed,
+        });
+        notes.clear();
+        self.spare = notes;
+        Some(start)
     }
 }

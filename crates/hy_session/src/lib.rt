@@ -1,7 +1,7 @@
 //! A session of the engine: it runs the transactions of its program, one visit at one part at a time.
 #![tactic(auto)]
 
-ghost use Rattle.std.specs.Prelude.{◌≡◌, ◌<◌, ◌≤◌, [], None, length};
+ghost use Rattle.std.specs.Prelude.{◌≡◌, ◌*◌, ◌^◌, ◌<◌, ◌≤◌, [], None, length};
 ghost use Rattle.hy_limits.specs.declared.TheConstants.{MOST_TABLES, MOST_TXNS};
 ghost use Rattle.hy_event.specs.Needs.{need_of};
 ghost use Rattle.hy_session.specs.Standing.{standing_of};
@@ -81,6 +81,8 @@ pub struct Session {
     prunes: bool,
     done: Vec<TxnOutcome>,
     now: Option<Running>,
+    /// No counts: room for one of each table, where a transaction is open. It takes them at its end.
+    counts: Vec<u64>,
     /// No notes: the room of those of the last transaction, for the next one.
     spare: Changes,
     /// How a statement is run, kept for its next visit.
@@ -88,10 +90,10 @@ pub struct Session {
 }
 
 impl Model for Session {
-    ghost use Rattle.std.specs.Prelude.{length};
+    ghost use Rattle.std.specs.Prelude.{length, vec_len, vec_capacity};
     ghost use Rattle.hy_event.specs.declared.SessionData.{SessionData};
     ghost use Rattle.hy_event.specs.contracts.SessionData as session_data;
-    ghost use Rattle.hy_session.specs.Limits.{IsLimited};
+    ghost use Rattle.hy_session.specs.Limits.{IsLimited, HasRoomFor};
 
     ghost Value = { SessionData };
 
@@ -108,7 +110,8 @@ impl Model for Session {
       now = a.now;
     } };
 
-    ghost invariant = { λ a. IsLimited a.chunks a.shapes a.program (length a.done.items) a.spare.notes a.prepared };
+    ghost invariant = { λ a. IsLimited a.chunks a.shapes a.program (length a.done.items) a.spare.notes a.prepared
+        × HasRoomFor a.now (length a.shapes) (vec_len a.done) (vec_capacity a.done) a.counts.items (vec_capacity a.counts) };
 }
 
 /// How the tables of a script lie in chunks.
@@ -144,6 +147,7 @@ impl Session {
         prunes: bool,
     ) -> Session
         requires chunks { 0 < layout.chunks }
+        requires few { length shapes * layout.chunks < 2 ^ 32 }
         requires tables { length shapes ≤ MOST_TABLES }
         requires txns { length program ≤ MOST_TXNS }
         ensures { result ≡ record {
@@ -166,6 +170,7 @@ impl Session {
             prunes,
             done: Vec::new(alloc),
             now: None,
+            counts: Vec::new(alloc),
             spare: Changes::new(alloc),
             prepared: None,
         }

@@ -1,9 +1,10 @@
 //! How the present statement is run: made once for the statement, and kept from visit to visit.
 
-ghost use Rattle.std.specs.Prelude.{◌≡◌, Some, IfOk, IfSome, length};
+ghost use Rattle.std.specs.Prelude.{◌≡◌, Some, false, IfOk, IfSome, OnErr, length};
 ghost use Rattle.std.specs.Option.{option_copied, option_map_or};
 ghost use Rattle.hy_event.specs.declared.Open.{Open};
 ghost use Rattle.hy_session.specs.declared.prepared.Way.TheVariants.{Read};
+ghost use Rattle.hy_session.specs.Entered.{has_entry};
 ghost use Rattle.hy_session.specs.Preparing.{IsWayAt, IsWayFor, kind_in, statement_in};
 ghost use Rattle.hy_session.specs.Reading.{IsReading};
 
@@ -103,10 +104,11 @@ impl Session {
     }
 
     /// What its present statement does with a row that it selects, if that is an UPDATE: what was kept of that, or else
-    /// made now. Nothing is kept then. Err is for want of memory.
+    /// made now. Nothing is kept then. Err is for want of memory, and never comes where that transaction has its entry.
     pub(crate) fn take_kind(&mut self, alloc: Global) -> Result<Option<WriteKind>, AllocError>
         ensures kind { IfOk result (λ kind. kind ≡ kind_in self.old) }
         ensures same { self.new ≡ self.old }
+        ensures entered { OnErr result (has_entry self.old ≡ false) }
     {
         let way = self.take_way();
         match self.present() {

@@ -3,6 +3,7 @@
 ghost use Rattle.std.specs.Prelude.{◌≡◌, None, false, IfOk, OnErr, OnOk};
 ghost use Rattle.std.specs.Option.{option_copied};
 ghost use Rattle.hy_event.specs.Events.{ChunkEvent, StatementVisit};
+ghost use Rattle.hy_session.specs.Entered.{has_entry};
 ghost use Rattle.hy_session.specs.Near.{NearChunk};
 ghost use Rattle.hy_session.specs.Preparing.{kind_in, kind_of};
 ghost use Rattle.hy_session.specs.Short.{LeavesShort};
@@ -101,7 +102,7 @@ impl Session {
     }
 
     /// A visit of a chunk that isn't one of a SELECT; an UPDATE does this with each row that it selects. Err is for want of
-    /// memory, and changes nothing.
+    /// memory, and changes nothing; it never comes where its open transaction has its entry.
     fn change_by(
         &mut self,
         alloc: Global,
@@ -115,6 +116,7 @@ impl Session {
         ensures short { OnOk result (LeavesShort self.old self.old.now chunk.new.shown) }
         ensures others { record self.new { now = None } ≡ record self.old { now = None } }
         ensures kept { OnErr result (self.new ≡ self.old) }
+        ensures entered { OnErr result (has_entry self.old ≡ false) }
         ensures chunk_kept { OnErr result (chunk.new.shown ≡ chunk.old.shown) }
         ensures kinds { chunk.new.kinds ≡ chunk.old.kinds }
     {
@@ -143,21 +145,23 @@ impl Session {
                         };
                         work(alloc, &visitor, &present, kind, now, chunk)
                     }
-                    None => undo(&visitor, 0, Ending::RolledBack, now, chunk),
+                    None => Ok(undo(&visitor, 0, Ending::RolledBack, now, chunk)),
                 }
             }
-            Phase::Stamping { visited, time } => stamp(&visitor, visited, time, now, chunk),
-            Phase::Undoing { visited, cause } => undo(&visitor, visited, cause, now, chunk),
+            Phase::Stamping { visited, time } => Ok(stamp(&visitor, visited, time, now, chunk)),
+            Phase::Undoing { visited, cause } => Ok(undo(&visitor, visited, cause, now, chunk)),
         }
     }
 
-    /// A visit of a chunk that isn't one of a SELECT. Err is for want of memory, and changes nothing.
+    /// A visit of a chunk that isn't one of a SELECT. Err is for want of memory, and changes nothing; it never comes where
+    /// its open transaction has its entry.
     fn change(&mut self, alloc: Global, chunk: &mut Chunk) -> Result<Progress, AllocError>
         requires near { NearChunk self.old chunk.old }
         requires changes { is_reading self.old ≡ false }
         ensures event { IfOk result (λ progress. ChunkEvent self.old chunk.old.shown progress self.new chunk.new.shown) }
         ensures short { OnOk result (LeavesShort self.old self.old.now chunk.new.shown) }
         ensures kept { OnErr result (self.new ≡ self.old) }
+        ensures entered { OnErr result (has_entry self.old ≡ false) }
         ensures chunk_kept { OnErr result (chunk.new.shown ≡ chunk.old.shown) }
         ensures kinds { chunk.new.kinds ≡ chunk.old.kinds }
     {
@@ -173,11 +177,13 @@ impl Session {
     }
 
     /// Visits a chunk, which it needs: it reads or writes there for the present statement, or stamps or undoes what its
-    /// open transaction wrote there. Err is for want of memory, and changes nothing that contracts see.
+    /// open transaction wrote there. Err is for want of memory, and changes nothing that contracts see; it never comes where
+    /// its open transaction has its entry, so that a stamp takes no memory.
     pub fn visit_chunk(&mut self, alloc: Global, chunk: &mut Chunk) -> Result<Progress, AllocError>
         requires near { NearChunk self.old chunk.old }
         ensures event { IfOk result (λ progress. ChunkEvent self.old chunk.old.shown progress self.new chunk.new.shown) }
         ensures kept { OnErr result ((self.new ≡ self.old) × (chunk.new.shown ≡ chunk.old.shown)) }
+        ensures entered { OnErr result (has_entry self.old ≡ false) }
         ensures kinds { chunk.new.kinds ≡ chunk.old.kinds }
         ensures short { OnOk result (LeavesShort self.old self.old.now chunk.new.shown) }
     {

@@ -1,6 +1,6 @@
 //! What a session does at the core, chosen before anything changes.
 
-ghost use Rattle.std.specs.Prelude.{◌≡◌, ◌<◌, Some, IfOk, length, drop};
+ghost use Rattle.std.specs.Prelude.{◌≡◌, ◌^◌, ◌<◌, false, Some, IfOk, OnErr, length, drop};
 ghost use Rattle.hy_event.specs.declared.Need.{Need};
 ghost use Rattle.hy_event.specs.declared.SessionData.{SessionData};
 ghost use Rattle.hy_event.specs.Sessions.{label_of};
@@ -8,9 +8,10 @@ ghost use Rattle.hy_event.specs.Needs.{need_of, phase_need};
 ghost use Rattle.hy_event.specs.Coring.{core_turn, phase_turn, unless_blocked, commit_turn, validated_turn, invalid_by};
 ghost use Rattle.hy_journal.specs.Core.{blocked_by};
 ghost use Rattle.hy_validate.specs.Hits.{first_invalid};
-ghost use Rattle.hy_session.specs.Works.{turn_by};
+ghost use Rattle.hy_session.specs.Entered.{has_entry, is_stamping};
+ghost use Rattle.hy_session.specs.Works.{leaves, turn_by};
 
-use crate::numbers::{behind, number};
+use crate::numbers::behind;
 use crate::{Running, Session};
 use hy_bound::{Record, Txn};
 use hy_core::Core;
@@ -40,7 +41,8 @@ pub enum Work {
 
 /// A core step is taken unless another transaction stands between its entry and its end.
 fn unless_marked(core: &Core, label: Label, work: Work) -> Work
-    ensures { (session : SessionData) → turn_by result session core.now ≡ unless_blocked core.now (blocked_by core.now label) (turn_by work session core.now) }
+    ensures turn { (session : SessionData) → turn_by result session core.now ≡ unless_blocked core.now (blocked_by core.now label) (turn_by work session core.now) }
+    ensures stays { leaves work ≡ false → leaves result ≡ false }
 {
     match core.blocked(label) {
         Some(by) => Work::Wait(by),
@@ -66,8 +68,9 @@ fn refusal(records: &[Record], invalid: Invalid) -> Ending
 
 /// COMMIT of a transaction that wrote: validation refuses it, or it enters the journal.
 fn validate(alloc: Global, core: &Core, now: &Running) -> Result<Work, AllocError>
-    ensures { IfOk result (λ work. (session : SessionData) → session.now ≡ Some now.now
+    ensures turn { IfOk result (λ work. (session : SessionData) → session.now ≡ Some now.now
         → validated_turn session core.now now.now (first_invalid now.now.records (drop now.now.prefix core.now.entries)) ≡ turn_by work session core.now) }
+    ensures stays { IfOk result (λ work. leaves work ≡ false) }
 {
     let records = now.records.records();
     let tree = Tree::build(alloc, records)?;
@@ -80,8 +83,9 @@ fn validate(alloc: Global, core: &Core, now: &Running) -> Result<Work, AllocErro
 
 /// COMMIT of a transaction of this label.
 fn commit(alloc: Global, core: &Core, label: Label, now: &Running) -> Result<Work, AllocError>
-    ensures { IfOk result (λ work. (session : SessionData) → session.now ≡ Some now.now → label_of session ≡ label
+    ensures turn { IfOk result (λ work. (session : SessionData) → session.now ≡ Some now.now → label_of session ≡ label
         → unless_blocked core.now (blocked_by core.now label) (commit_turn session core.now now.now now.now.notes) ≡ turn_by work session core.now) }
+    ensures stays { IfOk result (λ work. leaves work ≡ false) }
 {
     match core.blocked(label) {
         Some(by) => Ok(Work::Wait(by)),
@@ -113,7 +117,10 @@ impl Session {
         requires is_open { self.now.now ≡ Some now.now }
         requires needs { phase_need self.now txn.now now.now now.now.phase ≡ Need.Core }
         requires at { length self.now.done < length self.now.program }
-        ensures { IfOk result (λ work. phase_turn self.entry.now core.now txn.now now.now now.now.phase ≡ Some (turn_by work self.entry.now core.now)) }
+        requires few { length core.now.entries < 2 ^ 32 }
+        ensures turn { IfOk result (λ work. phase_turn self.entry.now core.now txn.now now.now now.now.phase ≡ Some (turn_by work self.entry.now core.now)) }
+        ensures leaves { IfOk result (λ work. leaves work ≡ is_stamping now.now.phase) }
+        ensures entered { OnErr result (is_stamping now.now.phase ≡ false) }
     {
         let label = self.label();
         match now.phase {
@@ -124,16 +131,20 @@ impl Session {
             },
             Phase::Stamping { .. } => {
                 let entries = core.since(0).len();
-                Ok(Work::Leave(number(entries.saturating_sub(1))?))
+                Ok(Work::Leave(entries.saturating_sub(1) as u32))
             }
             Phase::Undoing { cause, .. } => Ok(unless_marked(core, label, Work::Close(cause))),
         }
     }
 
-    /// What it does at the core, which it needs.
+    /// What it does at the core, which it needs. Err is for want of memory, and never comes between its transaction's entry
+    /// and its end.
     pub(crate) fn choose(&self, alloc: Global, core: &Core) -> Result<Work, AllocError>
-        requires { need_of self.now ≡ Need.Core }
-        ensures { IfOk result (λ work. core_turn self.entry.now core.now ≡ Some (turn_by work self.entry.now core.now)) }
+        requires needs { need_of self.now ≡ Need.Core }
+        requires few { length core.now.entries < 2 ^ 32 }
+        ensures turn { IfOk result (λ work. core_turn self.entry.now core.now ≡ Some (turn_by work self.entry.now core.now)) }
+        ensures leaves { IfOk result (λ work. leaves work ≡ has_entry self.entry.now) }
+        ensures entered { OnErr result (has_entry self.entry.now ≡ false) }
     {
         match self.program.as_slice().get(self.done.len()) {
             None => unreachable!(),

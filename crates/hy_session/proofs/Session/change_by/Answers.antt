@@ -1,20 +1,23 @@
-use Rattle.std.proofs.Common.{◌≡◌, None, Some, length, true, ap, sym, ◌∙◌, arith}
+use Rattle.std.proofs.Common.{◌≡◌, None, Some, Ok, length, vec_len, vec_capacity, ap, sym, subst, ◌∙◌, arith}
 use Rattle.std.specs.Prelude.{slice_get}
+use Rattle.std.specs.declared.alloc.AllocError.{AllocError}
 use Rattle.hy_stamp.specs.Times.{id_of}
-use Rattle.hy_visit.specs.Pruning.{AllShort}
 use Rattle.hy_event.specs.declared.SessionData.{SessionData}
 use Rattle.hy_event.specs.declared.Open.{Open}
 use Rattle.hy_event.specs.declared.Phase.TheVariants.{Working, Stamping, Undoing}
 use Rattle.hy_event.specs.Sessions.{txn_at}
 use Rattle.hy_event.specs.Turns.{with_open}
 use Rattle.hy_session.specs.contracts.Session.{the_view}
+use Rattle.hy_session.specs.declared.Session.TheInside.{Inside}
+use Rattle.hy_session.specs.Limits.{IsLimited, HasRoomFor}
 use Rattle.hy_session.specs.declared.visitors.Visitor.{Visitor}
 use Rattle.hy_session.specs.Short.{LeavesShort, visit_prunes}
 use Rattle.hy_session.specs.Visitors.{IsVisitor, ShortAt}
+use Rattle.hy_session.proofs.Chunks.{room_stays, stamp_fits, undo_fits}
 use Rattle.hy_session.proofs.Changed.{closed, event_moves, stamped, undone, worked}
 use Rattle.hy_session.proofs.Dispatch.{close_prunes_nothing}
 use Rattle.hy_session.proofs.Leaving.{leaves_at, leaves_others, leaves_stamped, leaving_moves}
-use Rattle.hy_session.proofs.Results.{got, got_none, ok_gives, ok_holds}
+use Rattle.hy_session.proofs.Results.{got, got_none, ok_gives}
 use Rattle.hy_session.proofs.Session.change_by.Goals as goal
 use Rattle.hy_session.proofs.Session.change_by.Goals.{in-Working+in-Some-get, in-Working+in-None, in-Stamping, in-Undoing}
 
@@ -70,21 +73,21 @@ returns-clause-event c =
           got_none txn.statements w.as_slice-in-Working.result.now w.len-in-Working.result (length now.replies) w.as_slice-in-Working.ensures
           (omega (arith, w.len-in-Working.ensures, c.now.inside.replies.ok.0, ap (λ (v : Open). length v.replies) c.now.view_is))
           w.in-None.ensures.lookup.0 in
-          event_moves session chunk.shown c.match-now.result w.undo.result _ (with_open w.undo.new.now seen) c.match-now.chunk w.undo.new.chunk
+          event_moves session chunk.shown c.match-now.result (Ok w.undo.result) _ (with_open w.undo.new.now seen) c.match-now.chunk w.undo.new.chunk
           w.result-is (ap the_view w.self-inside-is) w.chunk-is
-          (closed session seen (visitor_at c) txn now w.undo.new.now chunk w.undo.new.chunk.shown w.undo.result c.self.view_is (visitor_is c) (txn_is c) (open_is c)
+          (closed {E = AllocError} session seen (visitor_at c) txn now w.undo.new.now chunk w.undo.new.chunk.shown (Ok w.undo.result) c.self.view_is (visitor_is c) (txn_is c) (open_is c)
           w.in-Working.visited w.in-Working.count c.requires.near works none w.undo.ensures.event)
       | in-Stamping w ↦
           let stands : now.phase ≡ Stamping w.in-Stamping.visited w.in-Stamping.time = ap (λ (v : Open). v.phase) (sym c.now.view_is) ∙ w.in-Stamping.is in
-          event_moves session chunk.shown c.match-now.result w.stamp.result _ (with_open w.stamp.new.now seen) c.match-now.chunk w.stamp.new.chunk
+          event_moves session chunk.shown c.match-now.result (Ok w.stamp.result) _ (with_open w.stamp.new.now seen) c.match-now.chunk w.stamp.new.chunk
           w.result-is (ap the_view w.self-inside-is) w.chunk-is
-          (stamped session seen (visitor_at c) txn now w.stamp.new.now chunk w.stamp.new.chunk.shown w.stamp.result c.self.view_is (visitor_is c) (txn_is c) (open_is c)
+          (stamped {E = AllocError} session seen (visitor_at c) txn now w.stamp.new.now chunk w.stamp.new.chunk.shown (Ok w.stamp.result) c.self.view_is (visitor_is c) (txn_is c) (open_is c)
           w.in-Stamping.visited w.in-Stamping.time stands w.stamp.ensures.event)
       | in-Undoing w ↦
           let stands : now.phase ≡ Undoing w.in-Undoing.visited w.in-Undoing.cause = ap (λ (v : Open). v.phase) (sym c.now.view_is) ∙ w.in-Undoing.is in
-          event_moves session chunk.shown c.match-now.result w.undo-in-Undoing.result _ (with_open w.undo-in-Undoing.new.now seen) c.match-now.chunk
+          event_moves session chunk.shown c.match-now.result (Ok w.undo-in-Undoing.result) _ (with_open w.undo-in-Undoing.new.now seen) c.match-now.chunk
           w.undo-in-Undoing.new.chunk w.result-is (ap the_view w.self-inside-is) w.chunk-is
-          (undone session seen (visitor_at c) txn now w.undo-in-Undoing.new.now chunk w.undo-in-Undoing.new.chunk.shown w.undo-in-Undoing.result c.self.view_is
+          (undone {E = AllocError} session seen (visitor_at c) txn now w.undo-in-Undoing.new.now chunk w.undo-in-Undoing.new.chunk.shown (Ok w.undo-in-Undoing.result) c.self.view_is
           (visitor_is c) (txn_is c) (open_is c) w.in-Undoing.visited w.in-Undoing.cause stands w.undo-in-Undoing.ensures.event)
     ]
 
@@ -112,19 +115,59 @@ returns-clause-short c =
           got_none txn.statements w.as_slice-in-Working.result.now w.len-in-Working.result (length now.replies) w.as_slice-in-Working.ensures
           (omega (arith, w.len-in-Working.ensures, c.now.inside.replies.ok.0, ap (λ (v : Open). length v.replies) c.now.view_is))
           w.in-None.ensures.lookup.0 in
-          leaving_moves session c.match-now.result w.undo.result c.match-now.chunk w.undo.new.chunk w.result-is w.chunk-is
-          (ok_holds w.undo.result (LeavesShort session session.now w.undo.new.chunk.shown)
+          leaving_moves session c.match-now.result (Ok w.undo.result) c.match-now.chunk w.undo.new.chunk w.result-is w.chunk-is
           (leaves_others session now w.undo.new.chunk.shown (open_is c)
-          (close_prunes_nothing session txn now (txn_is c) (open_is c) w.in-Working.visited w.in-Working.count works none)))
+          (close_prunes_nothing session txn now (txn_is c) (open_is c) w.in-Working.visited w.in-Working.count works none))
       | in-Stamping w ↦
-          leaving_moves session c.match-now.result w.stamp.result c.match-now.chunk w.stamp.new.chunk w.result-is w.chunk-is
-          (ok_gives w.stamp.result ((visitor_at c).prunes ≡ true → AllShort now.cover w.stamp.new.chunk.shown.places)
-          (LeavesShort session session.now w.stamp.new.chunk.shown)
-          (λ short. leaves_stamped session (visitor_at c) now w.stamp.new.chunk.shown (visitor_is c) (open_is c) short)
-          w.stamp.ensures.short)
+          leaving_moves session c.match-now.result (Ok w.stamp.result) c.match-now.chunk w.stamp.new.chunk w.result-is w.chunk-is
+          (leaves_stamped session (visitor_at c) now w.stamp.new.chunk.shown (visitor_is c) (open_is c) w.stamp.ensures.short)
       | in-Undoing w ↦
           let stands : now.phase ≡ Undoing w.in-Undoing.visited w.in-Undoing.cause = ap (λ (v : Open). v.phase) (sym c.now.view_is) ∙ w.in-Undoing.is in
-          leaving_moves session c.match-now.result w.undo-in-Undoing.result c.match-now.chunk w.undo-in-Undoing.new.chunk w.result-is w.chunk-is
-          (ok_holds w.undo-in-Undoing.result (LeavesShort session session.now w.undo-in-Undoing.new.chunk.shown)
-          (leaves_others session now w.undo-in-Undoing.new.chunk.shown (open_is c) (ap (visit_prunes session now) stands)))
+          leaving_moves session c.match-now.result (Ok w.undo-in-Undoing.result) c.match-now.chunk w.undo-in-Undoing.new.chunk w.result-is
+          w.chunk-is (leaves_others session now w.undo-in-Undoing.new.chunk.shown (open_is c) (ap (visit_prunes session now) stands))
+    ]
+
+pub stamp-requires-clause-few : goal.stamp-requires-clause-few
+stamp-requires-clause-few c =
+    let session = c.args.self.now in
+    let there : txn_at session ≡ Some c.in-Some.txn.now =
+    got session.program c.as_slice.result.now c.len.result (length session.done) c.in-Some.txn.now
+    (c.as_slice.ensures ∙ ap (λ (v : SessionData). v.program) c.self.view_is)
+    (omega (arith, c.len.ensures, c.self.inside.done.ok.0, ap (λ (v : SessionData). length v.done) c.self.view_is))
+    c.in-Some.ensures.lookup.0 c.in-Some.ensures.lookup.1 in
+    let opened : session.now ≡ Some c.in-Some-now.now = ap (λ (v : SessionData). v.now) (sym c.self.view_is) ∙ c.in-Some-now.is in
+    let stands : c.in-Some-now.now.phase ≡ Stamping c.in-Stamping.visited c.in-Stamping.time =
+    ap (λ (v : Open). v.phase) (sym c.now.view_is) ∙ c.in-Stamping.is in
+    stamp_fits session (the_view c.self.inside) c.in-Some.txn.now c.in-Some-now.now c.in-Stamping.visited c.in-Stamping.time c.args.chunk.now.shown.table
+    c.requires.near.number c.self.view_is c.self.invariant.0.few_chunks there opened stands c.requires.near.needed
+
+pub undo-requires-in-Undoing : goal.undo-requires-in-Undoing
+undo-requires-in-Undoing c =
+    let session = c.args.self.now in
+    let there : txn_at session ≡ Some c.in-Some.txn.now =
+    got session.program c.as_slice.result.now c.len.result (length session.done) c.in-Some.txn.now
+    (c.as_slice.ensures ∙ ap (λ (v : SessionData). v.program) c.self.view_is)
+    (omega (arith, c.len.ensures, c.self.inside.done.ok.0, ap (λ (v : SessionData). length v.done) c.self.view_is))
+    c.in-Some.ensures.lookup.0 c.in-Some.ensures.lookup.1 in
+    let opened : session.now ≡ Some c.in-Some-now.now = ap (λ (v : SessionData). v.now) (sym c.self.view_is) ∙ c.in-Some-now.is in
+    let stands : c.in-Some-now.now.phase ≡ Undoing c.in-Undoing.visited c.in-Undoing.cause =
+    ap (λ (v : Open). v.phase) (sym c.now.view_is) ∙ c.in-Undoing.is in
+    record {
+      few = undo_fits session (the_view c.self.inside) c.in-Some.txn.now c.in-Some-now.now c.in-Undoing.visited c.in-Undoing.cause
+          c.args.chunk.now.shown.table c.requires.near.number c.self.view_is c.self.invariant.0.few_chunks there opened stands c.requires.near.needed;
+    }
+
+abbrev Holds : Inside → Type 0
+Holds s =
+    IsLimited s.chunks s.shapes s.program (length s.done.items) s.spare.notes s.prepared
+    × HasRoomFor s.now (length s.shapes) (vec_len s.done) (vec_capacity s.done) s.counts.items (vec_capacity s.counts)
+
+pub invariant_of-self : goal.invariant_of-self
+invariant_of-self c =
+    let room = room_stays c.self.inside.now c.in-Some-now.now c.in-Some-now.is c.self.invariant.1 in
+    elim c.match-now.branch [
+      | in-Working+in-Some-get w ↦ subst Holds (sym w.self-inside-is) (c.self.invariant.0, room w.work.new.now)
+      | in-Working+in-None w ↦ subst Holds (sym w.self-inside-is) (c.self.invariant.0, room w.undo.new.now)
+      | in-Stamping w ↦ subst Holds (sym w.self-inside-is) (c.self.invariant.0, room w.stamp.new.now)
+      | in-Undoing w ↦ subst Holds (sym w.self-inside-is) (c.self.invariant.0, room w.undo-in-Undoing.new.now)
     ]

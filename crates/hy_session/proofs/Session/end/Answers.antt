@@ -1,25 +1,48 @@
-use Rattle.std.proofs.Common.{◌≡◌, ◌∷◌, ◌++◌, List, [], Some, None, sym, ap, ◌∙◌}
+use Rattle.std.proofs.Common.{◌≡◌, ◌∷◌, ◌++◌, ℕ, List, [], Option, Some, map, length, sym, ap, ◌∙◌}
+use Rattle.std.specs.Prelude.{if◌then◌else◌}
+use Rattle.std.specs.List.{range_with_len}
+use Rattle.hy_bound.specs.declared.Bound.{Bound}
 use Rattle.hy_bound.specs.declared.Reply.{Reply}
-use Rattle.hy_render.specs.declared.TxnOutcome.{TxnOutcome}
 use Rattle.hy_event.specs.declared.SessionData.{SessionData}
 use Rattle.hy_event.specs.declared.Open.{Open}
-use Rattle.hy_event.specs.Ended.{outcome_of}
-use Rattle.hy_session.proofs.Ending.{ended_now}
+use Rattle.hy_event.specs.Ended.{placed_in, statements_in}
+use Rattle.hy_event.specs.Sessions.{label_of, txn_at}
+use Rattle.hy_session.specs.Entered.{is_stamping}
+use Rattle.hy_session.proofs.Ending.{ended_by, outcome_by, placed_of}
 use Rattle.hy_session.proofs.Session.end.Goals as goal
 
-pub returns-in-Some-take-clause-ok : goal.returns-in-Some-take-clause-ok
-returns-in-Some-take-clause-ok c =
-    let held : c.args.self.now.now ≡ c.self.inside.now = ap (λ (session : SessionData). session.now) (sym c.self.view_is) in
-    let is_seen : c.self.inside.now ≡ Some c.in-Some.now = c.in-Some.is in
-    let is_taken : Some c.in-Some-take.now ≡ c.self.inside.now = c.in-Some-take.ensures.value in
-    let gone : c.take.new.self ≡ None = c.take.ensures.after in
-    let given : (others : List Reply)
-    → record c.in_ok-outcome.outcome { replies = others } ≡ record (outcome_of c.args.self.now c.in-Some.now c.args.ending) { replies = others } =
-    λ others. c.in_ok-outcome.ensures others in
-    let told : c.from_vec.result ≡ c.in-Some-take.now.replies = c.from_vec.ensures ∙ ap (λ (now : Open). now.replies) c.now.view_is in
-    let put : c.push_reserved.new.self.items ≡ c.args.self.now.done ++ record c.in_ok-outcome.outcome { replies = c.from_vec.result } ∷ [] =
-    c.push_reserved.ensures.items ∙ ap (λ (done : List TxnOutcome). done ++ record c.in_ok-outcome.outcome { replies = c.from_vec.result } ∷ [])
-    (c.in_ok-reserve.ensures.items ∙ ap (λ (session : SessionData). session.done) c.self.view_is) in
-    ap (λ (session : SessionData). record session { done = c.push_reserved.new.self.items; now = c.take.new.self }) c.self.view_is
-    ∙ ended_now c.args.self.now c.in-Some.now c.in-Some-take.now c.self.inside.now c.take.new.self c.args.ending c.in_ok-outcome.outcome c.from_vec.result
-    c.push_reserved.new.self.items held is_seen is_taken gone given told put
+pub returns-clause-after : goal.returns-clause-after
+returns-clause-after c =
+    let session = c.args.self.now in
+    let now = c.in-Some.now in
+    let label = c.label-label.result in
+    let wrote = c.written_by.result in
+    let placed = c.placed_each-placed.result in
+    let done = c.push_reserved.new.self.items in
+    let opened : session.now ≡ Some now = ap (λ (s : SessionData). s.now) (sym c.self.view_is) ∙ sym c.in-Some.ensures.value in
+    let labelled : label ≡ label_of session = c.label-label.ensures ∙ ap label_of c.self.view_is in
+    let wrote_is : wrote ≡ (if is_stamping now.phase then now.wrote else c.args.places) =
+    c.written_by.ensures ∙ ap (λ (v : Open). if is_stamping v.phase then v.wrote else c.args.places) c.now.view_is in
+    let counted : List Bound → List (Option ℕ) → ℕ → List ℕ = λ statements took tables. map (λ table. placed_in table statements took) (range_with_len 0 tables) in
+    let placed_is : placed ≡ placed_of session now =
+    c.placed_each-placed.ensures
+    ∙ (ap (λ (all : List Bound). counted all c.as_slice.result.now c.len-tables.result)
+    (c.statements.ensures ∙ ap (λ (s : SessionData). statements_in (txn_at s)) c.self.view_is)
+    ∙ (ap (λ (took : List (Option ℕ)). counted (statements_in (txn_at session)) took c.len-tables.result)
+    (c.as_slice.ensures.value ∙ ap (λ (v : Open). v.took) c.now.view_is)
+    ∙ ap (counted (statements_in (txn_at session)) now.took) (c.len-tables.ensures ∙ ap (λ (s : SessionData). length s.shapes) c.self.view_is))) in
+    let put : done ≡ session.done ++ outcome_by now c.args.ending label wrote placed ∷ [] =
+    c.push_reserved.ensures.items
+    ∙ (ap (λ (replies : List Reply). c.self.inside.done.items ++ record {
+      label = label;
+      start = c.now.inside.prefix;
+      replies = replies;
+      ending = c.args.ending;
+      wrote = wrote;
+      placed = placed;
+    } ∷ []) c.from_vec.ensures
+    ∙ (ap (λ (v : Open). c.self.inside.done.items ++ outcome_by v c.args.ending label wrote placed ∷ []) c.now.view_is
+    ∙ ap (λ (s : SessionData). s.done ++ outcome_by now c.args.ending label wrote placed ∷ []) c.self.view_is)) in
+    ap (λ (s : SessionData). record s { done = done; now = c.take.new.self }) c.self.view_is
+    ∙ (ap (λ (open_one : Option Open). record session { done = done; now = open_one }) c.take.ensures.after
+    ∙ ended_by session now c.args.ending label c.args.places wrote placed done opened labelled (c.requires.places now opened) wrote_is placed_is put)

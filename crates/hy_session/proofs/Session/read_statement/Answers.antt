@@ -22,7 +22,7 @@ unreachable-requires c =
     let reader = c.args.reader.now in
     let planned = c.requires.planned in
     let chunks : c.self.inside.chunks ≡ session.chunks = ap (λ (s : SessionData). s.chunks) c.self.view_is in
-    let some : 0 < session.chunks = subst (λ (n : ℕ). 0 < n) chunks c.self.invariant.some_chunk in
+    let some : 0 < session.chunks = subst (λ (n : ℕ). 0 < n) chunks c.self.invariant.0.some_chunk in
     let none : slice_get reader.parts (c.args.present.now.visited / session.chunks) ≡ None =
     found_in _ session reader.parts c.args.present.now.visited _ _ c.self.view_is c.part.ensures
     (ap (λ (one : Option (Bor PlanPart)). option_copied one) c.in_default.is) in

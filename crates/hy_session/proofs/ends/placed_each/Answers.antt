@@ -7,4 +7,10 @@ use Rattle.hy_session.proofs.ends.placed_each.Goals as goal
 pub loop-table-preserved : goal.loop-table-preserved
 loop-table-preserved c =
     let step = mapped_more (λ (table : ℕ). placed_in table c.args.statements.now c.args.took.now) c.loop-table.table c.args.tables c.loop-table-test.true in
-    grind (arith, common_steps, step, c.count_placed.ensures)
+    let pushed = c.push_reserved.ensures in
+    let before = c.loop-table.invariant in
+    record {
+      counted = grind (arith, common_steps, step, c.count_placed.ensures, pushed.items, before.counted);
+      many = omega (arith, pushed.len, before.many);
+      room = omega (arith, pushed.capacity, before.room);
+    }

@@ -3,8 +3,7 @@ use Rattle.std.specs.Prelude.{◌≡◌, ◌≢◌, ◌≤◌, ◌+◌, ℕ, Boo
 use Rattle.hy_locks.specs.Seats.{Home}
 use Rattle.hy_locks.specs.Knowledge.{Knowledge, Visitor, Seated}
 
--- which parts it is of, its number and its session, and whether its last run ended for want of memory: it found none, or
--- was blocked once another worker had found none
+-- which parts it is of, its number and its session, and whether its last run ended because it found no memory
 pub record Task (S : Type 0) : Type 0 where
   pub home : Home
   pub number : ℕ
@@ -28,11 +27,11 @@ module _ {S P : Type 0} (point_of : S → Option P) where
   abbrev pub HasEnded : Task S → Type 0
   HasEnded w = point_of w.session ≡ None
 
-  -- it stopped for want of memory, and its session is not at the end
+  -- it found no memory, and its session is not at the end
   abbrev pub HasStarved : Task S → Type 0
   HasStarved w = (w.starved ≡ true) × (point_of w.session ≢ None)
 
-  -- it stopped for want of memory before the end, or came to it
+  -- it found no memory before the end, or came to it
   abbrev pub HasStopped : Task S → Type 0
   HasStopped w = MatchBool w.starved (point_of w.session ≢ None) (point_of w.session ≡ None)
 

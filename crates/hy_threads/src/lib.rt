@@ -4,8 +4,8 @@
 //! visit it, and gives it back, until the session is at its end. A gate is told of each visit before the part is taken,
 //! while it is held, and after it was given, so that a caller may watch the run or bring about an order.
 //!
-//! A worker that finds no memory stops before its visit. Who is blocked once another found no memory stops too, since
-//! nobody may ever unblock it.
+//! A worker that finds no memory stops before its visit, and the others go on. One that waits for it would wait for ever,
+//! so an engine lets no session wait for one that may find no memory.
 //!
 //! An engine says by `Worked` what its sessions need and what a visit may do; `work` and `run_all` do the rest. What
 //! comes out is parts and sessions of which the engine's fact holds, and every session is at its end.

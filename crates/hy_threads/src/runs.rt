@@ -58,8 +58,8 @@ fn join_all<P: Worked>(
 }
 
 /// Runs each session over the parts to its end, each in a thread of its own, and gives the parts and the sessions
-/// back, in order. Err is for want of memory: before the run, or in a visit, where each of the others has run to its end
-/// or stopped because it was blocked. After the run it takes none. See `work` on threads.
+/// back, in order. Err is for want of memory: before the run, or in a visit, where each of the others that found memory
+/// has run to its end. After the run it takes none. See `work` on threads.
 pub fn run_all<T: Threads + Wait + Sync, P: Worked + Send + Sync, G: Gate>(
     rt: &T,
     alloc: Global,

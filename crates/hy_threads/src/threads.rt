@@ -1,7 +1,7 @@
 //! Every worker runs to its end, in a thread of its own.
 ghost use Rattle.std.specs.Prelude.{◌≡◌, ◌<◌, ℕ, All, Any, length, slice_index_or, OnOk, OnErr};
 ghost use Rattle.std.specs.List.{AllZip, list_any};
-ghost use Rattle.hy_threads.specs.Tasks.{Task, Fits, IsSameWorker, Stops, HasEnded, HasStarved};
+ghost use Rattle.hy_threads.specs.Tasks.{Task, Fits, IsSameWorker, Stops, HasEnded, HasStarved, HasStopped};
 
 use crate::gate::Gate;
 use crate::worked::Worked;
@@ -9,10 +9,9 @@ use crate::worker::Worker;
 use hy_locks::Parts;
 use std::alloc::{AllocError, Global};
 use std::sync::Wait;
-use std::sync::atomic::AtomicBool;
 use std::thread::{Threads, for_each_mut};
 
-// Runs each worker, in a thread of its own. They share a flag, which is up once one of them found no memory.
+// Runs each worker, in a thread of its own.
 fn run_each<T: Threads + Wait + Sync, P: Worked + Send + Sync, G: Gate>(
     rt: &T,
     alloc: Global,
@@ -25,7 +24,6 @@ fn run_each<T: Threads + Wait + Sync, P: Worked + Send + Sync, G: Gate>(
         → Stops P.width_of P.point_of (slice_index_or workers.old k d) (slice_index_or workers.new k d) }
 {
     let threads = workers.len().max(1);
-    let shortage = AtomicBool::new(false);
     for_each_mut(
         rt,
         workers,
@@ -33,11 +31,11 @@ fn run_each<T: Threads + Wait + Sync, P: Worked + Send + Sync, G: Gate>(
         &|_, worker: &mut Worker<P>|
             requires { Fits P.width_of parts.now worker.old }
             ensures { Stops P.width_of P.point_of worker.old worker.new }
-        { worker.run(rt, alloc, parts, gate, &shortage) },
+        { worker.run(rt, alloc, parts, gate) },
     );
 }
 
-// Whether some worker stopped for want of memory.
+// Whether some worker found no memory.
 fn any_starved<P: Worked>(workers: &[Worker<P>]) -> bool
     ensures { result ≡ list_any (λ w. w.starved) workers.now }
 {
@@ -46,11 +44,11 @@ fn any_starved<P: Worked>(workers: &[Worker<P>]) -> bool
 
 /// Runs each worker until its session is at its end, each in a thread of its own. One whose session is blocked gives
 /// its part back as it was, and tries again. One that finds no memory gives its part back as it was and stops before
-/// that visit. From then on one that is blocked stops too, as starved, since nobody may ever unblock it; one that is not
-/// blocked goes on to its end. The answer is then Err. Workers that stopped so may be run again.
+/// that visit; the others go on to their ends. The answer is then Err. Workers that stopped so may be run again.
 ///
 /// Nothing is said of progress. A worker that is blocked, where the system gives too few threads, by one that has not
-/// begun, tries again for ever.
+/// begun, tries again for ever; and so does one that waits for a session whose worker found no memory. So the visits of a
+/// session that others may wait for are to take none.
 pub fn work<T: Threads + Wait + Sync, P: Worked + Send + Sync, G: Gate>(
     rt: &T,
     alloc: Global,
@@ -60,6 +58,7 @@ pub fn work<T: Threads + Wait + Sync, P: Worked + Send + Sync, G: Gate>(
 ) -> Result<(), AllocError>
     requires { All (Fits P.width_of parts.now) workers.old }
     ensures same { AllZip (IsSameWorker P.width_of) workers.old workers.new }
+    ensures stopped { All (HasStopped P.point_of) workers.new }
     ensures ended { OnOk result (All (HasEnded P.point_of) workers.new) }
     ensures starved { OnErr result (Any (HasStarved P.point_of) workers.new) }
 {

@@ -1,36 +1,18 @@
 //! A session with its seat, and its way to the end.
-ghost use Rattle.std.specs.Prelude.{◌≡◌, true, false, MatchBool, IfOk, OnErr};
+ghost use Rattle.std.specs.Prelude.{◌≡◌, false, MatchBool};
 ghost use Rattle.hy_locks.specs.Seats.{number_of};
-ghost use Rattle.hy_threads.specs.declared.worked.Visited.TheVariants.{Blocked};
 ghost use Rattle.hy_threads.specs.Tasks.{IsReady, Fits, IsSameWorker, HasStopped};
 
 use crate::gate::{Gate, Moment, Point};
 use crate::worked::{Visited, Worked};
 use hy_locks::{Parts, Seat};
-use std::alloc::{AllocError, Global};
+use std::alloc::Global;
 use std::marker::Model;
 use std::sync::Wait;
-use std::sync::atomic::{AtomicBool, Ordering};
 use std::thread;
 
-// Whether a worker stops after this visit. It does where it found no memory, and raises the flag for the others; where
-// it is blocked, it does once the flag is up, since whom it waits for may have stopped.
-fn must_stop(visited: &Result<Visited, AllocError>, shortage: &AtomicBool) -> bool
-    ensures err { OnErr visited.now (result ≡ true) }
-    ensures blocked { result ≡ true → IfOk visited.now (λ v. v ≡ Blocked) }
-{
-    match visited {
-        Ok(Visited::Moved | Visited::Answered) => false,
-        Ok(Visited::Blocked) => shortage.load(Ordering::SeqCst),
-        Err(_) => {
-            shortage.store(true, Ordering::SeqCst);
-            true
-        }
-    }
-}
-
-/// A session, the seat that knows it and has no part, and whether its last run ended for want of memory, its own or
-/// another's. A clause sees it as its `Task`.
+/// A session, the seat that knows it and has no part, and whether its last run ended because it found no memory. A clause
+/// sees it as its `Task`.
 #[derive(Drop)]
 pub struct Worker<P: Worked> {
     seat: Seat<P>,
@@ -70,7 +52,7 @@ impl<P: Worked> Worker<P> {
         self.seat.number()
     }
 
-    /// Whether its last run ended for want of memory: it found none, or was blocked once another worker had found none.
+    /// Whether its last run ended because it found no memory.
     pub fn is_starved(&self) -> bool
         ensures { result ≡ self.now.starved }
     {
@@ -91,14 +73,13 @@ impl<P: Worked> Worker<P> {
         (seat, session)
     }
 
-    // One visit of the part that the session needs. False where it needs none, or the worker stops before that visit.
+    // One visit of the part that the session needs. False where it needs none, or finds no memory for that visit.
     fn visit_once<T: Wait, G: Gate>(
         &mut self,
         rt: &T,
         alloc: Global,
         parts: &Parts<P>,
         gate: &G,
-        shortage: &AtomicBool,
     ) -> bool
         requires fits { Fits P.width_of parts.now self.old }
         requires fed { self.old.starved ≡ false }
@@ -124,19 +105,17 @@ impl<P: Worked> Worker<P> {
         if matches!(visited, Ok(Visited::Blocked)) {
             thread::yield_now();
         }
-        self.starved = must_stop(&visited, shortage);
+        self.starved = visited.is_err();
         !self.starved
     }
 
-    /// Visits what the session needs, until it is at its end, finds no memory, or is blocked while the flag is up that
-    /// another worker found none. Whoever finds none raises it.
+    /// Visits what the session needs, until it is at its end or finds no memory.
     pub(crate) fn run<T: Wait, G: Gate>(
         &mut self,
         rt: &T,
         alloc: Global,
         parts: &Parts<P>,
         gate: &G,
-        shortage: &AtomicBool,
     )
         requires { Fits P.width_of parts.now self.old }
         ensures same { IsSameWorker P.width_of self.old self.new }
@@ -144,7 +123,7 @@ impl<P: Worked> Worker<P> {
     {
         self.starved = false;
         for _ in rt.forever() {
-            if !self.visit_once(rt, alloc, parts, gate, shortage) {
+            if !self.visit_once(rt, alloc, parts, gate) {
                 return;
             }
         }

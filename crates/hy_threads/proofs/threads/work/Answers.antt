@@ -9,6 +9,12 @@ returns-then-any_starved-clause-same g c =
     let as_many : length news ≡ length olds = search rules in
     zip_from (IsSameWorker g.P.Worked.width_of) olds news as_many (λ k d below. (c.run_each.ensures k d below).0)
 
+pub returns-then-any_starved-clause-stopped : goal.returns-then-any_starved-clause-stopped
+returns-then-any_starved-clause-stopped g c =
+    let olds = c.args.workers.now in let news = c.run_each.new.workers in
+    let as_many : length news ≡ length olds = search rules in
+    stopped_all g.P.Worked.point_of g.P.Worked.width_of olds news as_many c.run_each.ensures
+
 pub returns-then-any_starved-clause-starved : goal.returns-then-any_starved-clause-starved
 returns-then-any_starved-clause-starved g c =
     let olds = c.args.workers.now in let news = c.run_each.new.workers in let point_of = g.P.Worked.point_of in
@@ -21,6 +27,12 @@ returns-clause-same g c =
     let olds = c.args.workers.now in let news = c.run_each.new.workers in
     let as_many : length news ≡ length olds = search rules in
     zip_from (IsSameWorker g.P.Worked.width_of) olds news as_many (λ k d below. (c.run_each.ensures k d below).0)
+
+pub returns-clause-stopped : goal.returns-clause-stopped
+returns-clause-stopped g c =
+    let olds = c.args.workers.now in let news = c.run_each.new.workers in
+    let as_many : length news ≡ length olds = search rules in
+    stopped_all g.P.Worked.point_of g.P.Worked.width_of olds news as_many c.run_each.ensures
 
 pub returns-clause-ended : goal.returns-clause-ended
 returns-clause-ended g c =

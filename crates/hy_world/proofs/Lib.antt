@@ -14,5 +14,6 @@ mod Loops
 mod Runs
 pub mod Growing
 pub mod Logs
+mod Orders
 pub mod SharedWorlds
 pub mod Turned

@@ -1,17 +1,28 @@
 -- Parts of a run that keeps a log, one after another.
-use Rattle.std.proofs.Common.{◌≡◌, ◌⊎◌, ℕ, ◌*◌, ◌≤◌, List, [], ◌∷◌, ◌++◌, Option, None, Some, Result, Ok, Err, true, is_some, length, take, drop, arith, refl, ap, sym, subst, ◌∙◌, inl, inr, le_refl, le_trans, append_assoc, append-nil}
-use Rattle.std.specs.Prelude.{slice_get}
+use Rattle.std.proofs.Common.{◌≡◌, ◌⊎◌, ℕ, suc, ◌*◌, ◌≤◌, List, [], ◌∷◌, ◌++◌, Option, None, Some, Result, Ok, Err, true, is_some, length, map, take, drop, arith, refl, ap, sym, subst, ◌∙◌, inl, inr, le_refl, le_trans, append_assoc, append-nil}
+use Rattle.std.specs.Prelude.{slice_get, filter}
 use Rattle.std.proofs.Math.Logic.{⊎_elim}
 use Rattle.std.proofs.Math.Seq.{drop-append_seam, drop-length, take-append_seam}
-use Rattle.std.proofs.lemmas.List.{take_all}
+use Rattle.std.proofs.lemmas.List.{take_all, take-append-le, length-append, length-map, map-append}
 use Rattle.hy_journal.specs.declared.Entry.{Entry}
 use Rattle.hy_redo.specs.Logs.{IsLogOf}
 use Rattle.hy_redo.specs.Crashes.{AreLogsOf, Appends, IsBeforeOrAfter, next_gate}
-use Rattle.hy_world.specs.Logged.{Extend, GrowByOne, with_next, IsLogOfFirst, IsKept, Logs, IsKeptSince, RecoversAfter, IsDurable}
+use Rattle.hy_world.specs.Logged.{Extend, GrowByOne, with_next, IsLogOfFirst, IsLogButTheLast, IsKept, IsKeptButTheLast, Logs, IsKeptSince, IsUnderWay, RecoversAfter, IsDurable, IsLogOfRun, LogsRun}
 use Rattle.hy_value.specs.declared.Kind.{Kind}
+use Rattle.hy_stamp.specs.declared.Label.{Label}
+use Rattle.hy_change.specs.declared.Change.{Change}
+use Rattle.hy_notes.specs.Notes.{is_change}
+use Rattle.hy_render.specs.declared.Committed.{Committed}
 use Rattle.hy_journal.specs.declared.CoreData.{CoreData}
 use Rattle.hy_machine.specs.declared.Setting.{Setting}
 use Rattle.hy_machine.specs.declared.State.{State}
+use Rattle.hy_machine.specs.declared.Entry.{Entry as Entered}
+use Rattle.hy_machine.specs.Sessions.{snapshot}
+use Rattle.hy_machine.specs.Tables.{history, opening_tables}
+use Rattle.hy_machine.specs.Validation.{committed_of}
+use Rattle.hy_shows.specs.CoreVisits.{EntriesTellChanges}
+use Rattle.hy_shows.specs.Numbers.{EntryShows, EntriesShow}
+use Rattle.hy_near.specs.Outcomes.{told_entry}
 use Rattle.hy_near.specs.Typed.{AreTyped}
 use Rattle.hy_durable.specs.Laws.{LogsRecoverTables}
 use Rattle.hy_world.specs.Worlds.{WorldData, ShowsState, parts_of}
@@ -19,13 +30,13 @@ use Rattle.hy_world.proofs.Parts.{core_is, how_many}
 
 -- ---- entries
 
-none_behind : (entries : List Entry) → Extend entries entries
+pub none_behind : {A : Type 0} (entries : List A) → Extend entries entries
 none_behind entries = record { others = []; behind = sym (append-nil entries) }
 
-extend_then : (a b c : List Entry) → Extend a b → Extend b c → Extend a c
-extend_then a b c h k = record {
+pub extend_then : {A : Type 0} (a b c : List A) → Extend a b → Extend b c → Extend a c
+extend_then {A} a b c h k = record {
   others = h.others ++ k.others;
-  behind = k.behind ∙ (ap (λ (x : List Entry). x ++ k.others) h.behind ∙ append_assoc a h.others k.others);
+  behind = k.behind ∙ (ap (λ (x : List A). x ++ k.others) h.behind ∙ append_assoc a h.others k.others);
 }
 
 first_further : (old new : List Entry) (bytes : List ℕ) → Extend old new → IsLogOfFirst old bytes → IsLogOfFirst new bytes
@@ -74,6 +85,26 @@ appended clock image_since entries entry gate before after h = record {
   later = h.later;
   moments = λ time bytes le left. ⊎_elim (λ earlier. inl earlier) (λ is. inr (before_or_after entries entry gate bytes is)) (h.moments time bytes le left);
 }
+
+-- where it broke off, a crash leaves the log of all entries, or of all but the one that was to be appended
+but_the_last : (entries : List Entry) (entry : Entry) (gate : ℕ) (bytes : List ℕ) → IsBeforeOrAfter entries entry gate bytes
+    → IsLogButTheLast (entries ++ entry ∷ []) bytes
+but_the_last entries entry gate bytes (inl log) = record { first = entries; gate = gate; but_last = inr (entry, refl); log = log }
+but_the_last entries entry gate bytes (inr log) =
+    record { first = entries ++ entry ∷ []; gate = next_gate gate entry; but_last = inl refl; log = log }
+
+pub append_cut : {D : Type 0} (clock : D → ℕ) (image : D → List ℕ → Type 0) (image_since : D → ℕ → List ℕ → Type 0)
+    → ((disk : D) (time : ℕ) (bytes : List ℕ) → time ≤ clock disk → image disk bytes → image_since disk time bytes)
+    → (entries : List Entry) (entry : Entry) (gate : ℕ) (before after : D) → Appends clock image_since entries entry gate before after
+    → (bytes : List ℕ) → image after bytes → IsLogButTheLast (entries ++ entry ∷ []) bytes
+append_cut clock image image_since counts entries entry gate before after h bytes left =
+    but_the_last entries entry gate bytes (h.each bytes (counts after (clock before) bytes h.later left))
+
+-- a log that is kept has all entries
+pub all_kept : {D : Type 0} (image : D → List ℕ → Type 0) (entries : List Entry) (log : Option ℕ) (disk : D) → IsKept image entries log disk
+    → IsKeptButTheLast image entries log disk
+all_kept image entries None disk kept = tt
+all_kept image entries (Some gate) disk kept = λ bytes left. record { first = entries; gate = gate; but_last = inl refl; log = kept bytes left }
 
 -- or none is, where no log is kept
 pub passed_by : {D : Type 0} (clock : D → ℕ) (image_since : D → ℕ → List ℕ → Type 0) (entries : List Entry) (next : Option Entry) (disk : D)
@@ -148,4 +179,84 @@ is_durable image image_since law setting kinds state world time disk shows typed
         recovers_after law setting kinds state world shows typed (length is.first) is.gate bytes
             (subst (λ (entries : List Entry). IsLogOf entries is.gate bytes) (sym (first_taken is.first world.core.entries is.are_first)) is.log),
       );
+}
+
+-- ---- a run that broke off, or came to its end
+
+-- the entries of a world are those of the state that it shows
+entries_count : (setting : Setting) (state : State) (world : WorldData) → ShowsState setting state world → length world.core.entries ≡ length state.order
+entries_count setting state world shows =
+    ap (λ (core : CoreData). length core.entries) (sym (core_shown setting state world shows)) ∙ shows.shown.shows.core_shows.entries_show.count
+
+abbrev committed : Label → List Change → Committed
+committed label changes = record { label = label; changes = changes }
+
+entries_tell : EntriesTellChanges → (entries : List Entry) (order : List Entered) → EntriesShow order entries → map told_entry entries ≡ map committed_of order
+entries_tell one [] [] show = refl
+entries_tell one [] (entered ∷ order) show = absurd (omega (arith, show.count))
+entries_tell one (entry ∷ entries) [] show = absurd (omega (arith, show.count))
+entries_tell one (entry ∷ entries) (entered ∷ order) show =
+    let here : EntryShows entered entry = show.each 0 entered entry refl refl in
+    let same : told_entry entry ≡ committed_of entered =
+    ap (λ (label : Label). committed label (filter is_change entry.notes)) here.label ∙ ap (committed entered.label) (one entered entry here) in
+    ap (λ (new : Committed). new ∷ map told_entry entries) same
+    ∙ ap (λ (others : List Committed). committed_of entered ∷ others) (entries_tell one entries order (record {
+      count = omega (arith, show.count);
+      each = λ rank other another e f. show.each (suc rank) other another e f;
+    }))
+
+world_tells : EntriesTellChanges → (setting : Setting) (state : State) (world : WorldData) → ShowsState setting state world
+    → map told_entry world.core.entries ≡ map committed_of state.order
+world_tells one setting state world shows =
+    ap (λ (core : CoreData). map told_entry core.entries) (sym (core_shown setting state world shows))
+    ∙ entries_tell one shows.shown.shows.core.entries state.order shows.shown.shows.core_shows.entries_show
+
+-- what the first entries tell is the first part of the order
+first_told : (first others entries : List Entry) (now order more : List Entered) → entries ≡ first ++ others → map told_entry entries ≡ map committed_of now
+    → order ≡ now ++ more → map told_entry first ≡ take (length first) (map committed_of order)
+first_told first others entries now order more parted tells behind =
+    let all : map committed_of order ≡ map told_entry first ++ (map told_entry others ++ map committed_of more) =
+    ap (map committed_of) behind ∙ (map-append committed_of now more
+    ∙ (ap (λ (x : List Committed). x ++ map committed_of more) (sym tells ∙ (ap (map told_entry) parted ∙ map-append told_entry first others))
+    ∙ append_assoc (map told_entry first) (map told_entry others) (map committed_of more))) in
+    sym (ap (λ (x : List Committed). take (length first) x) all
+    ∙ (ap (λ n. take n (map told_entry first ++ (map told_entry others ++ map committed_of more))) (sym (length-map first told_entry))
+    ∙ take-append_seam (map told_entry first) (map told_entry others ++ map committed_of more)))
+
+-- the machine's rows after the first entries are those of every run that has these first
+same_snapshot : (setting : Setting) (now state : State) (more : List Entered) (count : ℕ) → state.order ≡ now.order ++ more → count ≤ length now.order
+    → snapshot setting now count ≡ snapshot setting state count
+same_snapshot setting now state more count behind within =
+    ap (history (opening_tables setting)) (sym (ap (take count) behind ∙ take-append-le count now.order more within))
+
+log_of_run : LogsRecoverTables → EntriesTellChanges → (setting : Setting) (kinds : List (List Kind)) (state : State) (world : WorldData)
+    → IsUnderWay setting state.order world → AreTyped kinds setting.shapes setting.first setting.programs → (bytes : List ℕ)
+    → IsLogOfFirst world.core.entries bytes → IsLogOfRun setting kinds state bytes
+log_of_run law one setting kinds state world way typed bytes is =
+    let count : ℕ = length is.first in
+    let within : count ≤ length way.state.order =
+    omega (arith, entries_count setting way.state world way.shows, ap length is.are_first.behind, length-append is.first is.are_first.others) in
+    let found : RecoversAfter setting kinds way.state count bytes =
+    recovers_after law setting kinds way.state world way.shows typed count is.gate bytes
+    (subst (λ (entries : List Entry). IsLogOf entries is.gate bytes) (sym (first_taken is.first world.core.entries is.are_first)) is.log) in
+    record {
+      count = count;
+      log = record {
+        entries = is.first;
+        tell = first_told is.first is.are_first.others world.core.entries way.state.order state.order way.first.others is.are_first.behind
+            (world_tells one setting way.state world way.shows) way.first.behind;
+        gate = is.gate;
+        log = is.log;
+      };
+      recovers = (found.0, found.1, found.2 ∙ same_snapshot setting way.state state way.first.others count way.first.behind within);
+    }
+
+pub logs_run : {D : Type 0} (clock : D → ℕ) (image_since : D → ℕ → List ℕ → Type 0) → LogsRecoverTables → EntriesTellChanges
+    → (setting : Setting) (kinds : List (List Kind)) (state : State) (old new : WorldData) (before after : D)
+    → IsUnderWay setting state.order new → AreTyped kinds setting.shapes setting.first setting.programs
+    → Logs clock image_since old.core.entries new.core.entries before after → LogsRun clock image_since setting kinds state before after
+logs_run clock image_since law one setting kinds state old new before after way typed logs = record {
+  later = logs.later;
+  moments = λ time bytes le left.
+      ⊎_elim (λ earlier. inl earlier) (λ is. inr (log_of_run law one setting kinds state new way typed bytes is)) (logs.moments time bytes le left);
 }

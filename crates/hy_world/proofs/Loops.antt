@@ -1,5 +1,5 @@
 -- The loops of a run, turn by turn: what is left of the machine's own after a turn.
-use Rattle.std.proofs.Common.{◌≡◌, ℕ, zero, suc, ◌+◌, ◌-◌, ◌*◌, ◌<◌, ◌≤◌, List, ◌∷◌, length, drop, get_or, refl, ap, ◌∙◌, sym, arith, add-one}
+use Rattle.std.proofs.Common.{◌≡◌, ℕ, zero, suc, ◌+◌, ◌-◌, ◌*◌, ◌<◌, ◌≤◌, List, ◌∷◌, length, drop, get_or, refl, ap, ◌∙◌, sym, subst, arith, add-one}
 use Rattle.std.proofs.Common.{Bool, true, false, cond, drop-cons}
 use Rattle.std.proofs.lemmas.List.{drop_all}
 use Rattle.std.proofs.lemmas.Slice.Zip.{AllZip-long}
@@ -14,8 +14,11 @@ use Rattle.hy_lawful.specs.Kept.{ReachedAreKept}
 use Rattle.hy_near.specs.Bounds.{BoundsAreEnough, most_turns}
 use Rattle.hy_near.specs.Outcomes.{EndsAreTheMachines, are_done}
 use Rattle.hy_world.specs.Follows.{Follows, Steps}
+use Rattle.hy_world.specs.Logged.{Extend, Approaches}
 use Rattle.hy_world.specs.Worlds.{WorldData, ShowsState, parts_of}
-use Rattle.hy_world.proofs.Ahead.{Ahead, all_ahead, goes_on, all_done}
+use Rattle.hy_world.proofs.Ahead.{Ahead, all_ahead, goes_on, all_done, near_done, near_undone, breaks_early, breaks_off}
+use Rattle.hy_world.proofs.Logs.{none_behind}
+use Rattle.hy_world.proofs.Orders.{step_grows, chosen_grows, moves_grow, items_grow, round_grows, repeated_grows, rounds_grow}
 
 -- ---- the steps of a whole statement
 
@@ -197,3 +200,59 @@ rounds_end ends most round from now t ahead =
 pub rounds_over : (most round : ℕ) (from now : WorldData) → most ≤ round → Ahead (rounds_left most round) all_rounds from now → Follows all_rounds from now
 rounds_over most round from now l ahead =
     all_done (rounds_left most round) all_rounds from now ahead (λ setting state shows. no_rounds most round setting state l)
+
+-- ---- what breaks off
+
+-- a step that is not done changes nothing
+pub step_breaks_off : (number : ℕ) (now next : WorldData) → next ≡ now → Approaches (stepping number) now next
+step_breaks_off number now next same =
+    subst (λ (other : WorldData). Approaches (stepping number) now other) (sym same)
+    (near_undone (stepping number) now (λ setting state. step_grows setting state number))
+
+pub stepped_near : (number : ℕ) (stepped : Stepped) (now next : WorldData) → Steps number stepped now next → Approaches (stepping number) now next
+stepped_near number stepped now next steps = near_done (stepping number) now next (step_follows number stepped now next steps)
+
+first_move : (number most turn : ℕ) (setting : Setting) (state : State) → turn < most
+    → Extend (step_of setting state number).0.order (moves_left number most turn setting state).order
+unfolding moves
+first_move number most turn setting state l =
+    let left : most - turn ≡ suc (most - (turn + 1)) = omega arith in
+    let next : State = (step_of setting state number).0 in
+    subst (λ n. Extend next.order (moves n setting state number).order) (sym left)
+    (chosen_grows next (is_moved (step_of setting state number).1) (moves (most - (turn + 1)) setting next number) next
+    (moves_grow (most - (turn + 1)) setting next number) (none_behind next.order))
+
+pub whole_breaks_off : (number most turn : ℕ) (from now next : WorldData) → turn < most → Ahead (moves_left number most turn) (whole_steps number) from now
+    → Approaches (stepping number) now next → Approaches (whole_steps number) from next
+whole_breaks_off number most turn from now next l ahead near =
+    breaks_off (moves_left number most turn) (stepping number) (whole_steps number) from now next ahead near
+    (λ setting state shows. first_move number most turn setting state l)
+
+pub items_break_off : (items : List Item) (i : ℕ) (other : Item) (from now next : WorldData) → i < length items
+    → Ahead (all_items (drop i items)) (all_items items) from now → Approaches (an_item (get_or items i other)) now next
+    → Approaches (all_items items) from next
+items_break_off items i other from now next l ahead near =
+    let item : Item = get_or items i other in
+    let rest : drop i items ≡ item ∷ drop (i + 1) items = rw (add-one, drop-cons items i other) refl in
+    breaks_off (all_items (drop i items)) (an_item item) (all_items items) from now next ahead near
+    (λ setting state shows. subst (λ (all : List Item). Extend (item_of setting state item).order (items_of setting state all).order) (sym rest)
+    (items_grow setting (item_of setting state item) (drop (i + 1) items)))
+
+pub round_breaks_off : (count number : ℕ) (from now next : WorldData) → number < count → Ahead (round_left count number) a_round from now
+    → Approaches (whole_steps number) now next → Approaches a_round from next
+round_breaks_off count number from now next l ahead near =
+    breaks_off (round_left count number) (whole_steps number) a_round from now next ahead near
+    (λ setting state shows. subst (λ (last : State). Extend (whole_of setting state number).order last.order) (next_left count number setting state l)
+    (round_grows (count - (number + 1)) setting (whole_of setting state number) (number + 1)))
+
+pub rounds_break_off : EndsAreTheMachines → (most round : ℕ) (from now next : WorldData) → round < most → are_done now.sessions ≡ false
+    → Ahead (rounds_left most round) all_rounds from now → Approaches a_round now next → Approaches all_rounds from next
+rounds_break_off ends most round from now next l f ahead near =
+    breaks_off (rounds_left most round) a_round all_rounds from now next ahead near
+    (λ setting state shows. subst (λ (last : State). Extend (round_of setting state).order last.order)
+    (round_more most round setting state l (ended_as ends setting state now false shows f))
+    (repeated_grows (most - (round + 1)) setting (round_of setting state)))
+
+pub schedule_breaks_off : (items : List Item) (from next : WorldData) → Approaches (all_items items) from next
+    → Approaches (λ setting state. all_rounds setting (all_items items setting state)) from next
+schedule_breaks_off items from next near = breaks_early (all_items items) all_rounds from next near rounds_grow

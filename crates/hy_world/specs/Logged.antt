@@ -1,21 +1,24 @@
 -- What a redo log has of a run: the entries of the commit order so far, whatever moment a crash comes at.
-use Rattle.std.specs.Prelude.{◌≡◌, ◌⊎◌, ℕ, ◌≤◌, List, [], ◌∷◌, ◌++◌, Option, None, Some, Ok, map, length}
+use Rattle.std.specs.Prelude.{◌≡◌, ◌⊎◌, ℕ, ◌≤◌, List, [], ◌∷◌, ◌++◌, Option, None, Some, Ok, map, length, take}
 use Rattle.hy_journal.specs.declared.Entry.{Entry}
 use Rattle.hy_value.specs.declared.Kind.{Kind}
 use Rattle.hy_body.specs.declared.HeldTable.{HeldTable}
 use Rattle.hy_machine.specs.declared.Setting.{Setting}
 use Rattle.hy_machine.specs.declared.State.{State}
+use Rattle.hy_machine.specs.declared.Entry.{Entry as Entered}
 use Rattle.hy_machine.specs.Sessions.{snapshot}
+use Rattle.hy_machine.specs.Validation.{committed_of}
 use Rattle.hy_redo.specs.Logs.{IsLogOf}
 use Rattle.hy_redo.specs.Recovery.{Recovers}
 use Rattle.hy_recovery.specs.Recovered.{first_tables}
 use Rattle.hy_redo.specs.Crashes.{AreLogsOf}
 use Rattle.hy_render.specs.declared.Committed.{Committed}
 use Rattle.hy_near.specs.Outcomes.{told_entry}
+use Rattle.hy_world.specs.Worlds.{WorldData, ShowsState}
 
--- entries, and others behind them
-pub record Extend (old new : List Entry) : Type 0 where
-  pub others : List Entry
+-- these, and others behind them
+pub record Extend {A : Type 0} (old new : List A) : Type 0 where
+  pub others : List A
   pub behind : new ≡ old ++ others
 
 -- no entry more, or one
@@ -34,10 +37,22 @@ pub record IsLogOfFirst (entries : List Entry) (bytes : List ℕ) : Type 0 where
   pub are_first : Extend first entries
   pub log : IsLogOf first gate bytes
 
+-- the bytes are the log of these entries, or of all but the last
+pub record IsLogButTheLast (entries : List Entry) (bytes : List ℕ) : Type 0 where
+  pub first : List Entry
+  pub gate : ℕ
+  pub but_last : GrowByOne first entries
+  pub log : IsLogOf first gate bytes
+
 -- where a log is kept, a crash now leaves the log of these entries
 abbrev pub IsKept : {D : Type 0} → (D → List ℕ → Type 0) → List Entry → Option ℕ → D → Type 0
 IsKept image entries None disk = Unit {0}
 IsKept image entries (Some gate) disk = AreLogsOf (image disk) entries gate
+
+-- where a log is kept, a crash now leaves the log of these entries, or of all but the last
+abbrev pub IsKeptButTheLast : {D : Type 0} → (D → List ℕ → Type 0) → List Entry → Option ℕ → D → Type 0
+IsKeptButTheLast image entries None disk = Unit {0}
+IsKeptButTheLast image entries (Some gate) disk = (bytes : List ℕ) → image disk bytes → IsLogButTheLast entries bytes
 
 -- What a part of a run, in which the entries became more, did to its disk: what a crash leaves at any moment of it is the log
 -- of some first ones of them.
@@ -62,6 +77,18 @@ pub record HasLogged {D : Type 0} (image : D → List ℕ → Type 0) (image_sin
   pub tell : map told_entry entries ≡ order
   pub kept : IsKeptSince image image_since entries time disk
 
+-- ---- a run that broke off
+
+-- a state is shown, and this commit order has its entries first
+pub record IsUnderWay (setting : Setting) (order : List Entered) (world : WorldData) : Type 0 where
+  pub state : State
+  pub shows : ShowsState setting state world
+  pub first : Extend state.order order
+
+-- What the machine makes of each state that was shown has the commit order of the state that is shown now, or more behind it.
+abbrev pub Approaches : (Setting → State → State) → WorldData → WorldData → Type 0
+Approaches makes old new = (setting : Setting) (state : State) → ShowsState setting state old → IsUnderWay setting (makes setting state).order new
+
 -- ---- what these recover to
 
 -- the bytes recover to tables that have the machine's rows after so many entries of a state's commit order
@@ -75,3 +102,24 @@ pub record IsDurable {D : Type 0} (image : D → List ℕ → Type 0) (image_sin
     (kinds : List (List Kind)) (state : State) (time : ℕ) (disk : D) : Type 0 where
   pub now : (bytes : List ℕ) → image disk bytes → RecoversAfter setting kinds state (length state.order) bytes
   pub moments : (bytes : List ℕ) → image_since disk time bytes → (count : ℕ) × RecoversAfter setting kinds state count bytes
+
+-- the bytes are the log of so many first entries of this commit order
+pub record IsLogOfOrder (order : List Committed) (count : ℕ) (bytes : List ℕ) : Type 0 where
+  pub entries : List Entry
+  pub tell : map told_entry entries ≡ take count order
+  pub gate : ℕ
+  pub log : IsLogOf entries gate bytes
+
+-- the bytes are the log of some first entries of a state's commit order, and recover to the machine's rows after these
+pub record IsLogOfRun (setting : Setting) (kinds : List (List Kind)) (state : State) (bytes : List ℕ) : Type 0 where
+  pub count : ℕ
+  pub log : IsLogOfOrder (map committed_of state.order) count bytes
+  pub recovers : RecoversAfter setting kinds state count bytes
+
+-- What a run that leads to this state did to its disk, also where it broke off: a crash at any moment of it leaves what one could leave
+-- before, or the log of some first entries of the commit order.
+pub record LogsRun {D : Type 0} (clock : D → ℕ) (image_since : D → ℕ → List ℕ → Type 0) (setting : Setting) (kinds : List (List Kind))
+    (state : State) (before after : D) : Type 0 where
+  pub later : clock before ≤ clock after
+  pub moments : (time : ℕ) (bytes : List ℕ) → time ≤ clock before → image_since after time bytes
+      → image_since before time bytes ⊎ IsLogOfRun setting kinds state bytes

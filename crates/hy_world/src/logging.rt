@@ -10,7 +10,7 @@ ghost use Rattle.hy_machine.specs.Runs.{opening_of, run_of};
 ghost use Rattle.hy_near.specs.Typed.{AreTyped};
 ghost use Rattle.hy_redo.specs.Crashes.{AreLogsOf};
 ghost use Rattle.hy_value.specs.declared.Kind.{Kind};
-ghost use Rattle.hy_world.specs.Logged.{IsKept, Logs, HasLogged, IsDurable, with_next};
+ghost use Rattle.hy_world.specs.Logged.{IsKept, IsKeptButTheLast, Logs, HasLogged, IsDurable, LogsRun, with_next};
 ghost use Rattle.hy_world.specs.Worlds.{ShowsState};
 
 use crate::World;
@@ -31,6 +31,8 @@ pub(crate) fn keep<D: Disk>(
     requires kept { (entries : List Entry) × IsKept D.image entries log.old disk.old }
     ensures kept { OnOk result ((entries : List Entry) → IsKept D.image entries log.old disk.old
         → IsKept D.image (with_next entries (option_copied entry.entry)) log.new disk.new) }
+    ensures cut { (entries : List Entry) → IsKept D.image entries log.old disk.old
+        → IsKeptButTheLast D.image (with_next entries (option_copied entry.entry)) log.new disk.new }
     ensures stays { is_some log.new ≡ is_some log.old }
     ensures logs { (entries : List Entry) → IsKept D.image entries log.old disk.old
         → Logs D.clock D.image_since entries (with_next entries (option_copied entry.entry)) disk.old disk.new }
@@ -65,6 +67,10 @@ impl World {
         ensures durable { IfOk result (λ _. (setting : Setting) (kinds : List (List Kind)) → ShowsState setting (opening_of setting) self
             → AreTyped kinds setting.shapes setting.first setting.programs
             → IsDurable D.image D.image_since setting kinds (run_of setting schedule.now) (D.clock disk.old) disk.new) }
+        // Where it breaks off too, a crash at any moment leaves the log of some first entries of the machine's order.
+        ensures moments { (setting : Setting) (kinds : List (List Kind)) → ShowsState setting (opening_of setting) self
+            → AreTyped kinds setting.shapes setting.first setting.programs
+            → LogsRun D.clock D.image_since setting kinds (run_of setting schedule.now) disk.old disk.new }
         ensures later { D.clock disk.old ≤ D.clock disk.new }
         ensures fault { IsErrOf result AppendError.DiskFault → Rose (D.faults disk.old) (D.faults disk.new) }
         ensures steady { ¬ IsErrOf result AppendError.DiskFault → D.faults disk.new ≡ D.faults disk.old }
@@ -72,6 +78,7 @@ impl World {
         hy_near::ends_are_the_machines();
         hy_machine::runs_are_steps();
         hy_durable::logs_recover_tables();
+        hy_shows::entries_tell_changes();
         let mut world = self;
         let mut log = Some(log);
         world.run(alloc, schedule, &mut log, disk)?;

@@ -1,12 +1,13 @@
 //! Steps of sessions, items of a schedule, and rounds. Where a log is kept, it has each entry of the journal before anybody
-//! takes another step.
+//! takes another step: so where a run breaks off, it has all of them, or all but the last.
 
-ghost use Rattle.std.specs.Prelude.{◌≡◌, IfOk, OnOk, IsErrOf, is_some, length};
+ghost use Rattle.std.specs.Prelude.{◌≡◌, IfOk, OnOk, OnErr, IsErrOf, is_some, length};
 ghost use Rattle.hy_outside.specs.Faults.{Rose};
 ghost use Rattle.hy_near.specs.Outcomes.{is_done, are_done};
+ghost use Rattle.hy_machine.specs.Steps.{step_of};
 ghost use Rattle.hy_machine.specs.Runs.{is_moved, whole_of, item_of, items_of, round_of, rounds_of};
 ghost use Rattle.hy_world.specs.Follows.{Follows, Steps};
-ghost use Rattle.hy_world.specs.Logged.{IsKept, Logs};
+ghost use Rattle.hy_world.specs.Logged.{IsKept, IsKeptButTheLast, Logs, Approaches};
 
 use crate::World;
 use crate::logging::keep;
@@ -32,8 +33,9 @@ fn is_at_end(need: Need) -> bool
 }
 
 impl World {
-    /// A step of a session. Where it enters a transaction into the journal, the log has that entry after it.
-    fn step_logged<D: Disk>(
+    /// A step of a session, in a world whose log, where one is kept, has every entry of its journal. Where it enters a transaction
+    /// into that, the log has the entry too after it; Err is for want of memory, or a fault of the disk, and then the log may lack it.
+    pub fn step_logged<D: Disk>(
         &mut self,
         alloc: Global,
         number: u32,
@@ -42,7 +44,9 @@ impl World {
     ) -> Result<Stepped, AppendError>
         requires kept { IsKept D.image self.old.core.entries log.old disk.old }
         ensures step { IfOk result (λ stepped. Steps number stepped self.old self.new) }
+        ensures under_way { OnErr result (Approaches (λ setting state. (step_of setting state number).0) self.old self.new) }
         ensures kept { OnOk result (IsKept D.image self.new.core.entries log.new disk.new) }
+        ensures cut { OnErr result (IsKeptButTheLast D.image self.new.core.entries log.new disk.new) }
         ensures stays { is_some log.new ≡ is_some log.old }
         ensures logs { Logs D.clock D.image_since self.old.core.entries self.new.core.entries disk.old disk.new }
         ensures fault { IsErrOf result AppendError.DiskFault → Rose (D.faults disk.old) (D.faults disk.new) }
@@ -64,7 +68,9 @@ impl World {
     ) -> Result<(), AppendError>
         requires kept { IsKept D.image self.old.core.entries log.old disk.old }
         ensures follows { OnOk result (Follows (λ setting state. whole_of setting state number) self.old self.new) }
+        ensures under_way { OnErr result (Approaches (λ setting state. whole_of setting state number) self.old self.new) }
         ensures kept { OnOk result (IsKept D.image self.new.core.entries log.new disk.new) }
+        ensures cut { OnErr result (IsKeptButTheLast D.image self.new.core.entries log.new disk.new) }
         ensures stays { is_some log.new ≡ is_some log.old }
         ensures logs { Logs D.clock D.image_since self.old.core.entries self.new.core.entries disk.old disk.new }
         ensures fault { IsErrOf result AppendError.DiskFault → Rose (D.faults disk.old) (D.faults disk.new) }
@@ -90,7 +96,9 @@ impl World {
     ) -> Result<(), AppendError>
         requires kept { IsKept D.image self.old.core.entries log.old disk.old }
         ensures follows { OnOk result (Follows (λ setting state. item_of setting state item) self.old self.new) }
+        ensures under_way { OnErr result (Approaches (λ setting state. item_of setting state item) self.old self.new) }
         ensures kept { OnOk result (IsKept D.image self.new.core.entries log.new disk.new) }
+        ensures cut { OnErr result (IsKeptButTheLast D.image self.new.core.entries log.new disk.new) }
         ensures stays { is_some log.new ≡ is_some log.old }
         ensures logs { Logs D.clock D.image_since self.old.core.entries self.new.core.entries disk.old disk.new }
         ensures fault { IsErrOf result AppendError.DiskFault → Rose (D.faults disk.old) (D.faults disk.new) }
@@ -113,7 +121,9 @@ impl World {
     ) -> Result<(), AppendError>
         requires kept { IsKept D.image self.old.core.entries log.old disk.old }
         ensures follows { OnOk result (Follows (λ setting state. items_of setting state items.now) self.old self.new) }
+        ensures under_way { OnErr result (Approaches (λ setting state. items_of setting state items.now) self.old self.new) }
         ensures kept { OnOk result (IsKept D.image self.new.core.entries log.new disk.new) }
+        ensures cut { OnErr result (IsKeptButTheLast D.image self.new.core.entries log.new disk.new) }
         ensures stays { is_some log.new ≡ is_some log.old }
         ensures logs { Logs D.clock D.image_since self.old.core.entries self.new.core.entries disk.old disk.new }
         ensures fault { IsErrOf result AppendError.DiskFault → Rose (D.faults disk.old) (D.faults disk.new) }
@@ -141,7 +151,9 @@ impl World {
     ) -> Result<(), AppendError>
         requires kept { IsKept D.image self.old.core.entries log.old disk.old }
         ensures follows { OnOk result (Follows (λ setting state. round_of setting state) self.old self.new) }
+        ensures under_way { OnErr result (Approaches (λ setting state. round_of setting state) self.old self.new) }
         ensures kept { OnOk result (IsKept D.image self.new.core.entries log.new disk.new) }
+        ensures cut { OnErr result (IsKeptButTheLast D.image self.new.core.entries log.new disk.new) }
         ensures stays { is_some log.new ≡ is_some log.old }
         ensures logs { Logs D.clock D.image_since self.old.core.entries self.new.core.entries disk.old disk.new }
         ensures fault { IsErrOf result AppendError.DiskFault → Rose (D.faults disk.old) (D.faults disk.new) }
@@ -175,7 +187,9 @@ impl World {
     ) -> Result<(), AppendError>
         requires kept { IsKept D.image self.old.core.entries log.old disk.old }
         ensures follows { OnOk result (Follows (λ setting state. rounds_of setting state) self.old self.new) }
+        ensures under_way { OnErr result (Approaches (λ setting state. rounds_of setting state) self.old self.new) }
         ensures kept { OnOk result (IsKept D.image self.new.core.entries log.new disk.new) }
+        ensures cut { OnErr result (IsKeptButTheLast D.image self.new.core.entries log.new disk.new) }
         ensures stays { is_some log.new ≡ is_some log.old }
         ensures logs { Logs D.clock D.image_since self.old.core.entries self.new.core.entries disk.old disk.new }
         ensures fault { IsErrOf result AppendError.DiskFault → Rose (D.faults disk.old) (D.faults disk.new) }
@@ -193,7 +207,8 @@ impl World {
     }
 
     /// Runs a schedule, and then rounds until every session has ended, with each entry in the log, where one is kept. Err
-    /// is for want of memory, or a fault of the disk.
+    /// is for want of memory, or a fault of the disk: then the log has all entries but at most the last, and these come first in
+    /// the order that the whole run gives.
     pub fn run<D: Disk>(
         &mut self,
         alloc: Global,
@@ -203,7 +218,9 @@ impl World {
     ) -> Result<(), AppendError>
         requires kept { IsKept D.image self.old.core.entries log.old disk.old }
         ensures follows { OnOk result (Follows (λ setting state. rounds_of setting (items_of setting state schedule.now)) self.old self.new) }
+        ensures under_way { OnErr result (Approaches (λ setting state. rounds_of setting (items_of setting state schedule.now)) self.old self.new) }
         ensures kept { OnOk result (IsKept D.image self.new.core.entries log.new disk.new) }
+        ensures cut { OnErr result (IsKeptButTheLast D.image self.new.core.entries log.new disk.new) }
         ensures stays { is_some log.new ≡ is_some log.old }
         ensures logs { Logs D.clock D.image_since self.old.core.entries self.new.core.entries disk.old disk.new }
         ensures fault { IsErrOf result AppendError.DiskFault → Rose (D.faults disk.old) (D.faults disk.new) }

@@ -1,8 +1,16 @@
 use Rattle.std.proofs.Common.{◌∙◌, false}
 use Rattle.hy_schedule.specs.declared.Item.{Item}
-use Rattle.hy_world.proofs.Loops.{items_go_on}
+use Rattle.hy_world.proofs.Ahead.{if_err}
+use Rattle.hy_world.proofs.Loops.{items_go_on, items_break_off}
 use Rattle.hy_world.proofs.Logs.{logs_then, ok_is_no_error}
 use Rattle.hy_world.proofs.world.World.run_items.Goals as goal
+
+pub returns-in_err-run_item-clause-under_way : goal.returns-in_err-run_item-clause-under_way
+returns-in_err-run_item-clause-under_way g c =
+    let other : Item = record { session = 0; whole = false } in
+    if_err c.from_residual.result _
+    (items_break_off c.args.items.now c.loop-item.item-index other c.args.self.now c.loop-item.self c.run_item.new.self c.loop-item-test.true
+    c.loop-item.invariant.ahead c.in_err-run_item.ensures.under_way)
 
 pub returns-in_err-run_item-clause-logs : goal.returns-in_err-run_item-clause-logs
 returns-in_err-run_item-clause-logs g c =

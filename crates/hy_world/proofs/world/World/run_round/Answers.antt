@@ -1,7 +1,7 @@
 use Rattle.std.proofs.Common.{◌∙◌, refl, sym, subst}
-use Rattle.hy_world.proofs.Ahead.{Ahead}
 use Rattle.hy_world.proofs.Logs.{logs_then, nothing_done, ok_is_no_error}
-use Rattle.hy_world.proofs.Loops.{round_left, a_round, round_ahead, round_goes_on}
+use Rattle.hy_world.proofs.Ahead.{Ahead, if_err}
+use Rattle.hy_world.proofs.Loops.{round_left, a_round, round_ahead, round_goes_on, round_breaks_off}
 use Rattle.hy_world.proofs.world.World.run_round.Goals as goal
 
 pub loop-number-init : goal.loop-number-init
@@ -13,6 +13,12 @@ loop-number-init g c = record {
   logs = nothing_done g.D.Disk.clock g.D.Disk.image_since _ _;
   steady = refl;
 }
+
+pub returns-in_err-step_whole-clause-under_way : goal.returns-in_err-step_whole-clause-under_way
+returns-in_err-step_whole-clause-under_way g c =
+    if_err c.from_residual.result _
+    (round_breaks_off c.session_count-number-end.result c.loop-number.number c.args.self.now c.loop-number.self c.step_whole.new.self
+    c.loop-number-test.true c.loop-number.invariant.ahead c.in_err-step_whole.ensures.under_way)
 
 pub returns-in_err-step_whole-clause-logs : goal.returns-in_err-step_whole-clause-logs
 returns-in_err-step_whole-clause-logs g c =

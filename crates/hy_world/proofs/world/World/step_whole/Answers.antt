@@ -2,9 +2,16 @@ use Rattle.std.proofs.Common.{◌≡◌, ◌∙◌, true, false, arith, rules, t
 use Rattle.std.proofs.lemmas.Grind.{common_steps}
 use Rattle.hy_machine.specs.Runs.{is_moved}
 use Rattle.hy_near.specs.Bounds.{most_turns}
-use Rattle.hy_world.proofs.Loops.{whole_goes_on, whole_stops, whole_over}
+use Rattle.hy_world.proofs.Ahead.{if_err}
+use Rattle.hy_world.proofs.Loops.{whole_goes_on, whole_stops, whole_over, whole_breaks_off}
 use Rattle.hy_world.proofs.Logs.{logs_then, ok_is_no_error}
 use Rattle.hy_world.proofs.world.World.step_whole.Goals as goal
+
+pub returns-in_err-stepped-clause-under_way : goal.returns-in_err-stepped-clause-under_way
+returns-in_err-stepped-clause-under_way g c =
+    if_err c.from_residual.result _
+    (whole_breaks_off c.args.number most_turns c.loop-turn._turn c.args.self.now c.loop-turn.self c.step_logged.new.self c.loop-turn-test.true
+    c.loop-turn.invariant.ahead c.in_err-stepped.ensures.under_way)
 
 pub returns-in_err-stepped-clause-logs : goal.returns-in_err-stepped-clause-logs
 returns-in_err-stepped-clause-logs g c =

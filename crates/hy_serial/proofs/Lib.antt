@@ -9,3 +9,4 @@ pub mod Alike
 pub mod Reading
 pub mod Points
 pub mod Circles
+pub mod Naming

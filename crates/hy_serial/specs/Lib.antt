@@ -5,3 +5,4 @@ pub mod Keeping
 pub mod Prefixes
 pub mod Points
 pub mod Circles
+pub mod Naming

@@ -10,6 +10,7 @@ ghost use Rattle.hy_serial.specs.Readers.{WhoWroteNothingEndsAsRead, RollbacksAr
 ghost use Rattle.hy_serial.specs.Keeping.{StaysKept, TestsStayTrue, ValuesStay};
 ghost use Rattle.hy_serial.specs.Prefixes.{RepliesAreOfCommitsBefore, TablesAreOfTheOrder};
 ghost use Rattle.hy_serial.specs.Points.{EveryTransactionHasItsPoint};
+ghost use Rattle.hy_serial.specs.Naming.{OutcomesAreNamed};
 
 /// The commit order can be replayed: when its transactions run alone, one after another as it is printed, from the
 /// first rows on, none stops, each gets the replies that are printed of it, and the last leaves the printed tables.
@@ -81,4 +82,11 @@ pub fn no_one_reads_what_was_rolled_back()
 /// transactions lie in the session's order, and each starts behind the commits of those before it.
 pub fn every_transaction_has_its_point()
     ensures { EveryTransactionHasItsPoint }
+{}
+
+/// All that an outcome mentions has a name, where there is one for each table and each session of its script: who is
+/// told of, where it wrote, what refused it and where, and what stands in the order; and of each transaction there is a
+/// count of inserts for each table. So its text tells it, if the numbers that are printed have at most 64 digits.
+pub fn what_an_outcome_mentions_has_a_name()
+    ensures { OutcomesAreNamed }
 {}

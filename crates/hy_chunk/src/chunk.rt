@@ -454,8 +454,32 @@ impl Chunk {
         }
     }
 
+    /// Appends, position by position, what is wanted of the rows that a viewer sees. Err is for want of memory, and
+    /// appends nothing.
+    fn gather_whole(
+        &mut self,
+        alloc: Global,
+        viewer: &Viewer,
+        wanted: &Wanted,
+        gathered: &mut Gathered,
+    ) -> Result<(), AllocError>
+        requires { (row : List Value) → FitsRow self.old.kinds row → length (projected wanted.now.columns row) ≡ gathered.old.width }
+        ensures rows { OnOk result (gathered.new.rows ≡ gathered.old.rows
+            ++ gathered_by wanted.now.columns (conditions_of wanted.now.pred.now wanted.now.keys) (rows_seen viewer.now self.old.shown.places)) }
+        ensures err { OnErr result (gathered.new ≡ gathered.old) }
+        ensures width { gathered.new.width ≡ gathered.old.width }
+        ensures all { self.new ≡ self.old }
+    {
+        let before = gathered.len();
+        let result = self.gather_wanted(alloc, viewer, wanted, gathered);
+        if result.is_err() {
+            gathered.truncate(before);
+        }
+        result
+    }
+
     /// Appends, position by position, of the rows that a viewer sees and a condition selects the values in a set of
-    /// columns. Err is for want of memory: then only the rows that were there before are there for certain.
+    /// columns. Err is for want of memory, and appends nothing.
     pub fn gather(
         &mut self,
         alloc: Global,
@@ -466,7 +490,7 @@ impl Chunk {
     ) -> Result<(), AllocError>
         requires { (row : List Value) → FitsRow self.old.kinds row → length (projected columns row) ≡ gathered.old.width }
         ensures rows { OnOk result (gathered.new.rows ≡ gathered.old.rows ++ gathered_of columns pred.now (rows_seen viewer.now self.old.shown.places)) }
-        ensures err { OnErr result (take (length gathered.old.rows) gathered.new.rows ≡ gathered.old.rows) }
+        ensures err { OnErr result (gathered.new ≡ gathered.old) }
         ensures width { gathered.new.width ≡ gathered.old.width }
         ensures all { self.new ≡ self.old }
     {
@@ -476,12 +500,12 @@ impl Chunk {
             keys: None,
             columns,
         };
-        self.gather_wanted(alloc, viewer, &wanted, gathered)
+        self.gather_whole(alloc, viewer, &wanted, gathered)
     }
 
     /// Appends, position by position, of the rows that a viewer sees, a condition selects and one of the keys finds
-    /// the values in a set of columns; more than 1,024 keys find every row. Err is for want of memory: then only the
-    /// rows that were there before are there for certain.
+    /// the values in a set of columns; more than 1,024 keys find every row. Err is for want of memory, and appends
+    /// nothing.
     pub fn gather_keys(
         &mut self,
         alloc: Global,
@@ -494,7 +518,7 @@ impl Chunk {
         requires { (row : List Value) → FitsRow self.old.kinds row → length (projected columns row) ≡ gathered.old.width }
         ensures rows { OnOk result (gathered.new.rows ≡ gathered.old.rows
             ++ gathered_by columns (by_key_of pred.now keys.entry.column keys.entry.values.now) (rows_seen viewer.now self.old.shown.places)) }
-        ensures err { OnErr result (take (length gathered.old.rows) gathered.new.rows ≡ gathered.old.rows) }
+        ensures err { OnErr result (gathered.new ≡ gathered.old) }
         ensures width { gathered.new.width ≡ gathered.old.width }
         ensures all { self.new ≡ self.old }
     {
@@ -503,7 +527,7 @@ impl Chunk {
             keys: Some(keys),
             columns,
         };
-        self.gather_wanted(alloc, viewer, &wanted, gathered)
+        self.gather_whole(alloc, viewer, &wanted, gathered)
     }
 
     /// The least position that may take a new row from a watermark on, or how many there are.

@@ -33,8 +33,7 @@ fn lookup_keys<'a>(part: &PlanPart, keys: Option<&'a [Value]>) -> Option<Keys<'a
 }
 
 /// Appends what a part of a plan takes of the rows that a viewer sees in the chunk; where the part looks rows up, the
-/// keys are the known values. Err is for want of memory: then only the rows that were there before are there for
-/// certain.
+/// keys are the known values. Err is for want of memory, and appends nothing.
 pub fn gather_visit(
     alloc: Global,
     chunk: &mut Chunk,
@@ -47,7 +46,7 @@ pub fn gather_visit(
     ensures rows { OnOk result ((columns : List (List Value)) → AreKnown part.now.lookup columns (option_copied keys.entry)
         → gathered.new.rows ≡ gathered.old.rows
         ++ rows_gathered viewer.now part.now (conditions_by part.now.pred part.now.lookup columns) chunk.old.shown.places) }
-    ensures err { OnErr result (take (length gathered.old.rows) gathered.new.rows ≡ gathered.old.rows) }
+    ensures err { OnErr result (gathered.new ≡ gathered.old) }
     ensures width { gathered.new.width ≡ gathered.old.width }
     ensures all { chunk.new ≡ chunk.old }
 {

@@ -1,4 +1,5 @@
--- The clock of a state that is shown is far below the identifiers: only so many transactions of a script begin.
+-- The clock of a state that is shown is far below the identifiers, and ranks are of 32 bits: only so many transactions of a script
+-- begin.
 use Rattle.std.proofs.Common.{◌+◌, ◌*◌, ◌^◌, ◌<◌, ◌≤◌, List, [], length, Option, None, Some, subst, arith}
 use Rattle.std.specs.List.{All}
 use Rattle.std.proofs.lemmas.List.{get_or_default}
@@ -45,3 +46,12 @@ clock_below setting state core sessions runnable kept shows =
     let begun = few_begun_in_all setting state runnable kept in
     let few = kept.few in
     omega (arith, next, begun, few)
+
+-- there are fewer entries than numbers of 32 bits
+pub entries_below : (setting : Setting) (state : State) (core : CoreData) (sessions : List SessionData) → IsRunnable setting → Kept setting state
+    → CoreShows state core sessions → length core.entries < 2 ^ 32
+entries_below setting state core sessions runnable kept shows =
+    let count = shows.entries_show.count in
+    let begun = few_begun_in_all setting state runnable kept in
+    let few = kept.few in
+    omega (arith, count, begun, few)

@@ -11,7 +11,7 @@ use Rattle.hy_lawful.specs.Kept.{ReachedAreKept}
 use Rattle.hy_session.specs.Near.{IsActive}
 use Rattle.hy_near.specs.Runnable.{IsShown}
 use Rattle.hy_near.specs.Steps.{CoresAreNear}
-use Rattle.hy_near.proofs.Clock.{clock_below}
+use Rattle.hy_near.proofs.Clock.{clock_below, entries_below}
 use Rattle.hy_near.proofs.OpenOnes.{kept_of, open_one}
 
 -- the start of an open transaction is open in the core
@@ -28,5 +28,6 @@ cores_near law setting state parts sessions number session shown found need =
     let kept = kept_of law setting state parts sessions shown in
     record {
       clock = clock_below setting state shown.shows.core sessions shown.runnable kept shown.shows.core_shows;
+      few = entries_below setting state shown.shows.core sessions shown.runnable kept shown.shows.core_shows;
       active = is_active setting state parts sessions number session kept shown found session.now refl;
     }

@@ -58,7 +58,7 @@ core_steps (Ok progress) steps world number session after new at visited =
     λ setting state shows. core_step steps setting state world number session after progress new shows at visited.0
 core_steps (Err e) steps world number session after new at visited = tt
 
-core_same : (world : WorldData) (number : ℕ) (session after : SessionData) (new : CoreData) → IsAt world.sessions number session Core
+pub core_same : (world : WorldData) (number : ℕ) (session after : SessionData) (new : CoreData) → IsAt world.sessions number session Core
     → after ≡ session → new ≡ world.core → with_core world number after new ≡ world
 core_same world number session after new at same core =
     let put : set world.sessions number after ≡ world.sessions = ap (set world.sessions number) same ∙ set_got world.sessions number session at.found in

@@ -17,3 +17,4 @@ pub mod Logs
 mod Orders
 pub mod SharedWorlds
 pub mod Turned
+mod Waits

@@ -84,12 +84,12 @@ turn_goes session (Enters time) free = moved_goes
 turn_goes session (Ends ending) free = answered_goes
 
 turn_keeps : (session : SessionData) (turn : Turn) → KeepsLayout session (after_turn session turn).0
-turn_keeps session (Waits by) = record { shapes = refl; chunks = refl }
-turn_keeps session (Begins now) = record { shapes = refl; chunks = refl }
-turn_keeps session (Visits changes next) = record { shapes = refl; chunks = refl }
-turn_keeps session (Answers changes reply took records) = record { shapes = refl; chunks = refl }
-turn_keeps session (Enters time) = record { shapes = refl; chunks = refl }
-turn_keeps session (Ends ending) = record { shapes = refl; chunks = refl }
+turn_keeps session (Waits by) = record { shapes = refl; chunks = refl; prunes = refl }
+turn_keeps session (Begins now) = record { shapes = refl; chunks = refl; prunes = refl }
+turn_keeps session (Visits changes next) = record { shapes = refl; chunks = refl; prunes = refl }
+turn_keeps session (Answers changes reply took records) = record { shapes = refl; chunks = refl; prunes = refl }
+turn_keeps session (Enters time) = record { shapes = refl; chunks = refl; prunes = refl }
+turn_keeps session (Ends ending) = record { shapes = refl; chunks = refl; prunes = refl }
 
 layout_kept : (session : SessionData) (turn : Turn) (progress : Progress) (after : SessionData) → Takes session turn progress after → KeepsLayout session after
 layout_kept session turn progress after e = subst (KeepsLayout session) (sym (ap (λ (s : Step). s.0) e)) (turn_keeps session turn)
@@ -122,7 +122,7 @@ read_by session now visited statement plan gathered progress after visit =
     let turn : Turn = read_turn session now visited plan.tables statement (spread_all plan.parts gathered) (plan.reply gathered) in
     let here = turned (with_gathered gathered session) turn progress after
     (read_free session now visited plan.tables statement (spread_all plan.parts gathered) (plan.reply gathered)) visit in
-    record { layout = record { shapes = here.layout.shapes; chunks = here.layout.chunks }; going = here.going }
+    record { layout = record { shapes = here.layout.shapes; chunks = here.layout.chunks; prunes = here.layout.prunes }; going = here.going }
 
 read_turned : (session : SessionData) (now : Open) (visited : ℕ) (statement : Bound) (plan : ReadPlan) (part : Option PlanPart) (places : List Place)
     (progress : Progress) (after : SessionData) → PlannedVisit session now visited statement plan part places progress after
@@ -356,10 +356,14 @@ pub core_came : (session : SessionData) (core : CoreData) (progress : Progress) 
     → CoreEvent session core progress after new → CameTo session core progress after new
 core_came session core progress after new visit = came_at session core (core_turn session core) progress after new refl visit
 
-came_layout : (session : SessionData) (core : CoreData) (progress : Progress) (after : SessionData) (new : CoreData)
+pub came_layout : (session : SessionData) (core : CoreData) (progress : Progress) (after : SessionData) (new : CoreData)
     → CameTo session core progress after new → KeepsLayout session after
 came_layout session core (Blocked by) after new came =
-    record { shapes = ap (λ (s : SessionData). s.shapes) came.same; chunks = ap (λ (s : SessionData). s.chunks) came.same }
+    record {
+      shapes = ap (λ (s : SessionData). s.shapes) came.same;
+      chunks = ap (λ (s : SessionData). s.chunks) came.same;
+      prunes = ap (λ (s : SessionData). s.prunes) came.same;
+    }
 came_layout session core Moved after new came = came.turned.layout
 came_layout session core Answered after new came = came.turned.layout
 

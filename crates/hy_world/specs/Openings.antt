@@ -76,6 +76,10 @@ sessions_from shapes layout prunes number [] = []
 sessions_from shapes layout prunes number (program ∷ programs) =
     new_session shapes layout prunes number program ∷ sessions_from shapes layout prunes (suc number) programs
 
+-- which sessions prune the chunks that they write
+abbrev pub prunings : List SessionData → List Bool
+prunings sessions = map (λ session. session.prunes) sessions
+
 -- ---- all of them
 
 abbrev pub layout_of : Setting → Layout

@@ -113,10 +113,11 @@ KeepsTypes (ChunkOf kinds chunk) (ChunkOf others new) = others ≡ kinds
 KeepsTypes (CoreOf core) (CoreOf new) = Unit {0}
 KeepsTypes _ _ = ⊥
 
--- a session runs over tables of these shapes and so many chunks
+-- a session runs over tables of these shapes and so many chunks, and prunes or doesn't
 pub record KeepsLayout (session after : SessionData) : Type 0 where
   pub shapes : after.shapes ≡ session.shapes
   pub chunks : after.chunks ≡ session.chunks
+  pub prunes : after.prunes ≡ session.prunes
 
 -- a session visits the part of this number, which is the one that it needs
 pub record IsVisit (number : ℕ) (session : SessionData) (old : SharedData) (after : SessionData) (new : SharedData) : Type 0 where

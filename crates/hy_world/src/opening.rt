@@ -126,6 +126,7 @@ fn all_sessions(
 ) -> Result<Vec<Session>, AllocError>
     requires chunks { 0 < layout.chunks }
     requires tables { length shapes.now ≤ MOST_TABLES }
+    requires numbered { length shapes.now * layout.chunks < 2 ^ 32 }
     requires few { length programs < 2 ^ 32 }
     requires txns { AllByRecursion (λ (program : List Txn). length program ≤ MOST_TXNS) programs }
     ensures { IfOk result (λ sessions. sessions.items ≡ sessions_from shapes.now layout prunes 0 programs) }
@@ -191,6 +192,7 @@ impl World {
         requires typed { AreTyped kinds.now setting.shapes setting.first setting.programs }
         ensures shows { IfOk result (λ world. ShowsState setting (opening_of setting) world) }
         ensures entries { IfOk result (λ world. world.core.entries ≡ []) }
+        ensures prunes { IfOk result (λ world. All (λ session. session.prunes ≡ prunes) world.sessions) }
     {
         hy_shows::the_opening_is_shown();
         let Opened {

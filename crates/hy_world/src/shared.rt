@@ -1,9 +1,10 @@
 //! Parts that sessions share: the chunks of a world and its core.
 
-ghost use Rattle.std.specs.Prelude.{◌≡◌, IfOk, OnErr, map};
+ghost use Rattle.std.specs.Prelude.{◌≡◌, false, IfOk, OnErr, map};
 ghost use Rattle.std.specs.List.{AllByRecursion};
 ghost use Rattle.hy_event.specs.Events.{NeededVisit};
 ghost use Rattle.hy_event.specs.Needs.{need_of};
+ghost use Rattle.hy_session.specs.Entered.{has_entry};
 ghost use Rattle.hy_world.specs.Shared.{CoreOf, IsChunk, AreParts, KeepsLayout, KeepsTypes, MayVisit, chunk_shared, part_of, parts_shared};
 
 use hy_chunk::Chunk;
@@ -109,7 +110,8 @@ pub(crate) fn unshare(
     Ok((chunks_of(alloc, parts)?, core))
 }
 
-/// A visit of a session to the part that it needs. Err is for want of memory, and changes nothing that contracts see.
+/// A visit of a session to the part that it needs. Err is for want of memory, and changes nothing that contracts see; it
+/// never comes where the session's open transaction has its entry, for whose end others may wait.
 pub(crate) fn visit_part(
     alloc: Global,
     session: &mut Session,
@@ -119,6 +121,7 @@ pub(crate) fn visit_part(
     ensures visit { IfOk result (λ progress. NeededVisit (need_of session.old) session.old (part_of part.old) progress session.new (part_of part.new)) }
     ensures types { KeepsTypes part.old part.new }
     ensures kept { OnErr result ((session.new ≡ session.old) × (part.new ≡ part.old)) }
+    ensures entered { OnErr result (has_entry session.old ≡ false) }
 {
     match &mut part.kind {
         PartKind::Chunk(chunk) => session.visit_chunk(alloc, chunk),

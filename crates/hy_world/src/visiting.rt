@@ -1,11 +1,15 @@
 //! A step of a session: it visits the part that it needs.
 
-ghost use Rattle.std.specs.Prelude.{◌≡◌, ◌+◌, ◌*◌, ◌^◌, ◌<◌, IfOk, OnErr};
+ghost use Rattle.std.specs.Prelude.{◌≡◌, ◌+◌, ◌*◌, ◌^◌, ◌<◌, false, IfOk, OnErr};
 ghost use Rattle.hy_event.specs.declared.Need.{Need};
+ghost use Rattle.hy_event.specs.declared.Progress.{Progress};
+ghost use Rattle.hy_machine.specs.declared.Stepped.{Stepped};
 ghost use Rattle.hy_shows.specs.Taken.{stepped_of};
-ghost use Rattle.hy_world.specs.Asks.{need_at};
+ghost use Rattle.hy_stamp.specs.declared.Label.{Label};
+ghost use Rattle.hy_world.specs.Asks.{has_entry_at, need_at};
 ghost use Rattle.hy_world.specs.Follows.{Steps};
 ghost use Rattle.hy_world.specs.Logged.{GrowByOne};
+ghost use Rattle.hy_world.specs.Openings.{prunings};
 
 use crate::World;
 use hy_event::{Need, Progress};
@@ -14,7 +18,8 @@ use std::alloc::{AllocError, Global};
 
 /// What a visit came to, as the machine says it.
 fn told(progress: Progress) -> Stepped
-    ensures { result ≡ stepped_of progress }
+    ensures told { result ≡ stepped_of progress }
+    ensures blocked { (by : Label) → result ≡ Stepped.Blocked by → progress ≡ Progress.Blocked by }
 {
     match progress {
         Progress::Moved => Stepped::Moved,
@@ -47,6 +52,9 @@ impl World {
         ensures step { IfOk result (λ progress. Steps number (stepped_of progress) self.old self.new) }
         ensures err { OnErr result (self.new ≡ self.old) }
         ensures grows { GrowByOne self.old.core.entries self.new.core.entries }
+        ensures entered { OnErr result (has_entry_at self.old.sessions number ≡ false) }
+        ensures blocked { IfOk result (λ progress. (by : Label) → progress ≡ Progress.Blocked by → self.new ≡ self.old) }
+        ensures prunes { prunings self.new.sessions ≡ prunings self.old.sessions }
     {
         hy_near::cores_are_near();
         hy_near::visits_are_steps();
@@ -66,6 +74,9 @@ impl World {
         ensures step { IfOk result (λ progress. Steps number (stepped_of progress) self.old self.new) }
         ensures err { OnErr result (self.new ≡ self.old) }
         ensures grows { GrowByOne self.old.core.entries self.new.core.entries }
+        ensures entered { OnErr result (has_entry_at self.old.sessions number ≡ false) }
+        ensures blocked { IfOk result (λ progress. (by : Label) → progress ≡ Progress.Blocked by → self.new ≡ self.old) }
+        ensures prunes { prunings self.new.sessions ≡ prunings self.old.sessions }
     {
         hy_near::needed_chunks_are_there();
         hy_near::chunks_are_near();
@@ -76,11 +87,16 @@ impl World {
         session.visit_chunk(alloc, part)
     }
 
-    /// A step of a session. Err is for want of memory, and changes nothing that contracts see.
+    /// A step of a session. One that is blocked changes nothing, and none changes who prunes. Err is for want of memory, and
+    /// changes nothing that contracts see; it never comes where the session's open transaction has its entry, so that the
+    /// steps from an entry to its end take none.
     pub fn step(&mut self, alloc: Global, number: u32) -> Result<Stepped, AllocError>
         ensures step { IfOk result (λ stepped. Steps number stepped self.old self.new) }
         ensures err { OnErr result (self.new ≡ self.old) }
         ensures grows { GrowByOne self.old.core.entries self.new.core.entries }
+        ensures entered { OnErr result (has_entry_at self.old.sessions number ≡ false) }
+        ensures blocked { IfOk result (λ stepped. (by : Label) → stepped ≡ Stepped.Blocked by → self.new ≡ self.old) }
+        ensures prunes { prunings self.new.sessions ≡ prunings self.old.sessions }
     {
         hy_near::ended_stay_as_they_are();
         match self.needed(number) {

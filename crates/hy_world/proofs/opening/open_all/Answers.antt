@@ -1,11 +1,17 @@
-use Rattle.std.proofs.Common.{List, ap, ◌∙◌, refl}
+use Rattle.std.proofs.Common.{◌*◌, ◌^◌, ◌<◌, List, length, ap, ◌∙◌, refl, sym, subst}
 use Rattle.hy_bound.specs.declared.Shape.{Shape}
 use Rattle.hy_world.specs.Openings.{sessions_from, layout_of}
 use Rattle.hy_world.proofs.Opened.{core_is, txns_few}
+use Rattle.hy_world.proofs.Waits.{few_chunks}
 use Rattle.hy_world.proofs.opening.open_all.Goals as goal
 
 pub all_sessions-requires-clause-txns : goal.all_sessions-requires-clause-txns
 all_sessions-requires-clause-txns c = txns_few c.args.setting c.requires.runnable
+
+pub all_sessions-requires-clause-numbered : goal.all_sessions-requires-clause-numbered
+all_sessions-requires-clause-numbered c =
+    subst (λ (shapes : List Shape). length shapes * c.args.setting.chunks < 2 ^ 32) (sym c.as_slice.ensures)
+    (few_chunks c.args.setting c.requires.runnable)
 
 pub returns : goal.returns
 returns c =

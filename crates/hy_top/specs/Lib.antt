@@ -2,3 +2,5 @@ pub mod Lines
 pub mod Settings
 pub mod Program
 pub mod Reports
+pub mod Naming
+pub mod Telling

@@ -16,6 +16,7 @@ ghost use Rattle.hy_top.specs.Program.{MayCome, bytes_read, bytes_left, keeps_lo
 ghost use Rattle.hy_top.specs.Settings.{CanRun};
 ghost use Rattle.hy_top.specs.Reports.{Spells, Writes, Answers, Runs, Checks, Summarizes, GaveUp, Does, IsLogged, Makes};
 
+mod laws;
 mod lines;
 mod logs;
 mod settings;
@@ -32,6 +33,7 @@ use hy_script::{Code, Options, ReadError, Refused, Script, read_once, what_is_re
 use hy_threads::Gate;
 use hy_typed::{what_is_made_is_typed, what_is_read_is_typed};
 use hy_words::{Command, WordsError};
+pub use laws::{one_text_is_of_one_outcome, what_is_read_is_named};
 use lines::{checked, refusal_line};
 use logs::{recover_script, run_logged};
 use settings::{Given, given_of};

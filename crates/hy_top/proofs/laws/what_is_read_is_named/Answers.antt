@@ -1,0 +1,5 @@
+use Rattle.hy_top.proofs.Named.{reads_named}
+use Rattle.hy_top.proofs.laws.what_is_read_is_named.Goals as goal
+
+pub returns : goal.returns
+returns c = reads_named c.scripts_are_parsed.ensures.statement c.sentences_are_accepted.ensures

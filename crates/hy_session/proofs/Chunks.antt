@@ -1,5 +1,6 @@
 -- A stamp or an undo visit has a number of 32 bits: there are no more of them than chunks.
-use Rattle.std.proofs.Common.{◌≡◌, ℕ, suc, ◌+◌, ◌*◌, ◌^◌, ◌<◌, ◌≤◌, List, [], ◌∷◌, length, ap, sym, subst, ◌∙◌, arith, Bool, Option, None, Some, length-append, refl}
+use Rattle.std.proofs.Common.{◌≡◌, ℕ, suc, ◌+◌, ◌*◌, ◌^◌, ◌<◌, ◌≤◌, List, [], ◌∷◌, length, length-append, ap, sym, subst, ◌∙◌, refl, arith}
+use Rattle.std.proofs.Common.{Bool, Option, None, Some}
 use Rattle.std.specs.Prelude.{filter, slice_get}
 use Rattle.std.specs.List.{list_any, range_with_len}
 use Rattle.std.proofs.lemmas.List.{length-map}
@@ -24,7 +25,8 @@ few_in_table : (session : SessionData) (places : List Place) (table : ℕ) → l
 few_in_table session places table =
     let test : ℕ → Bool = λ chunk. list_any (lies_in session table chunk) places in
     let numbers : List ℕ = range_with_len 0 session.chunks in
-    let mapped : length (chunks_in_table session places table) ≡ length (filter test numbers) = length-map (filter test numbers) (λ (chunk : ℕ). (table, chunk)) in
+    let mapped : length (chunks_in_table session places table) ≡ length (filter test numbers) =
+    length-map (filter test numbers) (λ (chunk : ℕ). (table, chunk)) in
     let counted = length-filter test numbers in
     let few = count_by-le-length test numbers in
     let all = length-range_with_len 0 session.chunks in

@@ -41,7 +41,8 @@ pub enum Work {
 
 /// A core step is taken unless another transaction stands between its entry and its end.
 fn unless_marked(core: &Core, label: Label, work: Work) -> Work
-    ensures turn { (session : SessionData) → turn_by result session core.now ≡ unless_blocked core.now (blocked_by core.now label) (turn_by work session core.now) }
+    ensures turn { (session : SessionData)
+        → turn_by result session core.now ≡ unless_blocked core.now (blocked_by core.now label) (turn_by work session core.now) }
     ensures stays { leaves work ≡ false → leaves result ≡ false }
 {
     match core.blocked(label) {

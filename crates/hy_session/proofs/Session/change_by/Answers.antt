@@ -75,19 +75,22 @@ returns-clause-event c =
           w.in-None.ensures.lookup.0 in
           event_moves session chunk.shown c.match-now.result (Ok w.undo.result) _ (with_open w.undo.new.now seen) c.match-now.chunk w.undo.new.chunk
           w.result-is (ap the_view w.self-inside-is) w.chunk-is
-          (closed {E = AllocError} session seen (visitor_at c) txn now w.undo.new.now chunk w.undo.new.chunk.shown (Ok w.undo.result) c.self.view_is (visitor_is c) (txn_is c) (open_is c)
+          (closed {E = AllocError} session seen (visitor_at c) txn now w.undo.new.now chunk w.undo.new.chunk.shown (Ok w.undo.result)
+          c.self.view_is (visitor_is c) (txn_is c) (open_is c)
           w.in-Working.visited w.in-Working.count c.requires.near works none w.undo.ensures.event)
       | in-Stamping w ↦
           let stands : now.phase ≡ Stamping w.in-Stamping.visited w.in-Stamping.time = ap (λ (v : Open). v.phase) (sym c.now.view_is) ∙ w.in-Stamping.is in
           event_moves session chunk.shown c.match-now.result (Ok w.stamp.result) _ (with_open w.stamp.new.now seen) c.match-now.chunk w.stamp.new.chunk
           w.result-is (ap the_view w.self-inside-is) w.chunk-is
-          (stamped {E = AllocError} session seen (visitor_at c) txn now w.stamp.new.now chunk w.stamp.new.chunk.shown (Ok w.stamp.result) c.self.view_is (visitor_is c) (txn_is c) (open_is c)
+          (stamped {E = AllocError} session seen (visitor_at c) txn now w.stamp.new.now chunk w.stamp.new.chunk.shown (Ok w.stamp.result)
+          c.self.view_is (visitor_is c) (txn_is c) (open_is c)
           w.in-Stamping.visited w.in-Stamping.time stands w.stamp.ensures.event)
       | in-Undoing w ↦
           let stands : now.phase ≡ Undoing w.in-Undoing.visited w.in-Undoing.cause = ap (λ (v : Open). v.phase) (sym c.now.view_is) ∙ w.in-Undoing.is in
           event_moves session chunk.shown c.match-now.result (Ok w.undo-in-Undoing.result) _ (with_open w.undo-in-Undoing.new.now seen) c.match-now.chunk
           w.undo-in-Undoing.new.chunk w.result-is (ap the_view w.self-inside-is) w.chunk-is
-          (undone {E = AllocError} session seen (visitor_at c) txn now w.undo-in-Undoing.new.now chunk w.undo-in-Undoing.new.chunk.shown (Ok w.undo-in-Undoing.result) c.self.view_is
+          (undone {E = AllocError} session seen (visitor_at c) txn now w.undo-in-Undoing.new.now chunk w.undo-in-Undoing.new.chunk.shown
+          (Ok w.undo-in-Undoing.result) c.self.view_is
           (visitor_is c) (txn_is c) (open_is c) w.in-Undoing.visited w.in-Undoing.cause stands w.undo-in-Undoing.ensures.event)
     ]
 

@@ -23,7 +23,8 @@ returns-clause-after c =
     let labelled : label ≡ label_of session = c.label-label.ensures ∙ ap label_of c.self.view_is in
     let wrote_is : wrote ≡ (if is_stamping now.phase then now.wrote else c.args.places) =
     c.written_by.ensures ∙ ap (λ (v : Open). if is_stamping v.phase then v.wrote else c.args.places) c.now.view_is in
-    let counted : List Bound → List (Option ℕ) → ℕ → List ℕ = λ statements took tables. map (λ table. placed_in table statements took) (range_with_len 0 tables) in
+    let counted : List Bound → List (Option ℕ) → ℕ → List ℕ =
+    λ statements took tables. map (λ table. placed_in table statements took) (range_with_len 0 tables) in
     let placed_is : placed ≡ placed_of session now =
     c.placed_each-placed.ensures
     ∙ (ap (λ (all : List Bound). counted all c.as_slice.result.now c.len-tables.result)

@@ -31,7 +31,17 @@ fn main(rt: HostRuntime) -> ExitCode {
     let mut source = StdSource::new(rt.reader());
     let mut sink = StdSink::new(io::writer(&rt));
     let mut disk = FileDisk::new(&rt);
-    exit_code_of(&rt, rt.alloc(), &words, &mut source, &mut sink, &mut disk)
+    let code = exit_code_of(&rt, rt.alloc(), &words, &mut source, &mut sink, &mut disk);
+    tell_fault(&rt, &disk);
+    code
+}
+
+/// Writes to standard error why the file of the log could not be used, where it couldn't. Where that fails too the status
+/// tells it all the same.
+fn tell_fault(rt: &HostRuntime, disk: &FileDisk<'_>) {
+    if let Some(cause) = disk.cause() {
+        let _told = eprintln!(rt; "hy: hy.log {cause}");
+    }
 }
 
 /// Calls the program, and gives the code of its status.

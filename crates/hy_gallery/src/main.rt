@@ -1,17 +1,14 @@
 //! Runs the scripts of the gallery, and tells of each whether it prints what it should.
 //!
 //! A line of `gallery.txt` names a script and the words it is run with. `NAME.hy` is the script, and
-//! `NAME.out` is what it should print.
+//! `NAME.out` is what it should print. `hy.log` is the log that a run of the script `recovered_tables` left, made by another program.
 #![tactic(auto)]
 
-use hy_disk::NoDisk;
+use hy_disk::FileDisk;
 use hy_outside::{MemSink, MemSource};
 use hy_threads::OpenGate;
 use std::alloc::AllocError;
-use std::io::{Print, Write};
-use std::rt::Files;
-use std::sync::Wait;
-use std::thread::Threads;
+use std::io::Write;
 use std::{fs, io};
 
 /// The file that names the scripts.
@@ -46,11 +43,7 @@ fn main(rt: HostRuntime) -> io::Result<()> {
 }
 
 /// Runs a script, and prints its name and whether it printed what is expected; else also what it printed.
-fn shows_what_is_expected(
-    rt: &(impl Files + Print + Threads + Wait + Sync + AllocGlobal),
-    name: &str,
-    words: &str,
-) -> io::Result<bool> {
+fn shows_what_is_expected(rt: &HostRuntime, name: &str, words: &str) -> io::Result<bool> {
     let alloc = rt.alloc();
     let script = fs::read(rt, format!(in alloc; "{name}.hy")?)?;
     let expected = fs::read(rt, format!(in alloc; "{name}.out")?)?;
@@ -69,12 +62,8 @@ fn shows_what_is_expected(
     Ok(true)
 }
 
-/// Runs `hy` with these words on a script in memory.
-fn printed_by(
-    rt: &(impl Threads + Wait + Sync + AllocGlobal),
-    words: &str,
-    script: Vec<u8>,
-) -> Result<Printed, AllocError> {
+/// Runs `hy` with these words on a script in memory, beside the log that lies in the folder.
+fn printed_by(rt: &HostRuntime, words: &str, script: Vec<u8>) -> Result<Printed, AllocError> {
     let alloc = rt.alloc();
     let mut all = Vec::new(alloc);
     all.push(String::from_str(alloc, "hy")?)?;
@@ -83,6 +72,7 @@ fn printed_by(
     }
     let mut source = MemSource::new(script, PIECE, Vec::new(alloc));
     let mut sink = MemSink::new(alloc, ROOM, Vec::new(alloc))?;
+    let mut disk = FileDisk::new(rt);
     let status = hy_top::run(
         rt,
         alloc,
@@ -90,7 +80,7 @@ fn printed_by(
         &mut source,
         &mut sink,
         &OpenGate,
-        &mut NoDisk,
+        &mut disk,
     )
     .status;
     Ok(Printed {

@@ -1,27 +1,25 @@
 -- What a report answers, by the code of its status.
-use Rattle.std.proofs.Common.{◌≡◌, ℕ, List, Option, None, Some, IsNone, IfSome, ◌⊎◌, inl, inr, sym, subst}
+use Rattle.std.proofs.Common.{◌≡◌, ℕ, List, Option, None, Some, IsNone, IfSome, ◌⊎◌, inl, inr, sym, subst, ◌∙◌}
+use Rattle.std.proofs.Math.Logic.{⊎_elim}
 use Rattle.hy_script.specs.declared.Script.{Script}
 use Rattle.hy_render.specs.declared.Outcome.{Outcome}
 use Rattle.hy_words.specs.declared.Command.{Command}
-use Rattle.hy_top.specs.Program.{bytes_read, made_by}
-use Rattle.hy_top.specs.Reports.{Answers, Makes}
+use Rattle.hy_top.specs.Program.{made_by}
+use Rattle.hy_top.specs.Reports.{IsAnswered, Makes}
 
 -- a code that is the status answers what the report answers
-pub answers_by_code : (asked : Option Command) (rest found : Option (List ℕ)) (status code : ℕ) (outcome : Option Outcome)
-    (before after : Option (List ℕ)) → code ≡ status
-    → IfSome asked (λ command. IsNone (made_by command) → IfSome rest (λ all. (status ≡ 3) ⊎ Answers command (bytes_read all) found status outcome before after))
-    → IfSome asked (λ command. IsNone (made_by command) → IfSome rest
-    (λ all. (code ≡ 3) ⊎ ((given : Option Outcome) × Answers command (bytes_read all) found code given before after)))
-answers_by_code None rest found status code outcome before after same h = tt
-answers_by_code (Some command) None found status code outcome before after same h = λ none. tt
-answers_by_code (Some command) (Some all) found status code outcome before after same h = λ none. answer_by_code command all status code outcome before after same (h none)
-  where
-    answer_by_code : (command : Command) (all : List ℕ) (status code : ℕ) (outcome : Option Outcome) (before after : Option (List ℕ)) → code ≡ status
-        → (status ≡ 3) ⊎ Answers command (bytes_read all) found status outcome before after
-        → (code ≡ 3) ⊎ ((given : Option Outcome) × Answers command (bytes_read all) found code given before after)
-    answer_by_code command all status code outcome before after same (inl fault) = inl (subst (λ (s : ℕ). s ≡ 3) (sym same) fault)
-    answer_by_code command all status code outcome before after same (inr answer) =
-        inr (outcome, subst (λ (s : ℕ). Answers command (bytes_read all) found s outcome before after) (sym same) answer)
+pub answers_by_code : {D : Type 0} (held : D → Option (List ℕ)) (clock : D → ℕ) (image : D → List ℕ → Type 0) (image_since : D → ℕ → List ℕ → Type 0)
+    (asked : Option Command) (rest : Option (List ℕ)) (status code : ℕ) (outcome : Option Outcome) (before after : Option (List ℕ)) (old new : D)
+    → code ≡ status
+    → IfSome asked (λ command. IsNone (made_by command)
+    → (status ≡ 3) ⊎ IsAnswered held clock image image_since command rest status outcome before after old new)
+    → IfSome asked (λ command. IsNone (made_by command)
+    → (code ≡ 3) ⊎ ((given : Option Outcome) × IsAnswered held clock image image_since command rest code given before after old new))
+answers_by_code held clock image image_since None rest status code outcome before after old new same h = tt
+answers_by_code held clock image image_since (Some command) rest status code outcome before after old new same h = λ none.
+    ⊎_elim (λ fault. inl (same ∙ fault))
+    (λ answer. inr (outcome, subst (λ (s : ℕ). IsAnswered held clock image image_since command rest s outcome before after old new) (sym same) answer))
+    (h none)
 
 -- and what is made
 made_so : {S : Type 0} (command : Command) (made : Option Script) (old new : S) (status code : ℕ) (outcome : Option Outcome) (before after : Option (List ℕ)) → code ≡ status

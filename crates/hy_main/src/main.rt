@@ -1,14 +1,16 @@
 //! The program `hy`: makes the real words, reader, writer and disk, and ends with the status of the call.
 #![tactic(auto)]
 
-ghost use Rattle.std.specs.Prelude.{◌≡◌, ◌≢◌, ◌⊎◌, false, Option, None, IsNone, IfSome, map};
+ghost use Rattle.std.specs.Prelude.{◌≡◌, ◌≢◌, ◌≤◌, ◌⊎◌, false, Option, None, IsNone, IfSome, map};
 ghost use Rattle.std.specs.Process.{exit_status};
 ghost use Rattle.std.specs.String.{string_bytes};
+ghost use Rattle.hy_disk.specs.Calls.{Syncs};
+ghost use Rattle.hy_outside.specs.Faults.{Rose};
 ghost use Rattle.hy_render.specs.declared.Outcome.{Outcome};
 ghost use Rattle.hy_words.specs.Words.{command_of};
 ghost use Rattle.hy_top.specs.Lines.{usage_line};
-ghost use Rattle.hy_top.specs.Program.{bytes_read, made_by, uses_disk};
-ghost use Rattle.hy_top.specs.Reports.{Writes, Answers, Makes};
+ghost use Rattle.hy_top.specs.Program.{made_by, keeps_log, uses_disk};
+ghost use Rattle.hy_top.specs.Reports.{Writes, IsAnswered, Makes};
 
 use hy_disk::{Disk, FileDisk};
 use hy_outside::{Sink, Source, StdSink, StdSource};
@@ -56,15 +58,31 @@ fn exit_code_of<T: Threads + Wait + Sync, R: Source, W: Sink, D: Disk>(
     ensures words_refused { command_of (map string_bytes words.now) ≡ None
         → (exit_status result ≡ 5) ⊎ Writes 1 (exit_status result) (W.written sink.old) (W.written sink.new) usage_line }
     ensures usage { exit_status result ≡ 1 → command_of (map string_bytes words.now) ≡ None }
-    ensures answers { IfSome (command_of (map string_bytes words.now)) (λ command. IsNone (made_by command) → IfSome (R.rest source.old) (λ all.
-        (exit_status result ≡ 3) ⊎ ((outcome : Option Outcome)
-        × Answers command (bytes_read all) (D.held disk.old) (exit_status result) outcome (W.written sink.old) (W.written sink.new)))) }
+
+    // A command that reads a script is answered, and one that makes its script runs that.
+    ensures answers { IfSome (command_of (map string_bytes words.now)) (λ command. IsNone (made_by command) → (exit_status result ≡ 3)
+        ⊎ ((outcome : Option Outcome) × IsAnswered D.held D.clock D.image D.image_since command (R.rest source.old) (exit_status result) outcome
+        (W.written sink.old) (W.written sink.new) disk.old disk.new)) }
     ensures made { IfSome (command_of (map string_bytes words.now)) (λ command. IfSome (made_by command) (λ script. (source.new ≡ source.old)
         × ((outcome : Option Outcome) × Makes command script (exit_status result) outcome (W.written sink.old) (W.written sink.new)))) }
+
+    // A fault has its cause in the source, the sink or the disk, and is told. At 3, 5 and 6 nothing is written.
+    ensures read_fault { exit_status result ≡ 3 → Rose (R.faults source.old) (R.faults source.new) × (sink.new ≡ sink.old) }
+    ensures write_fault { exit_status result ≡ 4 → Rose (W.faults sink.old) (W.faults sink.new) }
+    ensures no_memory { exit_status result ≡ 5 → sink.new ≡ sink.old }
+    ensures disk_fault { exit_status result ≡ 6 → Rose (D.faults disk.old) (D.faults disk.new) × (sink.new ≡ sink.old) }
     ensures source_steady { exit_status result ≢ 3 → R.faults source.new ≡ R.faults source.old }
     ensures sink_steady { exit_status result ≢ 4 → W.faults sink.new ≡ W.faults sink.old }
     ensures disk_steady { exit_status result ≢ 6 → D.faults disk.new ≡ D.faults disk.old }
+
+    // What a command that keeps no log, or a status, leaves of the disk.
+    ensures refused_disk { (exit_status result ≡ 1) ⊎ (exit_status result ≡ 2) ⊎ (exit_status result ≡ 3) → disk.new ≡ disk.old }
     ensures untouched { uses_disk (command_of (map string_bytes words.now)) ≡ false → disk.new ≡ disk.old }
+    ensures held { IfSome (command_of (map string_bytes words.now)) (λ command. keeps_log command ≡ false → D.held disk.new ≡ D.held disk.old) }
+    ensures syncs { IfSome (command_of (map string_bytes words.now)) (λ command. keeps_log command ≡ false
+        → Syncs D.held D.clock D.image D.image_since disk.old disk.new) }
+    ensures kept { exit_status result ≡ 7 → D.held disk.new ≡ D.held disk.old }
+    ensures statuses { exit_status result ≤ 7 }
 {
     ExitCode::from(hy_top::run(rt, alloc, words, source, sink, &OpenGate, disk).status)
 }

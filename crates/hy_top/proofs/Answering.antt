@@ -1,9 +1,10 @@
 -- How a report answers what was read.
-use Rattle.std.proofs.Common.{◌≡◌, ℕ, ◌+◌, ◌*◌, ◌<◌, ◌≤◌, List, [], Bool, true, false, Option, None, Some, Result, Ok, Err, IsNone, IsSome, IfSome, length, map, refl, ap, sym, ◌∙◌, subst, arith, ◌⊎◌, inl, inr}
+use Rattle.std.proofs.Common.{◌≡◌, ℕ, ◌+◌, ◌*◌, ◌<◌, ◌≤◌, List, [], Bool, true, false, Option, None, Some, Result, Ok, Err, IsNone, IsSome, IfSome, length, map, refl, ap, sym, ◌∙◌, subst, replicate, le_refl, arith, ◌⊎◌, inl, inr}
 use Rattle.std.proofs.Math.Logic.{⊎_elim}
 use Rattle.std.proofs.Math.Nat.{mul-le-mul_right}
-use Rattle.std.proofs.lemmas.List.{take_all, drop_all, length-take-le}
+use Rattle.std.proofs.lemmas.List.{take_all, drop_all, length-take-le, length-replicate}
 use Rattle.hy_outside.specs.Telling.{GivesAll, GivesPast}
+use Rattle.hy_redo.specs.Crashes.{IsAsItWas}
 use Rattle.hy_script.specs.declared.Script.{Script}
 use Rattle.hy_script.specs.declared.Refused.{Refused}
 use Rattle.hy_script.specs.declared.Options.{Options}
@@ -24,7 +25,7 @@ use Rattle.hy_words.specs.Words.{IsWithin}
 use Rattle.hy_words.specs.declared.Command.TheVariants.{Run, Check, Recover, Gen}
 use Rattle.hy_value.specs.declared.Value.{Value}
 use Rattle.hy_top.specs.Lines.{refusal_line_of}
-use Rattle.hy_top.specs.Program.{MayCome, bytes_read, bytes_left, options_by, made_by}
+use Rattle.hy_top.specs.Program.{MayCome, IsRead, bytes_read, bytes_left, keeps_log, options_by, made_by}
 use Rattle.hy_world.specs.SomeRuns.{IsSomeRun}
 use Rattle.hy_gen.specs.Made.{made}
 use Rattle.hy_bank.specs.Fitting.{MadeFits}
@@ -36,7 +37,7 @@ use Rattle.std.specs.List.{AllByRecursion}
 use Rattle.std.specs.Prelude.{pos, IfOk}
 use Rattle.hy_near.specs.Runnable.{IsRunnable}
 use Rattle.hy_top.specs.Settings.{CanRun, setting_at}
-use Rattle.hy_top.specs.Reports.{IsRefused, Spells, IsRun, Writes, Answers, Checks, HasRun, RunsLogged, FindsALog, Restores, restored_status, Summarizes, GaveUp, Does, Makes}
+use Rattle.hy_top.specs.Reports.{IsRefused, Spells, IsRun, Writes, Answers, IsAnswered, Leaves, LeavesLog, IsLogged, Checks, HasRun, RunsLogged, FindsALog, Restores, restored_status, Summarizes, GaveUp, Does, Makes}
 use Rattle.hy_limits.specs.declared.TheConstants.{MOST_BYTES}
 
 none_is : (o : Option Outcome) → IsNone o → o ≡ None
@@ -65,12 +66,57 @@ same_refusal : (s t : Refused) → ◌≡◌ {A = Result Script Refused} (Err s)
 same_refusal s t h = cc
 
 -- what holds of an outcome that is there
-no_outcome : (P : Outcome → Type 0) (given : Option Outcome) → IsNone given → IfSome given P
+pub no_outcome : (P : Outcome → Type 0) (given : Option Outcome) → IsNone given → IfSome given P
 no_outcome P None h = tt
 no_outcome P (Some o) h = absurd (none_is_not_some (Some o) h (let some : IsSome (Some o) = search in some))
 
 given_outcome : (P : Outcome → Type 0) (given : Option Outcome) (o : Outcome) → given ≡ Some o → P o → IfSome given P
 given_outcome P given o is p = subst (λ (g : Option Outcome). IfSome g P) (sym is) p
+
+pub given_is_there : (given : Option Outcome) (o : Outcome) → given ≡ Some o → IsNone given → ⊥
+given_is_there given o is none =
+    let some : IsSome (Some o) = search in
+    none_is_not_some given none (subst (λ (g : Option Outcome). IsSome g) (sym is) some)
+
+-- ---- what is left on the disk
+
+-- nothing was done to it
+pub as_it_was : {D : Type 0} (held : D → Option (List ℕ)) (clock : D → ℕ) (image : D → List ℕ → Type 0) (image_since : D → ℕ → List ℕ → Type 0)
+    (disk : D) → IsAsItWas held clock image image_since disk disk
+as_it_was held clock image image_since disk = record {
+  reads = refl;
+  stays = record { later = le_refl (clock disk); images = λ bytes left. left; moments = λ time bytes le left. left };
+}
+
+-- nor was anything run
+pub leaves_stay : {D : Type 0} (held : D → Option (List ℕ)) (clock : D → ℕ) (image : D → List ℕ → Type 0) (image_since : D → ℕ → List ℕ → Type 0)
+    (script : Script) (status : ℕ) (given : Option Outcome) (before after : D) → IsNone given → IsAsItWas held clock image image_since before after
+    → LeavesLog held clock image image_since script status given before after
+leaves_stay held clock image image_since script status given before after nothing as = record {
+  stays = λ none done. as;
+  safe = record { later = as.stays.later; moments = λ time bytes le left. inl (as.stays.moments time bytes le left) };
+  logged = no_outcome (λ outcome. IsLogged held clock image image_since script outcome before after) given nothing;
+}
+
+pub leaves_nothing : {D : Type 0} (held : D → Option (List ℕ)) (clock : D → ℕ) (image : D → List ℕ → Type 0) (image_since : D → ℕ → List ℕ → Type 0)
+    (command : Command) (bytes : List ℕ) (status : ℕ) (given : Option Outcome) (disk : D) → IsNone given
+    → Leaves held clock image image_since command bytes status given disk disk
+leaves_nothing held clock image image_since command bytes status given disk nothing = record {
+  refused = λ why is. refl;
+  runs = λ script s. leaves_stay held clock image image_since script status given disk disk nothing (as_it_was held clock image image_since disk);
+}
+
+-- a script was spelled, so this is what its run leaves
+pub leaves_spelled : {D : Type 0} (held : D → Option (List ℕ)) (clock : D → ℕ) (image : D → List ℕ → Type 0) (image_since : D → ℕ → List ℕ → Type 0)
+    (command : Command) (bytes : List ℕ) (script : Script) (status : ℕ) (given : Option Outcome) (before after : D) → Once → Spells command bytes script
+    → LeavesLog held clock image image_since script status given before after → Leaves held clock image image_since command bytes status given before after
+leaves_spelled held clock image image_since command bytes script status given before after once s leaves = record {
+  refused = λ why is. absurd (not_both script why (once bytes (options_by command) (Ok script) (Err why) s is));
+  runs = λ other t. subst (λ (x : Script). LeavesLog held clock image image_since x status given before after)
+      (same_script script other (once bytes (options_by command) (Ok script) (Ok other) s t)) leaves;
+}
+
+-- ---- answers
 
 -- a refusal is an answer to what is refused
 pub refused_answers : (command : Command) (bytes : List ℕ) (found : Option (List ℕ)) (why : Refused) (status : ℕ) (given : Option Outcome)
@@ -207,6 +253,27 @@ restored_otherwise : (restored : Result (List (List (List Value))) ℕ) → IsNo
 restored_otherwise (Ok rows) two = omega (arith, two)
 restored_otherwise (Err offset) two = omega (arith, two)
 
+-- what was done with a script has no such status
+did_otherwise : (command : Command) (script : Script) (found : Option (List ℕ)) (status : ℕ) (given : Option Outcome) (before after : Option (List ℕ))
+    → Does command script found status given before after → IsNoRefusal status
+did_otherwise (Run threads prune false chunks rows) script found status given before after ran =
+    done_otherwise 0 status before after _ (λ two. omega (arith, two)) ran.writes
+did_otherwise (Run threads prune true chunks rows) script found status given before after (inl ran) =
+    done_otherwise 0 status before after _ (λ two. omega (arith, two)) ran.runs.writes
+did_otherwise (Run threads prune true chunks rows) script found status given before after (inr there) =
+    done_otherwise 7 status before after _ (λ two. omega (arith, two)) there.writes
+did_otherwise (Gen seed sessions txns threads) script found status given before after ran =
+    done_otherwise 0 status before after _ (λ two. omega (arith, two)) ran.writes
+did_otherwise (Check chunks rows) script found status given before after done =
+    done_otherwise 0 status before after _ (λ two. omega (arith, two)) done.writes
+did_otherwise (Recover chunks rows) script found status given before after done =
+    done_otherwise (restored_status done.restored) status before after _ (restored_otherwise done.restored) done.writes
+
+pub done_is_no_refusal : {A : Type 0} (command : Command) (script : Script) (found : Option (List ℕ)) (status : ℕ) (given : Option Outcome)
+    (before after : Option (List ℕ)) → (GaveUp status × A) ⊎ Does command script found status given before after → IsNoRefusal status
+done_is_no_refusal command script found status given before after (inl gave) = gave_up_otherwise status gave.0
+done_is_no_refusal command script found status given before after (inr did) = did_otherwise command script found status given before after did
+
 -- what was done with a script is an answer to the bytes that spell it
 pub done_answers : (command : Command) (bytes : List ℕ) (found : Option (List ℕ)) (script : Script) (status : ℕ) (given : Option Outcome)
     (before after : Option (List ℕ)) → Once → Theorem → ReadFits command bytes → Spells command bytes script
@@ -219,31 +286,21 @@ done_answers (Run threads prune true chunks rows) bytes found script status give
     ran_answers (Run threads prune true chunks rows) bytes found script status given before after false _ once law fit tt s ran.runs (inl ran)
 done_answers (Run threads prune true chunks rows) bytes found script status given before after once law fit s (inr (inr there)) =
     quiet_answers (Run threads prune true chunks rows) bytes found script status given before after once s there.nothing_is_run
-    (done_otherwise 7 status before after _ (λ two. omega (arith, two)) there.writes) (inr (inr there))
+    (did_otherwise (Run threads prune true chunks rows) script found status given before after (inr there)) (inr (inr there))
 done_answers (Gen seed sessions txns threads) bytes found script status given before after once law fit s (inr ran) =
     ran_answers (Gen seed sessions txns threads) bytes found script status given before after threads _ once law fit tt s ran ran
 done_answers (Check chunks rows) bytes found script status given before after once law fit s (inr done) =
     quiet_answers (Check chunks rows) bytes found script status given before after once s done.nothing_is_run
-    (done_otherwise 0 status before after _ (λ two. omega (arith, two)) done.writes) (inr done)
+    (did_otherwise (Check chunks rows) script found status given before after done) (inr done)
 done_answers (Recover chunks rows) bytes found script status given before after once law fit s (inr done) =
     quiet_answers (Recover chunks rows) bytes found script status given before after once s done.nothing_is_run
-    (done_otherwise (restored_status done.restored) status before after _ (restored_otherwise done.restored) done.writes) (inr done)
+    (did_otherwise (Recover chunks rows) script found status given before after done) (inr done)
 
 whole_is_read : (all : List ℕ) → length all ≤ MOST_BYTES → bytes_read all ≡ all
 whole_is_read all h = take_all (MOST_BYTES + 1) all (omega arith)
 
 nothing_is_left : (all : List ℕ) → length all ≤ MOST_BYTES → bytes_left all ≡ []
 nothing_is_left all h = drop_all (MOST_BYTES + 1) all (omega arith)
-
--- so of what is told of scripts that the bytes spell
-pub told_whole : (command : Command) (given : Option Outcome) (P : Script → Outcome → Type 0) (before after : Option (List ℕ)) (bytes : List ℕ)
-    → GivesAll before after bytes → length bytes ≤ MOST_BYTES
-    → IfSome given (λ (outcome : Outcome). (script : Script) → Spells command bytes script → P script outcome)
-    → IfSome before (λ all. IfSome given (λ (outcome : Outcome). (script : Script) → Spells command (bytes_read all) script → P script outcome))
-told_whole command given P None after bytes h short told = tt
-told_whole command given P (Some all) after bytes h short told =
-    subst (λ (b : List ℕ). IfSome given (λ (outcome : Outcome). (script : Script) → Spells command b script → P script outcome))
-    (h.0 ∙ sym (whole_is_read all (subst (λ (b : List ℕ). length b ≤ MOST_BYTES) h.0 short))) told
 
 -- what was read whole is what is read
 pub read_whole : (status : ℕ) (before after : Option (List ℕ)) (bytes : List ℕ) → GivesAll before after bytes → length bytes ≤ MOST_BYTES
@@ -252,30 +309,49 @@ read_whole status None after bytes h short = tt
 read_whole status (Some all) after bytes h short =
     inr (inr (h.1 ∙ ap Some (sym (nothing_is_left all (subst (λ (b : List ℕ). length b ≤ MOST_BYTES) h.0 short)))))
 
-pub answers_whole : (command : Command) (found : Option (List ℕ)) (status : ℕ) (given : Option Outcome) (old new : Option (List ℕ))
-    (before after : Option (List ℕ)) (bytes : List ℕ) → GivesAll before after bytes → length bytes ≤ MOST_BYTES
-    → Answers command bytes found status given old new → IfSome before (λ all. (status ≡ 3) ⊎ Answers command (bytes_read all) found status given old new)
-answers_whole command found status given old new None after bytes h short a = tt
-answers_whole command found status given old new (Some all) after bytes h short a =
-    inr (subst (λ (b : List ℕ). Answers command b found status given old new)
-    (h.0 ∙ sym (whole_is_read all (subst (λ (b : List ℕ). length b ≤ MOST_BYTES) h.0 short))) a)
+read_so : (before after : Option (List ℕ)) (bytes : List ℕ) → GivesAll before after bytes → length bytes ≤ MOST_BYTES → IsRead before bytes
+read_so None after bytes h short = tt
+read_so (Some all) after bytes h short = h.0 ∙ sym (whole_is_read all (subst (λ (b : List ℕ). length b ≤ MOST_BYTES) h.0 short))
+
+pub answered_whole : {D : Type 0} (held : D → Option (List ℕ)) (clock : D → ℕ) (image : D → List ℕ → Type 0) (image_since : D → ℕ → List ℕ → Type 0)
+    (command : Command) (rest left : Option (List ℕ)) (status : ℕ) (given : Option Outcome) (before after : Option (List ℕ)) (old new : D)
+    (bytes : List ℕ) → GivesAll rest left bytes → length bytes ≤ MOST_BYTES → Answers command bytes (held old) status given before after
+    → (keeps_log command ≡ true → Leaves held clock image image_since command bytes status given old new)
+    → IsAnswered held clock image image_since command rest status given before after old new
+answered_whole held clock image image_since command rest left status given before after old new bytes h short answers leaves =
+    record { bytes = bytes; read = read_so rest left bytes h short; answers = answers; leaves = leaves }
 
 -- what is too long is refused
 abbrev pub too_long_refusal : Refused
 too_long_refusal = record { line = 1; code = TooLong }
 
-cut_is_refused : (command : Command) (all : List ℕ) → MOST_BYTES < length all → IsRefused command (bytes_read all) too_long_refusal
-cut_is_refused command all long =
-    let so_long : length (bytes_read all) ≡ MOST_BYTES + 1 = length-take-le (MOST_BYTES + 1) all (omega arith) in
-    too_long (omega (arith, so_long))
+-- there are bytes that are read of a source
+some_read : (rest : Option (List ℕ)) → (bytes : List ℕ) × IsRead rest bytes
+some_read None = ([], tt)
+some_read (Some all) = (bytes_read all, refl)
 
-pub answers_cut : (command : Command) (found : Option (List ℕ)) (status : ℕ) (given : Option Outcome) (old new : Option (List ℕ))
-    (before after : Option (List ℕ)) → Once → GivesPast before after MOST_BYTES
-    → ((status ≡ 5) ⊎ Writes 2 status old new (refusal_line_of too_long_refusal)) → IsNone given
-    → IfSome before (λ all. (status ≡ 3) ⊎ Answers command (bytes_read all) found status given old new)
-answers_cut command found status given old new None after once h w nothing = tt
-answers_cut command found status given old new (Some all) after once h w nothing =
-    inr (refused_answers command (bytes_read all) found too_long_refusal status given old new once (cut_is_refused command all h.0) w nothing)
+-- and more than a script may have, where there are more
+some_past : (most : ℕ) → (bytes : List ℕ) × (most < length bytes)
+some_past most = (replicate (most + 1) 0, omega (arith, length-replicate (most + 1) 0))
+
+some_cut : (rest left : Option (List ℕ)) → GivesPast rest left MOST_BYTES → (bytes : List ℕ) × IsRead rest bytes × (MOST_BYTES < length bytes)
+some_cut None left h = let long = some_past MOST_BYTES in (long.0, tt, long.1)
+some_cut (Some all) left h =
+    let so_long : length (bytes_read all) ≡ MOST_BYTES + 1 = length-take-le (MOST_BYTES + 1) all (omega (arith, h.0)) in
+    (bytes_read all, refl, omega (arith, so_long))
+
+pub answered_cut : {D : Type 0} (held : D → Option (List ℕ)) (clock : D → ℕ) (image : D → List ℕ → Type 0) (image_since : D → ℕ → List ℕ → Type 0)
+    (command : Command) (rest left : Option (List ℕ)) (status : ℕ) (given : Option Outcome) (before after : Option (List ℕ)) (disk : D)
+    → Once → GivesPast rest left MOST_BYTES → ((status ≡ 5) ⊎ Writes 2 status before after (refusal_line_of too_long_refusal)) → IsNone given
+    → IsAnswered held clock image image_since command rest status given before after disk disk
+answered_cut held clock image image_since command rest left status given before after disk once h w nothing =
+    let cut = some_cut rest left h in
+    record {
+      bytes = cut.0;
+      read = cut.1.0;
+      answers = refused_answers command cut.0 (held disk) too_long_refusal status given before after once (too_long cut.1.1) w nothing;
+      leaves = λ keeps. leaves_nothing held clock image image_since command cut.0 status given disk nothing;
+    }
 
 -- an outcome of made accounts has the money that they had; its audits were told it
 abbrev HasTheMoney : Outcome → Type 0
@@ -360,23 +436,36 @@ nothing_read None before after = tt
 nothing_read (Some command) None after = λ none. tt
 nothing_read (Some command) (Some all) after = λ none. inr (inl refl)
 
-nothing_answers : (command : Command) (bytes : List ℕ) (found held : Option (List ℕ)) → Answers command bytes found 5 None held held
-nothing_answers command bytes found held =
-    let none : IsNone {T = Outcome} None = search in
+nothing_answers : (command : Command) (bytes : List ℕ) (found : Option (List ℕ)) (status : ℕ) (given : Option Outcome) (before after : Option (List ℕ))
+    → status ≡ 5 → IsNone given → Answers command bytes found status given before after
+nothing_answers command bytes found status given before after five nothing = record {
+  refused = λ why h. inl five;
+  refuses = λ h. let never : ⊥ = omega (arith, h, five) in absurd never;
+  does = λ script s. inl (inl five);
+  lawful = λ script s. no_outcome (Lawful (setting_at script)) given nothing;
+  serial = λ script s. no_outcome (IsSerial (setting_at script)) given nothing;
+  outcome_there = λ h. absurd (none_is_not_some given nothing h);
+}
+
+pub answered_nothing : {D : Type 0} (held : D → Option (List ℕ)) (clock : D → ℕ) (image : D → List ℕ → Type 0) (image_since : D → ℕ → List ℕ → Type 0)
+    (command : Command) (rest : Option (List ℕ)) (status : ℕ) (given : Option Outcome) (before after : Option (List ℕ)) (disk : D)
+    → status ≡ 5 → IsNone given → IsAnswered held clock image image_since command rest status given before after disk disk
+answered_nothing held clock image image_since command rest status given before after disk five nothing =
+    let some = some_read rest in
     record {
-      refused = λ why h. inl refl;
-      refuses = λ h. absurd (omega (arith, h));
-      does = λ script s. inl (inl refl);
-      lawful = λ script s. tt;
-      serial = λ script s. tt;
-      outcome_there = λ h. absurd (none_is_not_some None none h);
+      bytes = some.0;
+      read = some.1;
+      answers = nothing_answers command some.0 (held disk) status given before after five nothing;
+      leaves = λ keeps. leaves_nothing held clock image image_since command some.0 status given disk nothing;
     }
 
-pub nothing_answered : (asked : Option Command) (before found held : Option (List ℕ))
-    → IfSome asked (λ command. IsNone (made_by command) → IfSome before (λ all. (◌≡◌ {A = ℕ} 5 3) ⊎ Answers command (bytes_read all) found 5 None held held))
-nothing_answered None before found held = tt
-nothing_answered (Some command) None found held = λ none. tt
-nothing_answered (Some command) (Some all) found held = λ none. inr (nothing_answers command (bytes_read all) found held)
+pub nothing_answered : {D : Type 0} (held : D → Option (List ℕ)) (clock : D → ℕ) (image : D → List ℕ → Type 0) (image_since : D → ℕ → List ℕ → Type 0)
+    (asked : Option Command) (rest sink : Option (List ℕ)) (disk : D)
+    → IfSome asked (λ command. IsNone (made_by command) → (◌≡◌ {A = ℕ} 5 3) ⊎ IsAnswered held clock image image_since command rest 5 None sink sink disk disk)
+nothing_answered held clock image image_since None rest sink disk = tt
+nothing_answered held clock image image_since (Some command) rest sink disk =
+    let none : IsNone {T = Outcome} None = search in
+    λ made. inr (answered_nothing held clock image image_since command rest 5 None sink sink disk refl none)
 
 nothing_made_by : {S : Type 0} (command : Command) (made : Option Script) (held : Option (List ℕ)) (old : S) → IfSome made (λ script. (old ≡ old) × Makes command script 5 None held held)
 nothing_made_by command None held old = tt

@@ -1,23 +1,31 @@
 -- What the log of a run recovers to: the tables after some first entries of its commit order, and in the end its own.
-use Rattle.std.proofs.Common.{◌≡◌, ℕ, List, Option, None, Some, IfSome, Ok, Err, length, map, ap, sym, subst, refl, ◌∙◌, le_refl}
+use Rattle.std.proofs.Common.{◌≡◌, ◌⊎◌, ℕ, ◌<◌, ◌≤◌, List, [], ◌∷◌, Bool, true, false, Option, None, Some, IsNone, IfSome, Ok, Err, length, map, ap, sym, subst, refl, ◌∙◌, inl, inr, le_refl, le_trans, arith}
+use Rattle.std.proofs.Math.Logic.{⊎_elim}
 use mathlib.Core.List.{map-map}
 use Rattle.std.proofs.lemmas.List.{take_all}
 use Rattle.hy_body.specs.declared.HeldTable.{HeldTable}
 use Rattle.hy_machine.specs.declared.Entry.{Entry}
 use Rattle.hy_machine.specs.Tables.{history, opening_tables}
 use Rattle.hy_machine.specs.Outcomes.{rows_sorted}
-use Rattle.hy_machine.specs.Runs.{run_of}
+use Rattle.hy_machine.specs.Runs.{opening_of, run_of}
+use Rattle.hy_machine.specs.declared.Setting.{Setting}
 use Rattle.hy_render.specs.declared.Outcome.{Outcome}
 use Rattle.hy_script.specs.declared.Script.{Script}
 use Rattle.hy_typed.specs.Scripts.{catalog_kinds}
-use Rattle.hy_world.specs.Logged.{RecoversAfter, IsDurable, HasLogged}
-use Rattle.hy_top.specs.Program.{comes_to}
-use Rattle.hy_redo.specs.Recovery.{DamagedAt}
-use Rattle.hy_redo.specs.declared.errors.RecoverError.TheVariants.{Damaged}
-use Rattle.hy_recovery.specs.Recovered.{AreRecovered}
-use Rattle.hy_value.specs.declared.Value.{Value}
-use Rattle.hy_top.specs.Reports.{IsRestored, IsLoggedSince, Writes, tables_after, tables_at}
+use Rattle.hy_disk.specs.Bytes.{IsOwn}
+use Rattle.hy_disk.specs.Calls.{Syncs}
+use Rattle.hy_redo.specs.Crashes.{IsBegun, IsBegunAtMost}
+use Rattle.hy_near.specs.Typed.{AreTyped}
+use Rattle.hy_schedule.specs.declared.Item.{Item}
+use Rattle.hy_typed.specs.Scripts.{IsTypedScript}
+use Rattle.hy_value.specs.declared.Kind.{Kind}
+use Rattle.hy_words.specs.declared.Command.{Command}
+use Rattle.hy_world.specs.Logged.{RecoversAfter, IsDurable, HasLogged, LogsRun}
+use Rattle.hy_world.specs.Worlds.{WorldData, ShowsState}
+use Rattle.hy_top.specs.Program.{comes_to, keeps_log}
+use Rattle.hy_top.specs.Reports.{IsRestored, IsLoggedSince, Writes, Runs, GaveUp, IsLogOfScript, KeepsLog, IsHalfMade, IsLogged, LeavesLog, tables_after}
 use Rattle.hy_top.specs.Settings.{setting_at}
+use Rattle.hy_top.proofs.Answering.{no_outcome, given_is_there, leaves_stay}
 
 restored_after : (script : Script) (count : ℕ) (bytes : List ℕ)
     → RecoversAfter (setting_at script) (catalog_kinds script.catalog) (run_of (setting_at script) script.schedule) count bytes
@@ -53,13 +61,97 @@ pub writes_so : (done status code : ℕ) (before after : Option (List ℕ)) (byt
 writes_so done status code before after bytes text same is w =
     subst (λ (s : ℕ). Writes done s before after text) (sym same) (subst (λ (b : List ℕ). Writes done status before after b) is w)
 
-pub rows_restored : (script : Script) (found : Option (List ℕ)) (rows : List (List (List Value))) → AreRecovered (tables_at script) found rows
-    → IfSome found (λ bytes. IsRestored script bytes (Ok rows))
-rows_restored script None rows h = tt
-rows_restored script (Some bytes) rows h = h
+-- where a disk tells bytes it has some, and of any other there are some that it may have had
+pub found_some : (held : Option (List ℕ)) → IfSome held (λ own. 0 < length own) → (found : List ℕ) × IsOwn held found × (0 < length found)
+found_some None some = (0 ∷ [], tt, omega arith)
+found_some (Some own) some = (own, refl, some)
 
-pub damage_restored : (script : Script) (found : Option (List ℕ)) (offset : ℕ)
-    → ((bytes : List ℕ) → found ≡ Some bytes → DamagedAt (tables_at script) bytes (Damaged offset))
-    → IfSome found (λ bytes. IsRestored script bytes (Err offset))
-damage_restored script None offset h = tt
-damage_restored script (Some bytes) offset h = h bytes refl
+-- ---- what a crash leaves
+
+pub keeps_so : {D : Type 0} (clock : D → ℕ) (image_since : D → ℕ → List ℕ → Type 0) (script : Script) (before after : D)
+    → LogsRun clock image_since (setting_at script) (catalog_kinds script.catalog) (run_of (setting_at script) script.schedule) before after
+    → KeepsLog clock image_since script before after
+keeps_so clock image_since script before after logs = record {
+  later = logs.later;
+  moments = λ time bytes le left.
+      ⊎_elim (λ earlier. inl earlier)
+      (λ is. inr (record { count = is.count; log = is.log; restored = restored_after script is.count bytes is.recovers }))
+      (logs.moments time bytes le left);
+}
+
+pub keeps_run : {D : Type 0} (clock : D → ℕ) (image_since : D → ℕ → List ℕ → Type 0) (script : Script) (setting : Setting) (schedule : List Item)
+    (world : WorldData) (before after : D) → setting ≡ setting_at script → schedule ≡ script.schedule → ShowsState setting (opening_of setting) world
+    → IsTypedScript script
+    → ((other : Setting) (kinds : List (List Kind)) → ShowsState other (opening_of other) world → AreTyped kinds other.shapes other.first other.programs
+    → LogsRun clock image_since other kinds (run_of other schedule) before after)
+    → KeepsLog clock image_since script before after
+keeps_run clock image_since script setting schedule world before after same items shows typed moments =
+    let own : Setting = setting_at script in
+    keeps_so clock image_since script before after
+    (subst (λ (other : List Item). LogsRun clock image_since own (catalog_kinds script.catalog) (run_of own other) before after) items
+    (moments own (catalog_kinds script.catalog) (subst (λ (s : Setting). ShowsState s (opening_of s) world) same shows) typed))
+
+-- a log that was not touched
+pub keeps_still : {D : Type 0} (clock : D → ℕ) (image_since : D → ℕ → List ℕ → Type 0) (script : Script) (disk : D)
+    → KeepsLog clock image_since script disk disk
+keeps_still clock image_since script disk = record { later = le_refl (clock disk); moments = λ time bytes le left. inl left }
+
+half_made : {D : Type 0} (held : D → Option (List ℕ)) (clock : D → ℕ) (image : D → List ℕ → Type 0) (image_since : D → ℕ → List ℕ → Type 0)
+    (script : Script) (before after : D) → IsBegun held clock image image_since before after → (time : ℕ) (bytes : List ℕ) → time ≤ clock before
+    → image_since after time bytes
+    → image_since before time bytes ⊎ (IsHalfMade (held before) (image before) bytes ⊎ IsLogOfScript script bytes)
+half_made held clock image image_since script before after begun time bytes le left =
+    ⊎_elim (λ earlier. inl earlier) (λ touched. inr (inl (record { empty = begun.empty; touched = touched }))) (begun.writes.moments time bytes le left)
+
+-- the disk failed before the log was made, or while it was
+pub leaves_cut : {D : Type 0} (held : D → Option (List ℕ)) (clock : D → ℕ) (image : D → List ℕ → Type 0) (image_since : D → ℕ → List ℕ → Type 0)
+    (script : Script) (status : ℕ) (given : Option Outcome) (before after : D) → status ≡ 6 → IsNone given
+    → IsBegunAtMost held clock image image_since before after → LeavesLog held clock image image_since script status given before after
+leaves_cut held clock image image_since script status given before after six nothing (inl as) =
+    leaves_stay held clock image image_since script status given before after nothing as
+leaves_cut held clock image image_since script status given before after six nothing (inr begun) = record {
+  stays = λ none done. absurd (done (inr six));
+  safe = record { later = begun.writes.later; moments = half_made held clock image image_since script before after begun };
+  logged = no_outcome (λ outcome. IsLogged held clock image image_since script outcome before after) given nothing;
+}
+
+logged_so : {D : Type 0} (held : D → Option (List ℕ)) (clock : D → ℕ) (image : D → List ℕ → Type 0) (image_since : D → ℕ → List ℕ → Type 0)
+    (script : Script) (given : Option Outcome) (before made after : D) → IsBegun held clock image image_since before made
+    → KeepsLog clock image_since script made after → IfSome given (λ outcome. IsLoggedSince image image_since script outcome (clock made) after)
+    → IfSome given (λ outcome. IsLogged held clock image image_since script outcome before after)
+logged_so held clock image image_since script None before made after begun keeps since = tt
+logged_so held clock image image_since script (Some outcome) before made after begun keeps since =
+    record { made = made; making = begun; keeps = keeps; since = since }
+
+-- the log was made, and then kept
+pub leaves_kept : {D : Type 0} (held : D → Option (List ℕ)) (clock : D → ℕ) (image : D → List ℕ → Type 0) (image_since : D → ℕ → List ℕ → Type 0)
+    (script : Script) (status : ℕ) (given : Option Outcome) (before made after : D) → IsBegun held clock image image_since before made
+    → KeepsLog clock image_since script made after → IfSome given (λ outcome. IsLoggedSince image image_since script outcome (clock made) after)
+    → (IsNone given → GaveUp status) → LeavesLog held clock image image_since script status given before after
+leaves_kept held clock image image_since script status given before made after begun keeps since gave = record {
+  stays = λ none done. absurd (done (gave none));
+  safe = record {
+    later = le_trans begun.writes.later keeps.later;
+    moments = λ time bytes le left.
+        ⊎_elim (λ earlier. half_made held clock image image_since script before made begun time bytes le earlier) (λ is. inr (inr is))
+        (keeps.moments time bytes (le_trans le begun.writes.later) left);
+  };
+  logged = logged_so held clock image image_since script given before made after begun keeps since;
+}
+
+-- where there is no outcome, the run gave up
+pub gave_up : {A : Type 0} (threads : Bool) (script : Script) (status : ℕ) (given : Option Outcome) (before after : Option (List ℕ))
+    → (GaveUp status × A) ⊎ Runs threads script status given before after → IsNone given → GaveUp status
+gave_up threads script status given before after (inl gave) none = gave.0
+gave_up threads script status given before after (inr ran) none = absurd (given_is_there given ran.given ran.outcome_is none)
+
+-- a disk that nothing was done to
+pub same_syncs : {D : Type 0} (held : D → Option (List ℕ)) (clock : D → ℕ) (image : D → List ℕ → Type 0) (image_since : D → ℕ → List ℕ → Type 0)
+    (disk : D) → Syncs held clock image image_since disk disk
+same_syncs held clock image image_since disk =
+    record { later = le_refl (clock disk); images = λ bytes left. left; moments = λ time bytes le left. inl left }
+
+pub asked_syncs : {D : Type 0} (held : D → Option (List ℕ)) (clock : D → ℕ) (image : D → List ℕ → Type 0) (image_since : D → ℕ → List ℕ → Type 0)
+    (asked : Option Command) (disk : D) → IfSome asked (λ command. keeps_log command ≡ false → Syncs held clock image image_since disk disk)
+asked_syncs held clock image image_since None disk = tt
+asked_syncs held clock image image_since (Some command) disk = λ other. same_syncs held clock image image_since disk

@@ -1,5 +1,5 @@
 -- What a script comes to.
-use Rattle.std.specs.Prelude.{◌≡◌, ℕ, ◌+◌, List, Bool, true, false, Option, None, Some, take, drop, map}
+use Rattle.std.specs.Prelude.{◌≡◌, ℕ, ◌+◌, List, Bool, true, false, Option, None, Some, IfSome, take, drop, map}
 use Rattle.hy_script.specs.declared.Script.{Script}
 use Rattle.hy_script.specs.declared.Options.{Options}
 use Rattle.hy_render.specs.declared.Names.{Names}
@@ -20,6 +20,10 @@ bytes_read all = take (MOST_BYTES + 1) all
 -- and those that stay in the source
 abbrev pub bytes_left : List ℕ → List ℕ
 bytes_left all = drop (MOST_BYTES + 1) all
+
+-- these bytes are read of a source: where it tells its own, the first of them
+abbrev pub IsRead : Option (List ℕ) → List ℕ → Type 0
+IsRead rest bytes = IfSome rest (λ all. bytes ≡ bytes_read all)
 
 -- how a command takes a script: a made one has 4 chunks of 16 rows
 abbrev pub options_by : Command → Options

@@ -20,14 +20,18 @@ use Rattle.hy_render.specs.declared.Names.{Names}
 use Rattle.hy_render.specs.Report.{tables_text}
 use Rattle.hy_body.specs.declared.HeldTable.{HeldTable}
 use Rattle.hy_redo.specs.Recovery.{Recovers}
-use Rattle.hy_world.specs.Logged.{HasLogged}
+use Rattle.hy_disk.specs.Bytes.{IsOwn}
+use Rattle.hy_disk.specs.Calls.{TouchedOf}
+use Rattle.hy_redo.specs.Logs.{log_of}
+use Rattle.hy_redo.specs.Crashes.{IsBegun, IsAsItWas}
+use Rattle.hy_world.specs.Logged.{HasLogged, IsLogOfOrder}
 use Rattle.hy_recovery.specs.Recovered.{first_tables, AreRecovered}
 use Rattle.hy_typed.specs.Scripts.{catalog_kinds}
 use Rattle.hy_machine.specs.Outcomes.{rows_sorted}
 use Rattle.hy_machine.specs.Runs.{run_of}
 use Rattle.hy_machine.specs.Sessions.{snapshot}
 use Rattle.hy_top.specs.Lines.{refusal_line_of, checked_line, not_empty_line, damaged_line}
-use Rattle.hy_top.specs.Program.{MayCome, options_by, names_at}
+use Rattle.hy_top.specs.Program.{MayCome, IsRead, comes_to, keeps_log, options_by, names_at}
 use Rattle.hy_top.specs.Settings.{setting_at}
 
 -- the bytes are refused by a command, and how
@@ -70,16 +74,18 @@ pub record Checks (script : Script) (status : ℕ) (outcome : Option Outcome) (b
   pub nothing_is_run : IsNone outcome
   pub writes : Writes 0 status before after (checked_line script)
 
--- ---- with a disk, of which a read gave these bytes before, where it tells them
+-- ---- with a disk, of which a read gave these bytes before, where it tells them: of any disk there are bytes that it held
 
 -- the disk was empty, and the script was run by its schedule, with a log made on the disk
-pub record RunsLogged (script : Script) (found : Option (List ℕ)) (status : ℕ) (outcome : Option Outcome) (before after : Option (List ℕ)) : Type 0 where
-  pub empty : IfSome found (λ bytes. bytes ≡ [])
+pub record RunsLogged (script : Script) (held : Option (List ℕ)) (status : ℕ) (outcome : Option Outcome) (before after : Option (List ℕ)) : Type 0 where
+  pub empty : IfSome held (λ own. own ≡ [])
   pub runs : Runs false script status outcome before after
 
 -- the disk has bytes: so no log was made, nothing was run, and this was told
-pub record FindsALog (found : Option (List ℕ)) (status : ℕ) (outcome : Option Outcome) (before after : Option (List ℕ)) : Type 0 where
-  pub some : IfSome found (λ bytes. 0 < length bytes)
+pub record FindsALog (held : Option (List ℕ)) (status : ℕ) (outcome : Option Outcome) (before after : Option (List ℕ)) : Type 0 where
+  pub found : List ℕ
+  pub own : IsOwn held found
+  pub some : 0 < length found
   pub nothing_is_run : IsNone outcome
   pub writes : Writes 7 status before after not_empty_line
 
@@ -89,7 +95,7 @@ tables_at script = first_tables (catalog_kinds script.catalog) (setting_at scrip
 
 -- the rows that the bytes recover to, or the offset where they are damaged
 abbrev pub IsRestored : Script → List ℕ → Result (List (List (List Value))) ℕ → Type 0
-IsRestored script bytes (Ok rows) = AreRecovered (tables_at script) (Some bytes) rows
+IsRestored script bytes (Ok rows) = AreRecovered (tables_at script) bytes rows
 IsRestored script bytes (Err offset) = Recovers (tables_at script) bytes (Err offset)
 
 -- the tables after the first entries of the commit order of the script's run, by its schedule: the rows of each, ascending
@@ -106,20 +112,22 @@ restored_text names (Ok rows) = tables_text names rows
 restored_text names (Err offset) = damaged_line offset
 
 -- the tables of the script were made again from the log on the disk and written, or it was told where the log is damaged
-pub record Restores (script : Script) (found : Option (List ℕ)) (status : ℕ) (outcome : Option Outcome) (before after : Option (List ℕ)) : Type 0 where
+pub record Restores (script : Script) (held : Option (List ℕ)) (status : ℕ) (outcome : Option Outcome) (before after : Option (List ℕ)) : Type 0 where
+  pub found : List ℕ
+  pub own : IsOwn held found
   pub restored : Result (List (List (List Value))) ℕ
-  pub is : IfSome found (λ bytes. IsRestored script bytes restored)
+  pub is : IsRestored script found restored
   pub nothing_is_run : IsNone outcome
   pub writes : Writes (restored_status restored) status before after (restored_text (names_at script) restored)
 
 -- what the command asks for was done
 abbrev pub Does : Command → Script → Option (List ℕ) → ℕ → Option Outcome → Option (List ℕ) → Option (List ℕ) → Type 0
-Does (Run threads prune false chunks rows) script found status outcome before after = Runs threads script status outcome before after
-Does (Run threads prune true chunks rows) script found status outcome before after =
-    RunsLogged script found status outcome before after ⊎ FindsALog found status outcome before after
-Does (Check chunks rows) script found status outcome before after = Checks script status outcome before after
-Does (Recover chunks rows) script found status outcome before after = Restores script found status outcome before after
-Does (Gen seed sessions txns threads) script found status outcome before after = Summarizes threads script status outcome before after
+Does (Run threads prune false chunks rows) script held status outcome before after = Runs threads script status outcome before after
+Does (Run threads prune true chunks rows) script held status outcome before after =
+    RunsLogged script held status outcome before after ⊎ FindsALog held status outcome before after
+Does (Check chunks rows) script held status outcome before after = Checks script status outcome before after
+Does (Recover chunks rows) script held status outcome before after = Restores script held status outcome before after
+Does (Gen seed sessions txns threads) script held status outcome before after = Summarizes threads script status outcome before after
 
 -- nothing came of it, since memory ran out or the disk failed
 abbrev pub GaveUp : ℕ → Type 0
@@ -137,20 +145,48 @@ pub record Makes (command : Command) (script : Script) (status : ℕ) (outcome :
   pub endings : IfSome outcome (λ given. EndInFourWays given.txns)
   pub counts : IfSome outcome (λ given. EndingsAddUp given.txns)
 
--- the answer to bytes that a command read, beside those that it found on the disk: a status, an outcome or none, and what the sink
--- holds before and after
-pub record Answers (command : Command) (bytes : List ℕ) (found : Option (List ℕ)) (status : ℕ) (outcome : Option Outcome)
+-- the answer to bytes that a command read, with a disk that held these, where it tells them: a status, an outcome or none, and what
+-- the sink holds before and after
+pub record Answers (command : Command) (bytes : List ℕ) (held : Option (List ℕ)) (status : ℕ) (outcome : Option Outcome)
     (before after : Option (List ℕ)) : Type 0 where
   -- where the bytes are refused, the refusal line is written, unless memory ran out
   pub refused : (why : Refused) → IsRefused command bytes why → (status ≡ 5) ⊎ Writes 2 status before after (refusal_line_of why)
   pub refuses : status ≡ 2 → (why : Refused) × IsRefused command bytes why
   -- where they spell a script, what the command asks for is done, unless memory ran out or the disk failed
-  pub does : (script : Script) → Spells command bytes script → GaveUp status ⊎ Does command script found status outcome before after
+  pub does : (script : Script) → Spells command bytes script → GaveUp status ⊎ Does command script held status outcome before after
   -- the outcome is lawful, and serializable in the order that it prints
   pub lawful : (script : Script) → Spells command bytes script → IfSome outcome (Lawful (setting_at script))
   pub serial : (script : Script) → Spells command bytes script → IfSome outcome (IsSerial (setting_at script))
   -- an outcome is there only of a script that was run
   pub outcome_there : IsSome outcome → IsRun command × ((script : Script) × Spells command bytes script) × ((status ≡ 0) ⊎ (status ≡ 4))
+
+-- ---- what a crash leaves on the disk
+
+-- the bytes are the log of some first entries of the commit order of the script's run, by its schedule, and recover to the tables after these
+pub record IsLogOfScript (script : Script) (bytes : List ℕ) : Type 0 where
+  pub count : ℕ
+  pub log : IsLogOfOrder (comes_to script).order count bytes
+  pub restored : IsRestored script bytes (Ok (tables_after script count))
+
+-- A log is kept: a crash at any moment between these two leaves what one could leave before, or the log of some first entries of the
+-- script's run.
+pub record KeepsLog {D : Type 0} (clock : D → ℕ) (image_since : D → ℕ → List ℕ → Type 0) (script : Script) (before after : D) : Type 0 where
+  pub later : clock before ≤ clock after
+  pub moments : (time : ℕ) (bytes : List ℕ) → time ≤ clock before → image_since after time bytes
+      → image_since before time bytes ⊎ IsLogOfScript script bytes
+
+-- the making of a log may leave these bytes of an empty disk that could have left these before: where it writes, they may be any
+pub record IsHalfMade (held : Option (List ℕ)) (images : List ℕ → Type 0) (bytes : List ℕ) : Type 0 where
+  pub empty : IfSome held (λ own. own ≡ [])
+  pub touched : TouchedOf 0 (length (log_of [])) images bytes
+
+-- A crash at any moment between these two leaves what one could leave before, what the making of a log may leave, or the log of some
+-- first entries of the script's run.
+pub record IsSafe {D : Type 0} (held : D → Option (List ℕ)) (clock : D → ℕ) (image : D → List ℕ → Type 0)
+    (image_since : D → ℕ → List ℕ → Type 0) (script : Script) (before after : D) : Type 0 where
+  pub later : clock before ≤ clock after
+  pub moments : (time : ℕ) (bytes : List ℕ) → time ≤ clock before → image_since after time bytes
+      → image_since before time bytes ⊎ (IsHalfMade (held before) (image before) bytes ⊎ IsLogOfScript script bytes)
 
 -- Since this time a log has been kept of the outcome's commit order. What a crash leaves now recovers to the outcome's tables, and
 -- what one left at any moment since then to the tables after some first entries of the order.
@@ -160,10 +196,37 @@ pub record IsLoggedSince {D : Type 0} (image : D → List ℕ → Type 0) (image
   pub now : (bytes : List ℕ) → image disk bytes → IsRestored script bytes (Ok outcome.tables)
   pub moments : (bytes : List ℕ) → image_since disk time bytes → (count : ℕ) × IsRestored script bytes (Ok (tables_after script count))
 
--- a log was made on the disk between these two, and has been kept since then
-pub record IsLogged {D : Type 0} (clock : D → ℕ) (image : D → List ℕ → Type 0) (image_since : D → ℕ → List ℕ → Type 0)
-    (script : Script) (outcome : Outcome) (before after : D) : Type 0 where
-  pub time : ℕ
-  pub begun : clock before ≤ time
-  pub over : time ≤ clock after
-  pub since : IsLoggedSince image image_since script outcome time after
+-- the disk came to be as it is when a log was made, and from then on that was kept
+pub record IsLogged {D : Type 0} (held : D → Option (List ℕ)) (clock : D → ℕ) (image : D → List ℕ → Type 0)
+    (image_since : D → ℕ → List ℕ → Type 0) (script : Script) (outcome : Outcome) (before after : D) : Type 0 where
+  pub made : D
+  pub making : IsBegun held clock image image_since before made
+  pub keeps : KeepsLog clock image_since script made after
+  pub since : IsLoggedSince image image_since script outcome (clock made) after
+
+-- what a run of this script that keeps a log leaves
+pub record LeavesLog {D : Type 0} (held : D → Option (List ℕ)) (clock : D → ℕ) (image : D → List ℕ → Type 0)
+    (image_since : D → ℕ → List ℕ → Type 0) (script : Script) (status : ℕ) (outcome : Option Outcome) (before after : D) : Type 0 where
+  -- where nothing was run, the disk is as it was, unless memory ran out or the disk failed
+  pub stays : IsNone outcome → (GaveUp status → ⊥) → IsAsItWas held clock image image_since before after
+  -- whatever the status
+  pub safe : IsSafe held clock image image_since script before after
+  pub logged : IfSome outcome (λ given. IsLogged held clock image image_since script given before after)
+
+-- what a command that keeps a log leaves, beside the bytes that it read
+pub record Leaves {D : Type 0} (held : D → Option (List ℕ)) (clock : D → ℕ) (image : D → List ℕ → Type 0)
+    (image_since : D → ℕ → List ℕ → Type 0) (command : Command) (bytes : List ℕ) (status : ℕ) (outcome : Option Outcome)
+    (before after : D) : Type 0 where
+  pub refused : (why : Refused) → IsRefused command bytes why → after ≡ before
+  pub runs : (script : Script) → Spells command bytes script → LeavesLog held clock image image_since script status outcome before after
+
+-- ---- a command that reads a script
+
+-- It answers the bytes that its source gave: where that tells its own, it is these.
+pub record IsAnswered {D : Type 0} (held : D → Option (List ℕ)) (clock : D → ℕ) (image : D → List ℕ → Type 0)
+    (image_since : D → ℕ → List ℕ → Type 0) (command : Command) (rest : Option (List ℕ)) (status : ℕ) (outcome : Option Outcome)
+    (before after : Option (List ℕ)) (old new : D) : Type 0 where
+  pub bytes : List ℕ
+  pub read : IsRead rest bytes
+  pub answers : Answers command bytes (held old) status outcome before after
+  pub leaves : keeps_log command ≡ true → Leaves held clock image image_since command bytes status outcome old new

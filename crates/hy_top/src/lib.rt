@@ -3,6 +3,7 @@
 
 ghost use Rattle.std.specs.Prelude.{◌≡◌, ◌≢◌, ℕ, ◌+◌, ◌<◌, ◌≤◌, ◌⊎◌, true, false, List, Option, None, Some, IsNone, IsSome, IfSome, OnOk, IfOk, Ok, Err, map};
 ghost use Rattle.std.specs.String.{string_bytes};
+ghost use Rattle.hy_disk.specs.Calls.{Syncs};
 ghost use Rattle.hy_outside.specs.Faults.{Rose};
 ghost use Rattle.hy_outside.specs.Telling.{GivesAtMost};
 ghost use Rattle.hy_render.specs.Report.{text};
@@ -12,9 +13,9 @@ ghost use Rattle.hy_words.specs.Words.{IsWithin, command_of};
 ghost use Rattle.hy_gen.specs.Made.{made};
 ghost use Rattle.hy_script.specs.declared.Script.{Script};
 ghost use Rattle.hy_top.specs.Lines.{usage_line, refusal_line_of, checked_line};
-ghost use Rattle.hy_top.specs.Program.{MayCome, bytes_read, bytes_left, keeps_log, options_by, made_by, names_at, uses_disk};
+ghost use Rattle.hy_top.specs.Program.{MayCome, bytes_left, keeps_log, options_by, made_by, names_at, uses_disk};
 ghost use Rattle.hy_top.specs.Settings.{CanRun};
-ghost use Rattle.hy_top.specs.Reports.{Spells, Writes, Answers, Runs, Checks, Summarizes, GaveUp, Does, IsLogged, Makes};
+ghost use Rattle.hy_top.specs.Reports.{Writes, Answers, IsAnswered, Leaves, LeavesLog, Runs, Checks, Summarizes, GaveUp, Does, Makes};
 
 mod laws;
 mod lines;
@@ -85,8 +86,8 @@ const USAGE: &[u8] = b"usage: hy run|check|gen\n";
 /// writes a summary of its outcome. The first word is the program's name. With `--threads` each session runs on a thread
 /// of its own, and the gate is told of each of its visits; then the call waits for locks and for the threads' ends. With
 /// `--log` a redo log is made on the disk, and has each entry of the commit order before another step is taken; `recover`
-/// reads a script, and writes the tables that the log on the disk makes of its first rows. What is said of bytes holds where
-/// the source, the sink and the disk tell them.
+/// reads a script, and writes the tables that the log on the disk makes of its first rows. What is said of a sink's bytes and of
+/// crashes holds where the sink and the disk tell them.
 pub fn run<T: Threads + Wait + Sync, R: Source, W: Sink, G: Gate, D: Disk>(
     rt: &T,
     alloc: Global,
@@ -108,11 +109,15 @@ pub fn run<T: Threads + Wait + Sync, R: Source, W: Sink, G: Gate, D: Disk>(
     // Whatever the status, the source gave some first bytes, and no more than one past the limit.
     ensures given { GivesAtMost (R.rest source.old) (R.rest source.new) (MOST_BYTES + 1) }
 
-    // Where these bytes are refused the refusal line is written. Where they spell a script it is run, and the
-    // text of its outcome is written: that is what the machine's run of the script comes to, by its schedule or, on
-    // threads, by some order of steps; it is lawful, and it is serializable in the order that it prints; or the script is checked.
-    ensures answers { IfSome (command_of (map string_bytes words.now)) (λ command. IsNone (made_by command) → IfSome (R.rest source.old) (λ all.
-        (result.status ≡ 3) ⊎ Answers command (bytes_read all) (D.held disk.old) result.status result.outcome (W.written sink.old) (W.written sink.new))) }
+    // Unless a read failed there are bytes that the source gave, its own where it tells them. Where these are refused the
+    // refusal line is written. Where they spell a script it is run, and the text of its outcome is written: that is what the
+    // machine's run of the script comes to, by its schedule or, on threads, by some order of steps; it is lawful, and it is
+    // serializable in the order that it prints; or the script is checked. A run that keeps a log leaves that of the outcome's
+    // order: what a crash after it leaves recovers to the outcome's tables. Whatever the status, what a crash leaves at any
+    // moment is what one could leave before, what the making of the log may leave, or the log of some first entries of the order.
+    ensures answers { IfSome (command_of (map string_bytes words.now)) (λ command. IsNone (made_by command) → (result.status ≡ 3)
+        ⊎ IsAnswered D.held D.clock D.image D.image_since command (R.rest source.old) result.status result.outcome
+        (W.written sink.old) (W.written sink.new) disk.old disk.new) }
 
     // A command that makes its script runs that, and writes the summary of its outcome, which is lawful and
     // serializable, in which the money is kept, and whose transactions end in four ways; the source is as it was.
@@ -130,15 +135,14 @@ pub fn run<T: Threads + Wait + Sync, R: Source, W: Sink, G: Gate, D: Disk>(
     ensures sink_steady { result.status ≢ 4 → W.faults sink.new ≡ W.faults sink.old }
     ensures disk_steady { result.status ≢ 6 → D.faults disk.new ≡ D.faults disk.old }
 
-    // A run that keeps a log leaves that of the outcome's order: what a crash after it leaves recovers to the outcome's tables,
-    // and what one leaves at any moment of it, from the making of the log on, to the tables after some first entries of the order.
-    ensures logged { IfSome (command_of (map string_bytes words.now)) (λ command. keeps_log command ≡ true → IfSome (R.rest source.old) (λ all.
-        IfSome result.outcome (λ outcome. (script : Script) → Spells command (bytes_read all) script
-        → IsLogged D.clock D.image D.image_since script outcome disk.old disk.new))) }
-
-    // Other commands leave the disk as it is, and to recover leaves its bytes.
+    // Where the words or the script are refused, or a read failed, the disk is as it was. Other commands than those that keep
+    // a log or read one leave it so, and to recover leaves its bytes, and makes sure no others; at 7 they stay whatever the command.
+    ensures refused_disk { (result.status ≡ 1) ⊎ (result.status ≡ 2) ⊎ (result.status ≡ 3) → disk.new ≡ disk.old }
     ensures untouched { uses_disk (command_of (map string_bytes words.now)) ≡ false → disk.new ≡ disk.old }
     ensures held { IfSome (command_of (map string_bytes words.now)) (λ command. keeps_log command ≡ false → D.held disk.new ≡ D.held disk.old) }
+    ensures syncs { IfSome (command_of (map string_bytes words.now)) (λ command. keeps_log command ≡ false
+        → Syncs D.held D.clock D.image D.image_since disk.old disk.new) }
+    ensures kept { result.status ≡ 7 → D.held disk.new ≡ D.held disk.old }
 
     // Without words that are accepted there is no run, and no other status than 1, 4 or 5.
     ensures script_statuses { (result.status ≡ 0) ⊎ (result.status ≡ 2) ⊎ (result.status ≡ 3) ⊎ (6 ≤ result.status) ⊎ IsSome result.outcome
@@ -252,8 +256,8 @@ fn run_command<T: Threads + Wait + Sync, R: Source, W: Sink, G: Gate, D: Disk>(
     ensures bytes { IfSome (R.rest source.old) (λ all.
         (result.status ≡ 3) ⊎ (result.status ≡ 5) ⊎ (R.rest source.new ≡ Some (bytes_left all))) }
     ensures given { GivesAtMost (R.rest source.old) (R.rest source.new) (MOST_BYTES + 1) }
-    ensures answers { IfSome (R.rest source.old) (λ all.
-        (result.status ≡ 3) ⊎ Answers command (bytes_read all) (D.held disk.old) result.status result.outcome (W.written sink.old) (W.written sink.new)) }
+    ensures answers { (result.status ≡ 3) ⊎ IsAnswered D.held D.clock D.image D.image_since command (R.rest source.old) result.status result.outcome
+        (W.written sink.old) (W.written sink.new) disk.old disk.new }
     ensures read_fault { result.status ≡ 3 → Rose (R.faults source.old) (R.faults source.new) × (sink.new ≡ sink.old) × IsNone result.outcome }
     ensures write_fault { result.status ≡ 4 → Rose (W.faults sink.old) (W.faults sink.new) }
     ensures no_memory { result.status ≡ 5 → (sink.new ≡ sink.old) × IsNone result.outcome }
@@ -261,11 +265,11 @@ fn run_command<T: Threads + Wait + Sync, R: Source, W: Sink, G: Gate, D: Disk>(
     ensures sink_steady { result.status ≢ 4 → W.faults sink.new ≡ W.faults sink.old }
     ensures disk_fault { result.status ≡ 6 → Rose (D.faults disk.old) (D.faults disk.new) × (sink.new ≡ sink.old) × IsNone result.outcome }
     ensures disk_steady { result.status ≢ 6 → D.faults disk.new ≡ D.faults disk.old }
-    ensures logged { keeps_log command ≡ true → IfSome (R.rest source.old) (λ all.
-        IfSome result.outcome (λ outcome. (script : Script) → Spells command (bytes_read all) script
-        → IsLogged D.clock D.image D.image_since script outcome disk.old disk.new)) }
+    ensures refused_disk { (result.status ≡ 2) ⊎ (result.status ≡ 3) → disk.new ≡ disk.old }
     ensures untouched { uses_disk (Some command) ≡ false → disk.new ≡ disk.old }
     ensures held { keeps_log command ≡ false → D.held disk.new ≡ D.held disk.old }
+    ensures syncs { keeps_log command ≡ false → Syncs D.held D.clock D.image D.image_since disk.old disk.new }
+    ensures kept { result.status ≡ 7 → D.held disk.new ≡ D.held disk.old }
     ensures statuses { (result.status ≢ 1) × (result.status ≤ 7) }
 {
     read_once();
@@ -329,10 +333,13 @@ fn answer<T: Threads + Wait + Sync, W: Sink, G: Gate, D: Disk>(
     ensures no_memory { result.status ≡ 5 → (sink.new ≡ sink.old) × IsNone result.outcome }
     ensures disk_fault { result.status ≡ 6 → Rose (D.faults disk.old) (D.faults disk.new) × (sink.new ≡ sink.old) × IsNone result.outcome }
     ensures disk_steady { result.status ≢ 6 → D.faults disk.new ≡ D.faults disk.old }
-    ensures logged { keeps_log command ≡ true → IfSome result.outcome (λ outcome. (script : Script) → Spells command bytes.now script
-        → IsLogged D.clock D.image D.image_since script outcome disk.old disk.new) }
+    ensures leaves { keeps_log command ≡ true
+        → Leaves D.held D.clock D.image D.image_since command bytes.now result.status result.outcome disk.old disk.new }
+    ensures refused_disk { result.status ≡ 2 → disk.new ≡ disk.old }
     ensures untouched { uses_disk (Some command) ≡ false → disk.new ≡ disk.old }
     ensures held { keeps_log command ≡ false → D.held disk.new ≡ D.held disk.old }
+    ensures syncs { keeps_log command ≡ false → Syncs D.held D.clock D.image D.image_since disk.old disk.new }
+    ensures kept { result.status ≡ 7 → D.held disk.new ≡ D.held disk.old }
     ensures statuses { (result.status ≢ 1) × (result.status ≢ 3) × (result.status ≤ 7) }
 {
     read_once();
@@ -362,9 +369,12 @@ fn perform<T: Threads + Wait + Sync, W: Sink, G: Gate, D: Disk>(
     ensures sink_steady { result.status ≢ 4 → W.faults sink.new ≡ W.faults sink.old }
     ensures disk_fault { result.status ≡ 6 → Rose (D.faults disk.old) (D.faults disk.new) }
     ensures disk_steady { result.status ≢ 6 → D.faults disk.new ≡ D.faults disk.old }
-    ensures logged { keeps_log command ≡ true → IfSome result.outcome (λ outcome. IsLogged D.clock D.image D.image_since script outcome disk.old disk.new) }
+    ensures leaves { keeps_log command ≡ true
+        → LeavesLog D.held D.clock D.image D.image_since script result.status result.outcome disk.old disk.new }
     ensures untouched { uses_disk (Some command) ≡ false → disk.new ≡ disk.old }
     ensures held { keeps_log command ≡ false → D.held disk.new ≡ D.held disk.old }
+    ensures syncs { keeps_log command ≡ false → Syncs D.held D.clock D.image D.image_since disk.old disk.new }
+    ensures kept { result.status ≡ 7 → D.held disk.new ≡ D.held disk.old }
 {
     match command {
         Command::Run {

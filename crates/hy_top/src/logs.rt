@@ -4,12 +4,14 @@ ghost use Rattle.std.specs.Prelude.{◌≡◌, ◌≢◌, ℕ, ◌≤◌, ◌⊎
 ghost use Rattle.hy_outside.specs.Faults.{Rose};
 ghost use Rattle.hy_value.specs.declared.Value.{Value};
 ghost use Rattle.hy_render.specs.Report.{tables_text, text};
+ghost use Rattle.hy_disk.specs.Bytes.{IsOwn};
+ghost use Rattle.hy_disk.specs.Calls.{Syncs};
 ghost use Rattle.hy_redo.specs.Crashes.{AreLogsOf};
-ghost use Rattle.hy_redo.specs.Recovery.{DamagedAt};
+ghost use Rattle.hy_redo.specs.Recovery.{DamagedIn};
 ghost use Rattle.hy_recovery.specs.Recovered.{AreRecovered};
 ghost use Rattle.hy_top.specs.Lines.{damaged_line};
 ghost use Rattle.hy_top.specs.Program.{comes_to, names_at};
-ghost use Rattle.hy_top.specs.Reports.{Writes, Runs, RunsLogged, FindsALog, Restores, GaveUp, IsLogged, IsLoggedSince, tables_at};
+ghost use Rattle.hy_top.specs.Reports.{Writes, Runs, RunsLogged, FindsALog, Restores, GaveUp, LeavesLog, KeepsLog, IsLoggedSince, tables_at};
 ghost use Rattle.hy_top.specs.Settings.{CanRun};
 
 use crate::lines::damaged;
@@ -31,7 +33,7 @@ const NOT_EMPTY: &[u8] = b"log: not empty\n";
 const BAD_LOG: u8 = 7;
 
 /// Makes a log on the disk, runs a script by its schedule with each entry of the commit order in the log, and writes the
-/// text of its outcome. Where the disk has bytes it says so, and nothing is run.
+/// text of its outcome. Where the disk has bytes it says so, nothing is run, and the disk stays.
 pub(crate) fn run_logged<W: Sink, D: Disk>(
     alloc: Global,
     script: Script,
@@ -43,7 +45,8 @@ pub(crate) fn run_logged<W: Sink, D: Disk>(
     ensures run { GaveUp result.status × (sink.new ≡ sink.old) × IsNone result.outcome
         ⊎ (RunsLogged script (D.held disk.old) result.status result.outcome (W.written sink.old) (W.written sink.new)
         ⊎ FindsALog (D.held disk.old) result.status result.outcome (W.written sink.old) (W.written sink.new)) }
-    ensures logged { IfSome result.outcome (λ outcome. IsLogged D.clock D.image D.image_since script outcome disk.old disk.new) }
+    ensures leaves { LeavesLog D.held D.clock D.image D.image_since script result.status result.outcome disk.old disk.new }
+    ensures kept { result.status ≡ 7 → D.held disk.new ≡ D.held disk.old }
     ensures write_fault { result.status ≡ 4 → Rose (W.faults sink.old) (W.faults sink.new) }
     ensures sink_steady { result.status ≢ 4 → W.faults sink.new ≡ W.faults sink.old }
     ensures disk_fault { result.status ≡ 6 → Rose (D.faults disk.old) (D.faults disk.new) }
@@ -71,7 +74,7 @@ fn run_on_log<W: Sink, D: Disk>(
     ensures run { GaveUp result.status × (sink.new ≡ sink.old) × IsNone result.outcome
         ⊎ Runs false script result.status result.outcome (W.written sink.old) (W.written sink.new) }
     ensures logged { IfSome result.outcome (λ outcome. IsLoggedSince D.image D.image_since script outcome (D.clock disk.old) disk.new) }
-    ensures later { D.clock disk.old ≤ D.clock disk.new }
+    ensures keeps { KeepsLog D.clock D.image_since script disk.old disk.new }
     ensures write_fault { result.status ≡ 4 → Rose (W.faults sink.old) (W.faults sink.new) }
     ensures sink_steady { result.status ≢ 4 → W.faults sink.new ≡ W.faults sink.old }
     ensures disk_fault { result.status ≡ 6 → Rose (D.faults disk.old) (D.faults disk.new) }
@@ -96,7 +99,7 @@ fn logged_text<D: Disk>(
     requires log { AreLogsOf (D.image disk.old) [] log }
     ensures outcome { IfOk result (λ given. (given.0 ≡ comes_to script) × (given.1.items ≡ text (names_at script) given.0)) }
     ensures logged { IfOk result (λ given. IsLoggedSince D.image D.image_since script given.0 (D.clock disk.old) disk.new) }
-    ensures later { D.clock disk.old ≤ D.clock disk.new }
+    ensures keeps { KeepsLog D.clock D.image_since script disk.old disk.new }
     ensures fault { IsErrOf result AppendError.DiskFault → Rose (D.faults disk.old) (D.faults disk.new) }
     ensures steady { ¬ IsErrOf result AppendError.DiskFault → D.faults disk.new ≡ D.faults disk.old }
 {
@@ -124,6 +127,7 @@ pub(crate) fn recover_script<W: Sink, D: Disk>(
         ⊎ Restores script (D.held disk.old) result.status result.outcome (W.written sink.old) (W.written sink.new) }
     ensures nothing { IsNone result.outcome }
     ensures held { D.held disk.new ≡ D.held disk.old }
+    ensures syncs { Syncs D.held D.clock D.image D.image_since disk.old disk.new }
     ensures write_fault { result.status ≡ 4 → Rose (W.faults sink.old) (W.faults sink.new) }
     ensures sink_steady { result.status ≢ 4 → W.faults sink.new ≡ W.faults sink.old }
     ensures disk_fault { result.status ≡ 6 → Rose (D.faults disk.old) (D.faults disk.new) }
@@ -143,10 +147,11 @@ fn restored_text<D: Disk>(
     script: Script,
     disk: &mut D,
 ) -> Result<Vec<u8>, RecoverError>
-    ensures text { IfOk result (λ written. (rows : List (List (List Value))) × AreRecovered (tables_at script) (D.held disk.old) rows
-        × (written.items ≡ tables_text (names_at script) rows)) }
-    ensures damaged { IfErr result (λ e. (bytes : List ℕ) → D.held disk.old ≡ Some bytes → DamagedAt (tables_at script) bytes e) }
+    ensures text { IfOk result (λ written. (rows : List (List (List Value))) × (bytes : List ℕ) × IsOwn (D.held disk.old) bytes
+        × AreRecovered (tables_at script) bytes rows × (written.items ≡ tables_text (names_at script) rows)) }
+    ensures damaged { IfErr result (DamagedIn (tables_at script) (D.held disk.old)) }
     ensures held { D.held disk.new ≡ D.held disk.old }
+    ensures syncs { Syncs D.held D.clock D.image D.image_since disk.old disk.new }
     ensures fault { IsErrOf result RecoverError.DiskFault → Rose (D.faults disk.old) (D.faults disk.new) }
     ensures steady { ¬ IsErrOf result RecoverError.DiskFault → D.faults disk.new ≡ D.faults disk.old }
 {

@@ -6,7 +6,6 @@ use Rattle.hy_bound.specs.declared.Txn.{Txn}
 use Rattle.hy_change.specs.declared.Change.{Change}
 use Rattle.hy_journal.specs.declared.CoreData.{CoreData}
 use Rattle.hy_journal.specs.Core.{blocked_by}
-use Rattle.hy_render.specs.declared.Ending.TheVariants.{Read, RolledBack}
 use Rattle.hy_stamp.specs.declared.Label.{Label}
 use Rattle.hy_validate.specs.declared.Invalid.{Invalid}
 use Rattle.hy_validate.specs.Hits.{first_invalid}
@@ -16,7 +15,7 @@ use Rattle.hy_event.specs.declared.Phase.{Phase}
 use Rattle.hy_event.specs.declared.Phase.TheVariants.{Working, Stamping, Undoing}
 use Rattle.hy_event.specs.declared.Progress.{Progress}
 use Rattle.hy_event.specs.Sessions.{txn_at, label_of}
-use Rattle.hy_event.specs.Coring.{CoreTurn, unless_blocked, begin_turn, close_turn, leave_turn, validated_turn, commit_turn, closing_turn, working_turn, phase_turn, session_turn, core_turn, TakesAtCore, CoreEvent}
+use Rattle.hy_event.specs.Coring.{CoreTurn, unless_blocked, begin_turn, close_turn, validated_turn, commit_turn, closing_turn, working_turn, phase_turn, session_turn, core_turn, TakesAtCore, CoreEvent}
 use Rattle.hy_world.specs.Logged.{GrowByOne}
 
 -- a turn at the core adds one entry, or none

@@ -1,5 +1,5 @@
 -- Parts of a run that keeps a log, one after another.
-use Rattle.std.proofs.Common.{◌≡◌, ◌⊎◌, ℕ, suc, ◌*◌, ◌≤◌, List, [], ◌∷◌, ◌++◌, Option, None, Some, Result, Ok, Err, true, is_some, length, map, take, drop, arith, refl, ap, sym, subst, ◌∙◌, inl, inr, le_refl, le_trans, append_assoc, append-nil}
+use Rattle.std.proofs.Common.{◌≡◌, ℕ, suc, ◌*◌, ◌≤◌, List, [], ◌∷◌, ◌++◌, Option, None, Some, Result, Ok, Err, true, is_some, length, map, take, drop, arith, refl, ap, sym, subst, ◌∙◌, inl, inr, le_refl, le_trans, append_assoc, append-nil}
 use Rattle.std.specs.Prelude.{slice_get, filter}
 use Rattle.std.proofs.Math.Logic.{⊎_elim}
 use Rattle.std.proofs.Math.Seq.{drop-append_seam, drop-length, take-append_seam}

@@ -1,12 +1,12 @@
 -- The parts and sessions of a world as they are shared: at its opening, and when they come back at the end.
-use Rattle.std.proofs.Common.{◌≡◌, ◌↔◌, ℕ, zero, suc, ◌+◌, ◌*◌, ◌<◌, ◌≤◌, ◌/◌, ◌%◌, List, [], ◌∷◌, ◌++◌, Bool, true, false, Option, None, Some}
+use Rattle.std.proofs.Common.{◌≡◌, ℕ, zero, suc, ◌+◌, ◌*◌, ◌<◌, ◌≤◌, ◌/◌, ◌%◌, List, [], ◌∷◌, ◌++◌, Bool, true, Option, None, Some}
 use Rattle.std.proofs.Common.{◌^◌, length, map, take, get_or, refl, ap, ◌∙◌, sym, subst, arith, Result, Ok, Err}
 use Rattle.std.specs.Prelude.{slice_get, IfOk}
 use Rattle.std.specs.Option.{option_map}
-use Rattle.std.specs.List.{All, list_all}
+use Rattle.std.specs.List.{All}
 use Rattle.std.proofs.Math.Nat.{div-lt_iff_lt-mul, mod-add-div, mod-lt}
 use Rattle.std.proofs.lemmas.List.{length-map}
-use Rattle.std.proofs.lemmas.List.Elements.{All-take, All-drop, All-weaker, recursion_from_All}
+use Rattle.std.proofs.lemmas.List.Elements.{recursion_from_All}
 use Rattle.std.proofs.lemmas.Bool.{lt-ltb}
 use Rattle.std.proofs.lemmas.Nat.{mul-add-lt}
 use Rattle.std.proofs.lemmas.Option.{same_Some, slice_get-map}
@@ -25,12 +25,11 @@ use Rattle.hy_machine.specs.Runs.{opening_of}
 use Rattle.hy_session.specs.Near.{NearChunk}
 use Rattle.hy_near.specs.Outcomes.{EndsAreTheMachines, is_done, are_done}
 use Rattle.hy_near.specs.Runnable.{IsRunnable, IsShown}
-use Rattle.hy_near.specs.Typed.{AreTyped, kinds_of}
+use Rattle.hy_near.specs.Typed.{AreTyped}
 use Rattle.hy_world.specs.Shared.{SharedData, ChunkOf, CoreOf, AreParts, AreShared, HaveSharedTypes, IsChunk, Laws, MayVisit, chunk_shared}
 use Rattle.hy_world.specs.Shared.{part_of, parts_shared}
 use Rattle.hy_shows.specs.Laws.{OpeningIsShown}
 use Rattle.hy_session.specs.Standing.{needed_number, number_within, width_of}
-use Rattle.hy_threads.specs.declared.gate.Point.{Point}
 use Rattle.hy_world.specs.Points.{visit_at, point_of}
 use Rattle.hy_world.specs.Worlds.{WorldData, ShowsState, IsWorld, HaveTypes, parts_of, plain}
 use Rattle.hy_world.specs.Follows.{Tells}

@@ -43,7 +43,6 @@ use Rattle.hy_event.specs.Turns.{Step, Takes, Turn, Waits, Begins, Visits, Answe
 use Rattle.hy_event.specs.Undoing.{UndoVisit}
 use Rattle.hy_event.specs.Writing.{WriteVisit, cells_by, changes_by, ending_by, told_by as writing_told, write_turn}
 use Rattle.hy_undo.specs.declared.refusal.Refusal.{Refusal}
-use Rattle.hy_undo.specs.declared.refusal.Refusal.TheVariants
 use Rattle.hy_event.specs.declared.Need.{Need}
 use Rattle.hy_event.specs.declared.Need.TheVariants.{Core, Chunk, Done}
 use Rattle.hy_event.specs.Events.{ChunkPart, CorePart, NeededVisit, part_number}

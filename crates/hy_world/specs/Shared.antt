@@ -1,6 +1,6 @@
 -- Parts that the sessions of a world share: what contracts see of them, what holds of all of them and all sessions between two
 -- visits, and what a visit does.
-use Rattle.std.specs.Prelude.{◌≡◌, ◌⊎◌, ℕ, ◌+◌, ◌*◌, ◌<◌, List, [], ◌∷◌, ◌++◌, Option, None, Some, map, slice_get, length, refl}
+use Rattle.std.specs.Prelude.{◌≡◌, ◌⊎◌, ℕ, ◌+◌, ◌*◌, ◌<◌, List, [], ◌∷◌, ◌++◌, Some, map, slice_get, refl}
 use Rattle.std.specs.List.{AllByRecursion}
 use Rattle.std.specs.Coded.{Coded, code_by, coded×, coded⊎, coded_list}
 use mathlib.Core.Logic.{inl, inr}
@@ -13,7 +13,7 @@ use Rattle.hy_chunk.specs.Views.{Whole, data_code}
 use Rattle.hy_stamp.specs.declared.Label.{Label}
 use Rattle.hy_event.specs.declared.SessionData.{SessionData}
 use Rattle.hy_event.specs.declared.Need.{Need}
-use Rattle.hy_event.specs.declared.Need.TheVariants.{Core, Chunk, Done}
+use Rattle.hy_event.specs.declared.Need.TheVariants.{Core, Chunk}
 use Rattle.hy_event.specs.declared.Progress.{Progress}
 use Rattle.hy_event.specs.Coring.{core_turn}
 use Rattle.hy_event.specs.Events.{Part, ChunkPart, CorePart, part_number, NeededVisit}

@@ -1,6 +1,6 @@
 -- The laws of shared parts: a visit may be made where the session needs the part, it keeps what holds of all of them, and the
 -- part that a session needs is one of those that are there.
-use Rattle.std.proofs.Common.{◌≡◌, ◌⊎◌, inl, inr, ℕ, zero, suc, ◌+◌, ◌*◌, ◌<◌, ◌≤◌, List, [], ◌∷◌, length, map, refl, ap, ◌∙◌, sym, subst, arith, Option, None, Some}
+use Rattle.std.proofs.Common.{◌≡◌, ◌⊎◌, inl, inr, ℕ, zero, suc, ◌+◌, ◌*◌, List, [], ◌∷◌, length, map, refl, ap, ◌∙◌, sym, subst, Some}
 use Rattle.std.specs.Prelude.{slice_get, slice_set}
 use Rattle.std.specs.Option.{option_map}
 use Rattle.std.proofs.lemmas.List.{map-set}
@@ -14,13 +14,11 @@ use Rattle.hy_undo.specs.Chunks.{ChunkData}
 use Rattle.hy_event.specs.declared.SessionData.{SessionData}
 use Rattle.hy_event.specs.declared.Need.{Need}
 use Rattle.hy_event.specs.declared.Need.TheVariants.{Core, Chunk, Done}
-use Rattle.hy_event.specs.Events.{Part, ChunkPart, CorePart, part_number, NeededVisit}
+use Rattle.hy_event.specs.Events.{Part, ChunkPart, CorePart, part_number}
 use Rattle.hy_event.specs.Needs.{need_of}
 use Rattle.hy_machine.specs.declared.Setting.{Setting}
-use Rattle.hy_machine.specs.declared.State.{State}
 use Rattle.hy_machine.specs.Steps.{step_of}
 use Rattle.hy_session.specs.Near.{NearCore, NearChunk}
-use Rattle.hy_near.specs.Typed.{kinds_of}
 use Rattle.hy_near.specs.Runnable.{IsShown}
 use Rattle.hy_world.specs.Shared.{SharedData, ChunkOf, CoreOf, AreShared, HaveSharedTypes, IsNear, IsVisit, KeepsTypes, MayVisit, part_of}
 

@@ -7,7 +7,7 @@ use Rattle.hy_typed.specs.Scripts.{catalog_kinds}
 use Rattle.hy_world.specs.Logged.{IsDurable}
 use Rattle.hy_world.specs.Worlds.{ShowsState}
 use Rattle.hy_top.specs.Settings.{setting_at}
-use Rattle.hy_top.proofs.Logging.{logged_since}
+use Rattle.hy_top.proofs.Logging.{logged_since, keeps_run, keeps_still}
 use Rattle.hy_top.proofs.logs.logged_text.Goals as goal
 
 pub returns-clause-logged : goal.returns-clause-logged
@@ -23,3 +23,37 @@ returns-clause-logged g c =
     (subst (λ (schedule : List Item). IsDurable d.image d.image_since setting (catalog_kinds c.args.script.catalog) (run_of setting schedule)
     (d.clock c.args.disk.now) c.run_logged.new.disk) items
     (c.in_ok-outcome.ensures.durable setting (catalog_kinds c.args.script.catalog) shows c.requires.runs.typed))
+
+pub returns-in_err-setting-clause-keeps : goal.returns-in_err-setting-clause-keeps
+returns-in_err-setting-clause-keeps g c =
+    let d = g.D.Disk in
+    keeps_still d.clock d.image_since c.args.script c.args.disk.now
+
+pub returns-in_err-world-clause-keeps : goal.returns-in_err-world-clause-keeps
+returns-in_err-world-clause-keeps g c =
+    let d = g.D.Disk in
+    keeps_still d.clock d.image_since c.args.script c.args.disk.now
+
+pub returns-in_err-outcome-clause-keeps : goal.returns-in_err-outcome-clause-keeps
+returns-in_err-outcome-clause-keeps g c =
+    let d = g.D.Disk in
+    let same : c.in_ok-setting.field-0.setting ≡ setting_at c.args.script = c.in_ok-setting.ensures.setting in
+    let items : c.as_slice-2.result.now ≡ c.args.script.schedule = first_of (cc, search (rules)) in
+    keeps_run d.clock d.image_since c.args.script c.in_ok-setting.field-0.setting c.as_slice-2.result.now c.in_ok-world.world c.args.disk.now
+    c.run_logged.new.disk same items c.in_ok-world.ensures.shows c.requires.runs.typed c.run_logged.ensures.moments
+
+pub returns-in_err-render-clause-keeps : goal.returns-in_err-render-clause-keeps
+returns-in_err-render-clause-keeps g c =
+    let d = g.D.Disk in
+    let same : c.in_ok-setting.field-0.setting ≡ setting_at c.args.script = c.in_ok-setting.ensures.setting in
+    let items : c.as_slice-2.result.now ≡ c.args.script.schedule = first_of (cc, search (rules)) in
+    keeps_run d.clock d.image_since c.args.script c.in_ok-setting.field-0.setting c.as_slice-2.result.now c.in_ok-world.world c.args.disk.now
+    c.run_logged.new.disk same items c.in_ok-world.ensures.shows c.requires.runs.typed c.run_logged.ensures.moments
+
+pub returns-clause-keeps : goal.returns-clause-keeps
+returns-clause-keeps g c =
+    let d = g.D.Disk in
+    let same : c.in_ok-setting.field-0.setting ≡ setting_at c.args.script = c.in_ok-setting.ensures.setting in
+    let items : c.as_slice-2.result.now ≡ c.args.script.schedule = first_of (cc, search (rules)) in
+    keeps_run d.clock d.image_since c.args.script c.in_ok-setting.field-0.setting c.as_slice-2.result.now c.in_ok-world.world c.args.disk.now
+    c.run_logged.new.disk same items c.in_ok-world.ensures.shows c.requires.runs.typed c.run_logged.ensures.moments

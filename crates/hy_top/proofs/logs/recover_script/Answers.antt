@@ -1,27 +1,31 @@
-use Rattle.std.proofs.Common.{◌≡◌, ◌∙◌, List, ℕ, Some, Ok, Err, inl, inr, subst}
+use Rattle.std.proofs.Common.{◌≡◌, ◌∙◌, Ok, Err, inl, inr, subst}
 use Rattle.std.proofs.Math.Logic.{⊎_elim}
-use Rattle.hy_redo.specs.Recovery.{DamagedAt}
+use Rattle.hy_redo.specs.Recovery.{DamagedIn}
 use Rattle.hy_top.specs.Reports.{tables_at}
-use Rattle.hy_top.proofs.Logging.{writes_so, rows_restored, damage_restored}
+use Rattle.hy_top.proofs.Logging.{writes_so}
 use Rattle.hy_top.proofs.logs.recover_script.Goals as goal
 
 pub returns-in-Ok-clause-restores : goal.returns-in-Ok-clause-restores
 returns-in-Ok-clause-restores g c =
     let told = c.in-Ok.ensures.text in
     inr (record {
+      found = told.1.0;
+      own = told.1.1.0;
       restored = Ok told.0;
-      is = rows_restored c.args.script (g.D.Disk.held c.args.disk.now) told.0 told.1;
+      is = told.1.1.1.0;
       nothing_is_run = c.without_outcome.ensures.nothing;
-      writes = writes_so 0 c.write.result _ _ _ _ _ c.without_outcome.ensures.status (c.as_slice.ensures.value ∙ told.2) c.write.ensures.writes;
+      writes = writes_so 0 c.write.result _ _ _ _ _ c.without_outcome.ensures.status (c.as_slice.ensures.value ∙ told.1.1.1.1) c.write.ensures.writes;
     })
 
 pub returns-in-Err-Damaged-clause-restores : goal.returns-in-Err-Damaged-clause-restores
 returns-in-Err-Damaged-clause-restores g c =
+    let damaged = subst (DamagedIn (tables_at c.args.script) (g.D.Disk.held c.args.disk.now)) c.in-Err-Damaged.field-0-is c.in-Err-Damaged.ensures.damaged in
     ⊎_elim (λ gave. inl (inl gave.0, gave.1, c.tell_damage.ensures.nothing))
     (λ wrote. inr (record {
+      found = damaged.0;
+      own = damaged.1.0;
       restored = Err c.in-Err-Damaged.at;
-      is = damage_restored c.args.script (g.D.Disk.held c.args.disk.now) c.in-Err-Damaged.at (λ bytes told.
-          subst (DamagedAt (tables_at c.args.script) bytes) c.in-Err-Damaged.field-0-is (c.in-Err-Damaged.ensures.damaged bytes told));
+      is = damaged.1.1;
       nothing_is_run = c.tell_damage.ensures.nothing;
       writes = wrote;
     })) c.tell_damage.ensures.writes

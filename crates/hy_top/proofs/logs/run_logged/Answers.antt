@@ -1,11 +1,43 @@
 use Rattle.std.proofs.Common.{Err, ap, inr, refl}
-use Rattle.hy_top.proofs.Logging.{writes_so}
+use Rattle.hy_top.proofs.Answering.{leaves_stay}
+use Rattle.hy_top.proofs.Logging.{writes_so, found_some, leaves_cut, leaves_kept, gave_up}
 use Rattle.hy_top.proofs.logs.run_logged.Goals as goal
+
+pub returns-in-Ok-clause-leaves : goal.returns-in-Ok-clause-leaves
+returns-in-Ok-clause-leaves g c =
+    let d = g.D.Disk in
+    leaves_kept d.held d.clock d.image d.image_since c.args.script _ _ c.args.disk.now c.create.new.disk c.run_on_log.new.disk c.in-Ok.ensures.begun
+    c.run_on_log.ensures.keeps c.run_on_log.ensures.logged (gave_up _ _ _ _ _ _ c.run_on_log.ensures.run)
 
 pub returns-in-Err-NotEmpty-clause-run : goal.returns-in-Err-NotEmpty-clause-run
 returns-in-Err-NotEmpty-clause-run g c =
+    let found = found_some (g.D.Disk.held c.args.disk.now) (c.in-Err-NotEmpty.ensures.not_empty (ap Err c.in-Err-NotEmpty.field-0-is)) in
     inr (inr (record {
-      some = c.in-Err-NotEmpty.ensures.not_empty (ap Err c.in-Err-NotEmpty.field-0-is);
+      found = found.0;
+      own = found.1.0;
+      some = found.1.1;
       nothing_is_run = c.without_outcome.ensures.nothing;
       writes = writes_so 7 c.write.result _ _ _ _ _ c.without_outcome.ensures.status refl c.write.ensures.writes;
     }))
+
+pub returns-in-Err-NotEmpty-clause-leaves : goal.returns-in-Err-NotEmpty-clause-leaves
+returns-in-Err-NotEmpty-clause-leaves g c =
+    let d = g.D.Disk in
+    leaves_stay d.held d.clock d.image d.image_since c.args.script _ _ _ _ c.without_outcome.ensures.nothing (record {
+      reads = c.in-Err-NotEmpty.ensures.as_it_was (ap Err c.in-Err-NotEmpty.field-0-is);
+      stays = c.in-Err-NotEmpty.ensures.untouched (ap Err c.in-Err-NotEmpty.field-0-is);
+    })
+
+pub returns-in-Err-DiskFault-clause-leaves : goal.returns-in-Err-DiskFault-clause-leaves
+returns-in-Err-DiskFault-clause-leaves g c =
+    let d = g.D.Disk in
+    leaves_cut d.held d.clock d.image d.image_since c.args.script _ _ _ _ c.without_outcome.ensures.status c.without_outcome.ensures.nothing
+    (c.in-Err-DiskFault.ensures.cut (ap Err c.in-Err-DiskFault.field-0-is))
+
+pub returns-in-Err-OutOfMemory-clause-leaves : goal.returns-in-Err-OutOfMemory-clause-leaves
+returns-in-Err-OutOfMemory-clause-leaves g c =
+    let d = g.D.Disk in
+    leaves_stay d.held d.clock d.image d.image_since c.args.script _ _ _ _ c.without_outcome.ensures.nothing (record {
+      reads = c.in-Err-OutOfMemory.ensures.kept (ap Err c.in-Err-OutOfMemory.field-0-is);
+      stays = c.in-Err-OutOfMemory.ensures.unchanged (ap Err c.in-Err-OutOfMemory.field-0-is);
+    })

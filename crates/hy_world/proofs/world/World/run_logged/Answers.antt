@@ -1,6 +1,5 @@
 use Rattle.std.proofs.Common.{Ok, sym}
 use Rattle.hy_machine.specs.Runs.{opening_of, run_of}
-use Rattle.hy_world.specs.Logged.{IsKeptSince}
 use Rattle.hy_world.proofs.Ahead.{near_done}
 use Rattle.hy_world.proofs.Logs.{kept_since, is_durable, logs_run}
 use Rattle.hy_world.proofs.Runs.{run_told, all_of}

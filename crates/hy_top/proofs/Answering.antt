@@ -92,9 +92,9 @@ as_it_was held clock image image_since disk = record {
 pub leaves_stay : {D : Type 0} (held : D → Option (List ℕ)) (clock : D → ℕ) (image : D → List ℕ → Type 0) (image_since : D → ℕ → List ℕ → Type 0)
     (script : Script) (status : ℕ) (given : Option Outcome) (before after : D) → IsNone given → IsAsItWas held clock image image_since before after
     → LeavesLog held clock image image_since script status given before after
-leaves_stay held clock image image_since script status given before after nothing as = record {
-  stays = λ none done. as;
-  safe = record { later = as.stays.later; moments = λ time bytes le left. inl (as.stays.moments time bytes le left) };
+leaves_stay held clock image image_since script status given before after nothing stay = record {
+  stays = λ none done. stay;
+  safe = record { later = stay.stays.later; moments = λ time bytes le left. inl (stay.stays.moments time bytes le left) };
   logged = no_outcome (λ outcome. IsLogged held clock image image_since script outcome before after) given nothing;
 }
 
@@ -269,8 +269,8 @@ did_otherwise (Check chunks rows) script found status given before after done =
 did_otherwise (Recover chunks rows) script found status given before after done =
     done_otherwise (restored_status done.restored) status before after _ (restored_otherwise done.restored) done.writes
 
-pub done_is_no_refusal : {A : Type 0} (command : Command) (script : Script) (found : Option (List ℕ)) (status : ℕ) (given : Option Outcome)
-    (before after : Option (List ℕ)) → (GaveUp status × A) ⊎ Does command script found status given before after → IsNoRefusal status
+pub done_is_no_refusal : (command : Command) (script : Script) (found : Option (List ℕ)) (status : ℕ) (given : Option Outcome)
+    (before after : Option (List ℕ)) → (GaveUp status × IsNone given) ⊎ Does command script found status given before after → IsNoRefusal status
 done_is_no_refusal command script found status given before after (inl gave) = gave_up_otherwise status gave.0
 done_is_no_refusal command script found status given before after (inr did) = did_otherwise command script found status given before after did
 
@@ -332,7 +332,7 @@ some_read (Some all) = (bytes_read all, refl)
 
 -- and more than a script may have, where there are more
 some_past : (most : ℕ) → (bytes : List ℕ) × (most < length bytes)
-some_past most = (replicate (most + 1) 0, omega (arith, length-replicate (most + 1) 0))
+some_past most = (replicate (most + 1) 0, omega (arith, length-replicate {A = ℕ} (most + 1) 0))
 
 some_cut : (rest left : Option (List ℕ)) → GivesPast rest left MOST_BYTES → (bytes : List ℕ) × IsRead rest bytes × (MOST_BYTES < length bytes)
 some_cut None left h = let long = some_past MOST_BYTES in (long.0, tt, long.1)
@@ -348,8 +348,8 @@ answered_cut held clock image image_since command rest left status given before 
     let cut = some_cut rest left h in
     record {
       bytes = cut.0;
-      read = cut.1.0;
-      answers = refused_answers command cut.0 (held disk) too_long_refusal status given before after once (too_long cut.1.1) w nothing;
+      read = cut.1;
+      answers = refused_answers command cut.0 (held disk) too_long_refusal status given before after once (too_long cut.2) w nothing;
       leaves = λ keeps. leaves_nothing held clock image image_since command cut.0 status given disk nothing;
     }
 
@@ -475,3 +475,13 @@ pub nothing_made : {S : Type 0} (asked : Option Command) (held : Option (List �
     → IfSome asked (λ command. IfSome (made_by command) (λ script. (old ≡ old) × Makes command script 5 None held held))
 nothing_made None held old = tt
 nothing_made (Some command) held old = nothing_made_by command (made_by command) held old
+
+-- a command that makes its script reads none
+gen_makes : (seed sessions txns : ℕ) (threads : Bool) → IsNone (made_by (Gen seed sessions txns threads)) → ⊥
+gen_makes seed sessions txns threads none = let never : ⊥ = cc in never
+
+pub made_not_read : (asked : Option Command) (seed sessions txns : ℕ) (threads : Bool) (P : Command → Type 0)
+    → asked ≡ Some (Gen seed sessions txns threads) → IfSome asked (λ command. IsNone (made_by command) → P command)
+made_not_read asked seed sessions txns threads P is =
+    subst (λ (a : Option Command). IfSome a (λ command. IsNone (made_by command) → P command)) (sym is)
+    (λ none. absurd (gen_makes seed sessions txns threads none))

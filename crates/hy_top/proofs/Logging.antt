@@ -107,8 +107,8 @@ half_made held clock image image_since script before after begun time bytes le l
 pub leaves_cut : {D : Type 0} (held : D → Option (List ℕ)) (clock : D → ℕ) (image : D → List ℕ → Type 0) (image_since : D → ℕ → List ℕ → Type 0)
     (script : Script) (status : ℕ) (given : Option Outcome) (before after : D) → status ≡ 6 → IsNone given
     → IsBegunAtMost held clock image image_since before after → LeavesLog held clock image image_since script status given before after
-leaves_cut held clock image image_since script status given before after six nothing (inl as) =
-    leaves_stay held clock image image_since script status given before after nothing as
+leaves_cut held clock image image_since script status given before after six nothing (inl stay) =
+    leaves_stay held clock image image_since script status given before after nothing stay
 leaves_cut held clock image image_since script status given before after six nothing (inr begun) = record {
   stays = λ none done. absurd (done (inr six));
   safe = record { later = begun.writes.later; moments = half_made held clock image image_since script before after begun };
@@ -140,8 +140,8 @@ leaves_kept held clock image image_since script status given before made after b
 }
 
 -- where there is no outcome, the run gave up
-pub gave_up : {A : Type 0} (threads : Bool) (script : Script) (status : ℕ) (given : Option Outcome) (before after : Option (List ℕ))
-    → (GaveUp status × A) ⊎ Runs threads script status given before after → IsNone given → GaveUp status
+pub gave_up : (threads : Bool) (script : Script) (status : ℕ) (given : Option Outcome) (before after : Option (List ℕ))
+    → (GaveUp status × IsNone given) ⊎ Runs threads script status given before after → IsNone given → GaveUp status
 gave_up threads script status given before after (inl gave) none = gave.0
 gave_up threads script status given before after (inr ran) none = absurd (given_is_there given ran.given ran.outcome_is none)
 

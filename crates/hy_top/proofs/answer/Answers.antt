@@ -26,7 +26,8 @@ returns-in-Ok-clause-leaves g c =
 
 pub returns-in-Ok-clause-refused_disk : goal.returns-in-Ok-clause-refused_disk
 returns-in-Ok-clause-refused_disk g c =
-    λ two. absurd (done_is_no_refusal c.args.command c.in-Ok.script _ _ _ _ _ c.perform.ensures.does two)
+    λ two. absurd (done_is_no_refusal c.args.command c.in-Ok.script (g.D.Disk.held c.args.disk.now) c.perform.result.status c.perform.result.outcome
+    (g.W.Sink.written c.args.sink.now) (g.W.Sink.written c.perform.new.sink) (⊎_elim (λ p. inl (p.0, p.2)) (λ r. inr r) c.perform.ensures.does) two)
 
 pub returns-in-Err-Refused-clause-leaves : goal.returns-in-Err-Refused-clause-leaves
 returns-in-Err-Refused-clause-leaves g c =

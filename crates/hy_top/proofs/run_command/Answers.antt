@@ -1,4 +1,4 @@
-use Rattle.std.proofs.Common.{List, ℕ, Err, subst, ap, inr}
+use Rattle.std.proofs.Common.{List, ℕ, Err, subst, ap, inl, inr}
 use Rattle.hy_top.specs.Reports.{Answers, Leaves}
 use Rattle.hy_top.proofs.Answering.{read_whole, answered_whole, answered_cut, answered_nothing}
 use Rattle.hy_top.proofs.Logging.{same_syncs}
@@ -35,11 +35,14 @@ returns-in-Err-ReadFault-clause-syncs g c =
     let d = g.D.Disk in
     λ other. same_syncs d.held d.clock d.image d.image_since c.args.disk.now
 
+pub returns-in-Err-ReadFault-clause-answers : goal.returns-in-Err-ReadFault-clause-answers
+returns-in-Err-ReadFault-clause-answers g c = inl c.without_outcome.ensures.status
+
 pub returns-in-Err-OutOfMemory-clause-answers : goal.returns-in-Err-OutOfMemory-clause-answers
 returns-in-Err-OutOfMemory-clause-answers g c =
     let d = g.D.Disk in
-    inr (answered_nothing d.held d.clock d.image d.image_since c.args.command _ _ _ _ _ _ c.without_outcome.ensures.status
-    c.without_outcome.ensures.nothing)
+    inr (answered_nothing d.held d.clock d.image d.image_since c.args.command _ _ _ _ _ _ c.without_outcome-in-Err-OutOfMemory.ensures.status
+    c.without_outcome-in-Err-OutOfMemory.ensures.nothing)
 
 pub returns-in-Err-OutOfMemory-clause-syncs : goal.returns-in-Err-OutOfMemory-clause-syncs
 returns-in-Err-OutOfMemory-clause-syncs g c =

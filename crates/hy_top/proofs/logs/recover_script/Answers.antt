@@ -9,12 +9,12 @@ pub returns-in-Ok-clause-restores : goal.returns-in-Ok-clause-restores
 returns-in-Ok-clause-restores g c =
     let told = c.in-Ok.ensures.text in
     inr (record {
-      found = told.1.0;
-      own = told.1.1.0;
+      found = told.1;
+      own = told.2;
       restored = Ok told.0;
-      is = told.1.1.1.0;
+      is = told.3;
       nothing_is_run = c.without_outcome.ensures.nothing;
-      writes = writes_so 0 c.write.result _ _ _ _ _ c.without_outcome.ensures.status (c.as_slice.ensures.value ∙ told.1.1.1.1) c.write.ensures.writes;
+      writes = writes_so 0 c.write.result _ _ _ _ _ c.without_outcome.ensures.status (c.as_slice.ensures.value ∙ told.4) c.write.ensures.writes;
     })
 
 pub returns-in-Err-Damaged-clause-restores : goal.returns-in-Err-Damaged-clause-restores
@@ -23,9 +23,9 @@ returns-in-Err-Damaged-clause-restores g c =
     ⊎_elim (λ gave. inl (inl gave.0, gave.1, c.tell_damage.ensures.nothing))
     (λ wrote. inr (record {
       found = damaged.0;
-      own = damaged.1.0;
+      own = damaged.1;
       restored = Err c.in-Err-Damaged.at;
-      is = damaged.1.1;
+      is = damaged.2;
       nothing_is_run = c.tell_damage.ensures.nothing;
       writes = wrote;
     })) c.tell_damage.ensures.writes

@@ -1,4 +1,5 @@
-use Rattle.std.proofs.Common.{Err, ap, inr, refl}
+use Rattle.std.proofs.Common.{Err, ap, inl, inr, false, refl}
+use Rattle.std.proofs.Math.Logic.{⊎_elim}
 use Rattle.hy_top.proofs.Answering.{leaves_stay}
 use Rattle.hy_top.proofs.Logging.{writes_so, found_some, leaves_cut, leaves_kept, gave_up}
 use Rattle.hy_top.proofs.logs.run_logged.Goals as goal
@@ -7,15 +8,16 @@ pub returns-in-Ok-clause-leaves : goal.returns-in-Ok-clause-leaves
 returns-in-Ok-clause-leaves g c =
     let d = g.D.Disk in
     leaves_kept d.held d.clock d.image d.image_since c.args.script _ _ c.args.disk.now c.create.new.disk c.run_on_log.new.disk c.in-Ok.ensures.begun
-    c.run_on_log.ensures.keeps c.run_on_log.ensures.logged (gave_up _ _ _ _ _ _ c.run_on_log.ensures.run)
+    c.run_on_log.ensures.keeps c.run_on_log.ensures.logged (gave_up false c.args.script c.run_on_log.result.status c.run_on_log.result.outcome
+    (g.W.Sink.written c.args.sink.now) (g.W.Sink.written c.run_on_log.new.sink) (⊎_elim (λ p. inl (p.0, p.2)) (λ r. inr r) c.run_on_log.ensures.run))
 
 pub returns-in-Err-NotEmpty-clause-run : goal.returns-in-Err-NotEmpty-clause-run
 returns-in-Err-NotEmpty-clause-run g c =
     let found = found_some (g.D.Disk.held c.args.disk.now) (c.in-Err-NotEmpty.ensures.not_empty (ap Err c.in-Err-NotEmpty.field-0-is)) in
     inr (inr (record {
       found = found.0;
-      own = found.1.0;
-      some = found.1.1;
+      own = found.1;
+      some = found.2;
       nothing_is_run = c.without_outcome.ensures.nothing;
       writes = writes_so 7 c.write.result _ _ _ _ _ c.without_outcome.ensures.status refl c.write.ensures.writes;
     }))
@@ -31,13 +33,5 @@ returns-in-Err-NotEmpty-clause-leaves g c =
 pub returns-in-Err-DiskFault-clause-leaves : goal.returns-in-Err-DiskFault-clause-leaves
 returns-in-Err-DiskFault-clause-leaves g c =
     let d = g.D.Disk in
-    leaves_cut d.held d.clock d.image d.image_since c.args.script _ _ _ _ c.without_outcome.ensures.status c.without_outcome.ensures.nothing
-    (c.in-Err-DiskFault.ensures.cut (ap Err c.in-Err-DiskFault.field-0-is))
-
-pub returns-in-Err-OutOfMemory-clause-leaves : goal.returns-in-Err-OutOfMemory-clause-leaves
-returns-in-Err-OutOfMemory-clause-leaves g c =
-    let d = g.D.Disk in
-    leaves_stay d.held d.clock d.image d.image_since c.args.script _ _ _ _ c.without_outcome.ensures.nothing (record {
-      reads = c.in-Err-OutOfMemory.ensures.kept (ap Err c.in-Err-OutOfMemory.field-0-is);
-      stays = c.in-Err-OutOfMemory.ensures.unchanged (ap Err c.in-Err-OutOfMemory.field-0-is);
-    })
+    leaves_cut d.held d.clock d.image d.image_since c.args.script _ _ _ _ c.without_outcome-in-Err-DiskFault.ensures.status
+    c.without_outcome-in-Err-DiskFault.ensures.nothing (c.in-Err-DiskFault.ensures.cut (ap Err c.in-Err-DiskFault.field-0-is))

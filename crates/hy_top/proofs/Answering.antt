@@ -94,6 +94,8 @@ pub leaves_stay : {D : Type 0} (held : D → Option (List ℕ)) (clock : D → �
     → LeavesLog held clock image image_since script status given before after
 leaves_stay held clock image image_since script status given before after nothing stay = record {
   stays = λ none done. stay;
+  short = λ five. inl stay;
+  cut = λ six. inl (inl stay);
   safe = record { later = stay.stays.later; moments = λ time bytes le left. inl (stay.stays.moments time bytes le left) };
   logged = no_outcome (λ outcome. IsLogged held clock image image_since script outcome before after) given nothing;
 }

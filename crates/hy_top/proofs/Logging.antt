@@ -14,7 +14,7 @@ use Rattle.hy_script.specs.declared.Script.{Script}
 use Rattle.hy_typed.specs.Scripts.{catalog_kinds}
 use Rattle.hy_disk.specs.Bytes.{IsOwn}
 use Rattle.hy_disk.specs.Calls.{Syncs}
-use Rattle.hy_redo.specs.Crashes.{IsBegun, IsBegunAtMost}
+use Rattle.hy_redo.specs.Crashes.{AreLogsOf, IsBegun, IsBegunAtMost}
 use Rattle.hy_near.specs.Typed.{AreTyped}
 use Rattle.hy_schedule.specs.declared.Item.{Item}
 use Rattle.hy_typed.specs.Scripts.{IsTypedScript}
@@ -23,7 +23,7 @@ use Rattle.hy_words.specs.declared.Command.{Command}
 use Rattle.hy_world.specs.Logged.{RecoversAfter, IsDurable, HasLogged, LogsRun}
 use Rattle.hy_world.specs.Worlds.{WorldData, ShowsState}
 use Rattle.hy_top.specs.Program.{comes_to, keeps_log}
-use Rattle.hy_top.specs.Reports.{IsRestored, IsLoggedSince, Writes, Runs, GaveUp, IsLogOfScript, KeepsLog, IsHalfMade, IsLogged, LeavesLog, tables_after}
+use Rattle.hy_top.specs.Reports.{IsRestored, IsLoggedSince, Writes, Runs, GaveUp, IsLogOfScript, KeepsLog, HasKept, IsHalfMade, IsLogged, LeavesLog, tables_after}
 use Rattle.hy_top.specs.Settings.{setting_at}
 use Rattle.hy_top.proofs.Answering.{no_outcome, given_is_there, leaves_stay}
 
@@ -111,6 +111,8 @@ leaves_cut held clock image image_since script status given before after six not
     leaves_stay held clock image image_since script status given before after nothing stay
 leaves_cut held clock image image_since script status given before after six nothing (inr begun) = record {
   stays = λ none done. absurd (done (inr six));
+  short = λ five. absurd (omega (arith, five, six));
+  cut = λ is. inl (inr begun);
   safe = record { later = begun.writes.later; moments = half_made held clock image image_since script before after begun };
   logged = no_outcome (λ outcome. IsLogged held clock image image_since script outcome before after) given nothing;
 }
@@ -123,13 +125,30 @@ logged_so held clock image image_since script None before made after begun keeps
 logged_so held clock image image_since script (Some outcome) before made after begun keeps since =
     record { made = made; making = begun; keeps = keeps; since = since }
 
+-- a log that was made, and then kept
+has_kept : {D : Type 0} (held : D → Option (List ℕ)) (clock : D → ℕ) (image : D → List ℕ → Type 0) (image_since : D → ℕ → List ℕ → Type 0)
+    → ((disk : D) (bytes : List ℕ) → image_since disk (clock disk) bytes → image disk bytes) → (script : Script) (before made after : D) (gate : ℕ)
+    → IsBegun held clock image image_since before made → AreLogsOf (image made) [] gate → KeepsLog clock image_since script made after
+    → HasKept held clock image image_since script before after
+has_kept held clock image image_since alone script before made after gate begun empty keeps = record {
+  made = made;
+  making = begun;
+  gate = gate;
+  empty = empty;
+  since = λ bytes left.
+      ⊎_elim (λ earlier. inl (alone made bytes earlier)) (λ is. inr is) (keeps.moments (clock made) bytes (le_refl (clock made)) left);
+}
+
 -- the log was made, and then kept
 pub leaves_kept : {D : Type 0} (held : D → Option (List ℕ)) (clock : D → ℕ) (image : D → List ℕ → Type 0) (image_since : D → ℕ → List ℕ → Type 0)
-    (script : Script) (status : ℕ) (given : Option Outcome) (before made after : D) → IsBegun held clock image image_since before made
+    → ((disk : D) (bytes : List ℕ) → image_since disk (clock disk) bytes → image disk bytes) → (script : Script) (status : ℕ) (given : Option Outcome)
+    (before made after : D) (gate : ℕ) → IsBegun held clock image image_since before made → AreLogsOf (image made) [] gate
     → KeepsLog clock image_since script made after → IfSome given (λ outcome. IsLoggedSince image image_since script outcome (clock made) after)
     → (IsNone given → GaveUp status) → LeavesLog held clock image image_since script status given before after
-leaves_kept held clock image image_since script status given before made after begun keeps since gave = record {
+leaves_kept held clock image image_since alone script status given before made after gate begun empty keeps since gave = record {
   stays = λ none done. absurd (done (gave none));
+  short = λ five. inr (has_kept held clock image image_since alone script before made after gate begun empty keeps);
+  cut = λ six. inr (has_kept held clock image image_since alone script before made after gate begun empty keeps);
   safe = record {
     later = le_trans begun.writes.later keeps.later;
     moments = λ time bytes le left.

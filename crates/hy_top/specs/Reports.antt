@@ -23,7 +23,7 @@ use Rattle.hy_redo.specs.Recovery.{Recovers}
 use Rattle.hy_disk.specs.Bytes.{IsOwn}
 use Rattle.hy_disk.specs.Calls.{TouchedOf}
 use Rattle.hy_redo.specs.Logs.{log_of}
-use Rattle.hy_redo.specs.Crashes.{IsBegun, IsAsItWas}
+use Rattle.hy_redo.specs.Crashes.{AreLogsOf, IsBegun, IsAsItWas, IsBegunAtMost}
 use Rattle.hy_world.specs.Logged.{HasLogged, IsLogOfOrder}
 use Rattle.hy_recovery.specs.Recovered.{first_tables, AreRecovered}
 use Rattle.hy_typed.specs.Scripts.{catalog_kinds}
@@ -204,11 +204,25 @@ pub record IsLogged {D : Type 0} (held : D → Option (List ℕ)) (clock : D →
   pub keeps : KeepsLog clock image_since script made after
   pub since : IsLoggedSince image image_since script outcome (clock made) after
 
+-- A log was made, and kept from then on: what a crash leaves at any moment since then is the empty log that was made, or the log of
+-- some first entries of the script's run.
+pub record HasKept {D : Type 0} (held : D → Option (List ℕ)) (clock : D → ℕ) (image : D → List ℕ → Type 0)
+    (image_since : D → ℕ → List ℕ → Type 0) (script : Script) (before after : D) : Type 0 where
+  pub made : D
+  pub making : IsBegun held clock image image_since before made
+  pub gate : ℕ
+  pub empty : AreLogsOf (image made) [] gate
+  pub since : (bytes : List ℕ) → image_since after (clock made) bytes → image made bytes ⊎ IsLogOfScript script bytes
+
 -- what a run of this script that keeps a log leaves
 pub record LeavesLog {D : Type 0} (held : D → Option (List ℕ)) (clock : D → ℕ) (image : D → List ℕ → Type 0)
     (image_since : D → ℕ → List ℕ → Type 0) (script : Script) (status : ℕ) (outcome : Option Outcome) (before after : D) : Type 0 where
   -- where nothing was run, the disk is as it was, unless memory ran out or the disk failed
   pub stays : IsNone outcome → (GaveUp status → ⊥) → IsAsItWas held clock image image_since before after
+  -- where memory ran out, the disk is as it was, or a log was made and kept
+  pub short : status ≡ 5 → IsAsItWas held clock image image_since before after ⊎ HasKept held clock image image_since script before after
+  -- where the disk failed, it did so before a log was made, or one was made and kept
+  pub cut : status ≡ 6 → IsBegunAtMost held clock image image_since before after ⊎ HasKept held clock image image_since script before after
   -- whatever the status
   pub safe : IsSafe held clock image image_since script before after
   pub logged : IfSome outcome (λ given. IsLogged held clock image image_since script given before after)

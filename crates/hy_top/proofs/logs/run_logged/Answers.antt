@@ -7,7 +7,8 @@ use Rattle.hy_top.proofs.logs.run_logged.Goals as goal
 pub returns-in-Ok-clause-leaves : goal.returns-in-Ok-clause-leaves
 returns-in-Ok-clause-leaves g c =
     let d = g.D.Disk in
-    leaves_kept d.held d.clock d.image d.image_since c.args.script _ _ c.args.disk.now c.create.new.disk c.run_on_log.new.disk c.in-Ok.ensures.begun
+    leaves_kept d.held d.clock d.image d.image_since g.met.D.Disk.now_alone c.args.script _ _ c.args.disk.now c.create.new.disk c.run_on_log.new.disk _
+    c.in-Ok.ensures.begun c.in-Ok.ensures.logs
     c.run_on_log.ensures.keeps c.run_on_log.ensures.logged (gave_up false c.args.script c.run_on_log.result.status c.run_on_log.result.outcome
     (g.W.Sink.written c.args.sink.now) (g.W.Sink.written c.run_on_log.new.sink) (⊎_elim (λ p. inl (p.0, p.2)) (λ r. inr r) c.run_on_log.ensures.run))
 

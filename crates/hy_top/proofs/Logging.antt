@@ -1,5 +1,5 @@
 -- What the log of a run recovers to: the tables after some first entries of its commit order, and in the end its own.
-use Rattle.std.proofs.Common.{◌≡◌, ◌⊎◌, ℕ, ◌<◌, ◌≤◌, List, [], ◌∷◌, Bool, true, false, Option, None, Some, IsNone, IfSome, Ok, Err, length, map, ap, sym, subst, refl, ◌∙◌, inl, inr, le_refl, le_trans, arith}
+use Rattle.std.proofs.Common.{◌≡◌, ◌⊎◌, ℕ, ◌<◌, ◌≤◌, List, [], ◌∷◌, Bool, false, Option, None, Some, IsNone, IfSome, Ok, length, map, ap, sym, subst, refl, ◌∙◌, inl, inr, le_refl, le_trans, arith}
 use Rattle.std.proofs.Math.Logic.{⊎_elim}
 use mathlib.Core.List.{map-map}
 use Rattle.std.proofs.lemmas.List.{take_all}

@@ -1,4 +1,4 @@
-use Rattle.std.proofs.Common.{◌≡◌, ◌∙◌, Ok, Err, inl, inr, subst}
+use Rattle.std.proofs.Common.{◌∙◌, Ok, Err, inl, inr, subst}
 use Rattle.std.proofs.Math.Logic.{⊎_elim}
 use Rattle.hy_redo.specs.Recovery.{DamagedIn}
 use Rattle.hy_top.specs.Reports.{tables_at}

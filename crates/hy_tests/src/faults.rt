@@ -10,11 +10,11 @@ use std::test::Fail;
 fn a_read_fault_at_each_call(rt: HostRuntime) -> Result<(), Fail> {
     let alloc = rt.alloc();
     let words = words_of(alloc, &["hy", "run"])?;
-    // The script comes in four pieces, and a fifth call finds the end.
-    assert!(rt; OLD_SNAPSHOT.len() > 180 && OLD_SNAPSHOT.len() <= 240);
-    for call in 1..=6u64 {
+    // Each byte comes by a call of its own, and one more call finds the end.
+    let calls = (OLD_SNAPSHOT.len() as u64).saturating_add(1);
+    for call in 1..=calls.saturating_add(1) {
         let bytes = OLD_SNAPSHOT.as_bytes().to_vec(alloc)?;
-        let mut source = MemSource::new(bytes, 60, [call].to_vec(alloc)?);
+        let mut source = MemSource::new(bytes, 1, [call].to_vec(alloc)?);
         let mut sink = MemSink::new(alloc, 10_000, Vec::new(alloc))?;
         let report = hy_top::run(
             &rt,
@@ -25,7 +25,7 @@ fn a_read_fault_at_each_call(rt: HostRuntime) -> Result<(), Fail> {
             &OpenGate,
             &mut NoDisk,
         );
-        if call <= 5 {
+        if call <= calls {
             assert_eq!(rt; report.status, 3);
             assert!(rt; report.outcome.is_none());
             assert!(rt; sink.bytes().is_empty());

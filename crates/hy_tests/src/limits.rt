@@ -218,7 +218,7 @@ fn transactions_of_a_session(rt: HostRuntime) -> Result<(), Fail> {
     Ok(())
 }
 
-// The four tests below are for the compiled tests alone: `rt try` gives them neither the time nor the stack.
+// The tests below are for the compiled tests alone: `rt try` gives them neither the time nor the stack.
 
 #[test]
 fn items_of_a_schedule(rt: HostRuntime) -> Result<(), Fail> {
@@ -243,23 +243,70 @@ fn bytes_of_a_script(rt: HostRuntime) -> Result<(), Fail> {
 }
 
 #[test]
+fn a_long_schedule_of_a_session_that_has_nothing_to_do(rt: HostRuntime) -> Result<(), Fail> {
+    let alloc = rt.alloc();
+    let head = "CREATE TABLE t (n INT); INSERT INTO t VALUES (1); \
+SESSION a; BEGIN; UPDATE t SET n = 5 WHERE n = 1; COMMIT; SESSION b; ";
+    let text = "txn a.1 start 0\nupdated 1\ncommitted 0\nwrote t 0\n\
+order 1\nentry 0 a.1\nchange t 0 from 1 to 5\ntable t 1\nrow 5\nend\n";
+    let without = repeated(alloc, head, "", 0, "END;")?;
+    assert!(rt; says(&rt, "run", without.as_str(), text)?);
+    let begun = repeated(alloc, head, "", 0, "SCHEDULE ")?;
+    let items = repeated(alloc, begun.as_str(), "b ", 1_000_000, "; END;")?;
+    assert!(rt; says(&rt, "run", items.as_str(), text)?);
+    Ok(())
+}
+
+/// Whether `hy run` writes this for a script of one session, by its schedule and on a thread.
+fn runs<T: Threads + Wait + Sync + AllocGlobal>(
+    rt: &T,
+    script: &str,
+    text: &str,
+) -> Result<bool, AllocError> {
+    let bytes = script.as_bytes();
+    let (status, wrote) = written(rt, &["hy", "run", "--threads"], bytes.to_vec(rt.alloc())?)?;
+    let threads = status == 0 && wrote.as_slice() == text.as_bytes();
+    Ok(threads && says(rt, "run", script, text)?)
+}
+
+/// The text of a transaction that sets the one row of a table from 1 to 2.
+const SET_TO_TWO: &str = "txn a.1 start 0\nupdated 1\ncommitted 0\nwrote t 0\n\
+order 1\nentry 0 a.1\nchange t 0 from 1 to 2\ntable t 1\nrow 2\nend\n";
+
+#[test]
 fn long_chains_of_conditions(rt: HostRuntime) -> Result<(), Fail> {
     let alloc = rt.alloc();
-    let head =
-        "CREATE TABLE t (n INT); INSERT INTO t VALUES (1); SESSION a; BEGIN;\nUPDATE t SET n = 2 WHERE ";
+    let head = "CREATE TABLE t (n INT); INSERT INTO t VALUES (1); SESSION a; BEGIN;\n\
+UPDATE t SET n = 2 WHERE n = 1 AND ";
     let tail = "n = 1; COMMIT; END;";
-    let most = repeated(alloc, head, "n = 1 AND ", 1_021, tail)?;
-    let text =
-        "txn a.1 start 0\nupdated 1\ncommitted 0\nwrote t 0\norder 1\nentry 0 a.1\nchange t 0 from 1 to 2\ntable t 1\nrow 2\nend\n";
-    assert!(rt; says(&rt, "run", most.as_str(), text)?);
+    let most = repeated(alloc, head, "n = 1 AND n = 2 OR ", 510, tail)?;
+    assert!(rt; runs(&rt, most.as_str(), SET_TO_TWO)?);
     Ok(())
 }
 
 #[test]
 fn long_chains_of_operators(rt: HostRuntime) -> Result<(), Fail> {
     let alloc = rt.alloc();
-    let head = "CREATE TABLE t (n INT); SESSION a; BEGIN;\nUPDATE t SET n = ";
-    let most = repeated(alloc, head, "1+", 2_044, "1; COMMIT; END;")?;
-    assert!(rt; checks(&rt, most.as_str(), ONE_OF_EACH)?);
+    let head = "CREATE TABLE t (n INT); INSERT INTO t VALUES (1); SESSION a; BEGIN;\n\
+UPDATE t SET n = ";
+    let most = repeated(alloc, head, "n+", 2_044, "n; COMMIT; END;")?;
+    let text = "txn a.1 start 0\nupdated 1\ncommitted 0\nwrote t 0\n\
+order 1\nentry 0 a.1\nchange t 0 from 1 to 2045\ntable t 1\nrow 2045\nend\n";
+    assert!(rt; runs(&rt, most.as_str(), text)?);
+    Ok(())
+}
+
+#[test]
+fn deepest_nesting(rt: HostRuntime) -> Result<(), Fail> {
+    let alloc = rt.alloc();
+    let head = "CREATE TABLE t (n INT); INSERT INTO t VALUES (1); SESSION a; BEGIN;\n\
+UPDATE t SET n = ";
+    let set = repeated(alloc, head, "(", 64, "n + 1")?;
+    let set = repeated(alloc, set.as_str(), ")", 64, " WHERE ")?;
+    let denied = repeated(alloc, set.as_str(), "NOT ", 64, "n = 1; COMMIT; END;")?;
+    assert!(rt; runs(&rt, denied.as_str(), SET_TO_TWO)?);
+    let nested = repeated(alloc, set.as_str(), "(", 64, "n = 1")?;
+    let nested = repeated(alloc, nested.as_str(), ")", 64, "; COMMIT; END;")?;
+    assert!(rt; runs(&rt, nested.as_str(), SET_TO_TWO)?);
     Ok(())
 }

@@ -211,6 +211,32 @@ fn whole_scripts(rt: HostRuntime) -> Result<(), Fail> {
     Ok(())
 }
 
+/// A worked script over several lines.
+const LINES: &str = "CREATE TABLE t (n INT);\nINSERT INTO t VALUES (1);\n\nSESSION a;\nBEGIN;\n\
+UPDATE t SET n = 5 WHERE n = 1;\nCOMMIT;\n\nSESSION b;\nBEGIN;\nSELECT n FROM t WHERE n > 0;\nCOMMIT;\n\n\
+SCHEDULE b! a! a! a! b!;\nEND;";
+
+#[test]
+fn every_beginning_of_a_script(rt: HostRuntime) -> Result<(), Fail> {
+    let alloc = rt.alloc();
+    let text = LINES.as_bytes();
+    for len in 0..text.len() {
+        let bytes = &text[..len];
+        // What is missing is missed at the end: END where a statement could follow, else the rest of one.
+        let feeds = bytes.iter().filter(|byte| **byte == b'\n').count();
+        let line = feeds.saturating_add(1);
+        let cause = match bytes.trim_ascii_end().last() {
+            None | Some(b';') => "E10",
+            _ => "E04",
+        };
+        let wanted = format!(in alloc; "line {line}: {cause}\n")?;
+        let (status, wrote) = written(&rt, &["hy", "check"], bytes.to_vec(alloc)?)?;
+        assert_eq!(rt; status, 2);
+        assert!(rt; wrote.as_slice() == wanted.as_bytes(), "{len}");
+    }
+    Ok(())
+}
+
 /// Whether the words are refused with the usage line, and the source keeps its bytes.
 fn are_refused<T: Threads + Wait + Sync + AllocGlobal>(
     rt: &T,

@@ -1,6 +1,6 @@
 -- All that a lawful and serializable outcome mentions has a name.
-use Rattle.std.specs.Prelude.{◌*◌, ◌&&◌, ◌||◌, ◌==◌, IsTrue, IfSome, nat_lt, slice_get, slice_index_or}
-use Rattle.std.specs.List.{All, AllByRecursion, AllZip, list_all, list_any, range_with_len}
+use Rattle.std.specs.Prelude.{◌*◌, ◌&&◌, ◌||◌, ◌==◌, IfSome, slice_get, slice_index_or}
+use Rattle.std.specs.List.{AllByRecursion, AllZip, list_all, list_any, range_with_len}
 use Rattle.std.specs.Option.{IsSomeAnd, option_map, option_or}
 use Rattle.std.proofs.Common.{◌≡◌, ℕ, zero, suc, ◌+◌, ◌<◌, ◌≤◌, Bool, true, false, List, [], ◌∷◌, ◌++◌, Option, None, Some, length, map, drop, refl, sym, ap, subst, ◌∙◌, arith}
 use Rattle.std.proofs.lemmas.Bool.{eqb-true, ltb-true}
@@ -26,7 +26,7 @@ use Rattle.hy_render.specs.Named.{IsPrinted, IsNamedPlace, IsNamedEnding, IsName
 use Rattle.hy_machine.specs.declared.Cause.{Cause}
 use Rattle.hy_machine.specs.declared.Cause.TheVariants as cause
 use Rattle.hy_machine.specs.declared.Setting.{Setting}
-use Rattle.hy_machine.specs.Validation.{invalid_at, record_hit, change_hits, hit_among, first_hit}
+use Rattle.hy_machine.specs.Validation.{invalid_at, record_hit, hit_among, first_hit}
 use Rattle.hy_lawful.specs.Scripts.{numbered, txn_of, statements_in, statements_of, labels_of, labels_from}
 use Rattle.hy_lawful.specs.Outcomes.{EachFrom, outcome_at, refused_statement}
 use Rattle.hy_lawful.specs.Positions.{is_position, ArePositions, places_of}

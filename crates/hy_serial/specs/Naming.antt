@@ -1,7 +1,6 @@
 -- That all which a lawful and serializable outcome mentions has a name: of its numbers it is only said that they are printed.
-use Rattle.std.specs.Prelude.{◌≡◌, ℕ, ◌*◌, List, IfSome, length}
+use Rattle.std.specs.Prelude.{◌≡◌, ◌*◌, IfSome, length}
 use Rattle.std.specs.List.{All}
-use Rattle.hy_value.specs.declared.Value.{Value}
 use Rattle.hy_bound.specs.Fits.{Fits}
 use Rattle.hy_change.specs.declared.Change.{Change}
 use Rattle.hy_render.specs.declared.Names.{Names}

@@ -1,6 +1,7 @@
 //! The tables from a log.
 
-ghost use Rattle.std.specs.Prelude.{◌≡◌, ◌≢◌, true, false, ℕ, ◌+◌, ◌<◌, ◌≤◌, ◌++◌, List, Some, None, Ok, Err, length, drop, min, vec_len, IfOk, IfErr, IfSome, IfNone, OnOk, IsErrOf, MatchOption};
+ghost use Rattle.std.specs.Prelude.{◌≡◌, ◌≢◌, true, false, ℕ, ◌+◌, ◌<◌, ◌≤◌, ◌++◌, List, Some, None, Ok, Err, length, drop, min};
+ghost use Rattle.std.specs.Prelude.{vec_len, IfOk, IfErr, IfSome, IfNone, OnOk, IsErrOf, MatchOption};
 ghost use Rattle.hy_outside.specs.Faults.{Rose};
 ghost use Rattle.hy_disk.specs.Calls.{IsDurable, Stays, Syncs};
 ghost use Rattle.hy_journal.specs.declared.Entry.{Entry};

@@ -4,11 +4,14 @@
 //! `NAME.out` is what it should print. `hy.log` is the log that a run of the script `recovered_tables` left, made by another program.
 #![tactic(auto)]
 
-use hy_disk::FileDisk;
+use hy_disk::{Disk, FileDisk};
 use hy_outside::{MemSink, MemSource};
 use hy_threads::OpenGate;
 use std::alloc::AllocError;
-use std::io::Write;
+use std::io::{Print, Write};
+use std::rt::Files;
+use std::sync::Wait;
+use std::thread::Threads;
 use std::{fs, io};
 
 /// The file that names the scripts.
@@ -35,19 +38,25 @@ fn main(rt: HostRuntime) -> io::Result<()> {
     for line in list.as_str().lines() {
         let (name, words) = line.split_once(' ').unwrap_or((line, ""));
         scripts = scripts.saturating_add(1);
-        if shows_what_is_expected(&rt, name, words)? {
+        let mut disk = FileDisk::new(&rt);
+        if shows_what_is_expected(&rt, name, words, &mut disk)? {
             as_expected = as_expected.saturating_add(1);
         }
     }
     println!(rt; "{as_expected} of {scripts} as expected")
 }
 
-/// Runs a script, and prints its name and whether it printed what is expected; else also what it printed.
-fn shows_what_is_expected(rt: &HostRuntime, name: &str, words: &str) -> io::Result<bool> {
+/// Runs a script beside a disk, and prints its name and whether it printed what is expected; else also what it printed.
+fn shows_what_is_expected(
+    rt: &(impl Files + Print + Threads + Wait + Sync + AllocGlobal),
+    name: &str,
+    words: &str,
+    disk: &mut impl Disk,
+) -> io::Result<bool> {
     let alloc = rt.alloc();
     let script = fs::read(rt, format!(in alloc; "{name}.hy")?)?;
     let expected = fs::read(rt, format!(in alloc; "{name}.out")?)?;
-    let printed = printed_by(rt, words, script)?;
+    let printed = printed_by(rt, words, script, disk)?;
     let status = printed.status;
     if printed.bytes.as_slice() != expected.as_slice() {
         println!(rt; "{name}: differs, status {status}")?;
@@ -62,8 +71,13 @@ fn shows_what_is_expected(rt: &HostRuntime, name: &str, words: &str) -> io::Resu
     Ok(true)
 }
 
-/// Runs `hy` with these words on a script in memory, beside the log that lies in the folder.
-fn printed_by(rt: &HostRuntime, words: &str, script: Vec<u8>) -> Result<Printed, AllocError> {
+/// Runs `hy` with these words on a script in memory, beside a disk.
+fn printed_by(
+    rt: &(impl Threads + Wait + Sync + AllocGlobal),
+    words: &str,
+    script: Vec<u8>,
+    disk: &mut impl Disk,
+) -> Result<Printed, AllocError> {
     let alloc = rt.alloc();
     let mut all = Vec::new(alloc);
     all.push(String::from_str(alloc, "hy")?)?;
@@ -72,17 +86,7 @@ fn printed_by(rt: &HostRuntime, words: &str, script: Vec<u8>) -> Result<Printed,
     }
     let mut source = MemSource::new(script, PIECE, Vec::new(alloc));
     let mut sink = MemSink::new(alloc, ROOM, Vec::new(alloc))?;
-    let mut disk = FileDisk::new(rt);
-    let status = hy_top::run(
-        rt,
-        alloc,
-        &all,
-        &mut source,
-        &mut sink,
-        &OpenGate,
-        &mut disk,
-    )
-    .status;
+    let status = hy_top::run(rt, alloc, &all, &mut source, &mut sink, &OpenGate, disk).status;
     Ok(Printed {
         status,
         bytes: sink.bytes().to_vec(alloc)?,

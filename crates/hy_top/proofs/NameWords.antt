@@ -1,21 +1,19 @@
 -- A name that stands in a statement which is parsed is a word of the script.
-use Rattle.std.specs.Prelude.{nat_le, ◌-◌, ◌==◌, slice_range}
+use Rattle.std.specs.Prelude.{nat_le, ◌-◌, ◌==◌}
 use Rattle.std.specs.Char.{is_ascii_digit}
 use Rattle.std.specs.List.{All, AllByRecursion, prefix_len}
-use Rattle.std.specs.Option.{option_map, option_map_or}
-use Rattle.std.proofs.Common.{◌≡◌, ℕ, zero, suc, ◌+◌, ◌≤◌, Bool, true, false, cond, List, [], ◌∷◌, length, take, drop, Option, None, Some, Result, Ok, Err, refl, sym, ap, subst, ◌∙◌, arith}
+use Rattle.std.specs.Option.{option_map}
+use Rattle.std.proofs.Common.{◌≡◌, ℕ, zero, suc, ◌+◌, Bool, true, false, cond, List, [], ◌∷◌, length, take, drop, Option, None, Some, Result, Ok, Err, refl, sym, ap, subst, ◌∙◌, arith}
 use Rattle.std.proofs.lemmas.Bool.{leb-true}
 use Rattle.std.proofs.lemmas.List.{drop-drop}
 use Rattle.std.proofs.lemmas.List.Elements.{All-nil, All-cons}
 use Rattle.std.proofs.lemmas.List.Folds.{length-prefix_len}
 use Rattle.hy_token.specs.declared.Bad.{Bad}
-use Rattle.hy_token.specs.declared.Keyword.{Keyword}
 use Rattle.hy_token.specs.declared.Sign.{Sign}
 use Rattle.hy_token.specs.declared.Sign.TheVariants.{Semicolon}
 use Rattle.hy_token.specs.declared.Span.{Span}
 use Rattle.hy_token.specs.declared.Token.{Token}
 use Rattle.hy_token.specs.declared.Token.TheVariants as token
-use Rattle.hy_token.specs.Keyword.{keyword_of}
 use Rattle.hy_token.specs.Lengths.{blank_len, begins_word, continues_word, word_len, digits_len, text_rest_len}
 use Rattle.hy_token.specs.Sign.{sign_of, sign_spelling}
 use Rattle.hy_token.specs.Token.{word_token, first_word, first_text, first_sign, first_token, placed, lexed, token_at}

@@ -1,7 +1,7 @@
 -- The text of a run tells its outcome.
 use Rattle.std.specs.Prelude.{◌≢◌}
-use Rattle.std.specs.List.{All, AllPairs}
-use Rattle.std.proofs.Common.{◌≡◌, ℕ, ◌+◌, ◌*◌, ◌<◌, ◌≤◌, Bool, true, false, List, [], Ok, length, map, refl, sym, ap, subst, ◌∙◌, arith}
+use Rattle.std.specs.List.{AllPairs}
+use Rattle.std.proofs.Common.{◌≡◌, ℕ, ◌*◌, ◌<◌, Bool, true, false, List, [], Ok, map, refl, sym, subst, ◌∙◌, arith}
 use Rattle.std.proofs.lemmas.Bool.{false≢true}
 use Rattle.std.proofs.lemmas.List.{length-map}
 use Rattle.std.proofs.lemmas.List.Elements.{All-weaker}
@@ -12,12 +12,11 @@ use Rattle.hy_bind.specs.Shapes.{defined_shape, catalog_shapes}
 use Rattle.hy_script.specs.declared.NamedTxns.{NamedTxns}
 use Rattle.hy_script.specs.declared.Options.{Options}
 use Rattle.hy_script.specs.declared.Script.{Script}
-use Rattle.hy_top.specs.Naming.{IsWord, AreNames, IsNamed}
+use Rattle.hy_top.specs.Naming.{IsWord, IsNamed}
 use Rattle.hy_script.specs.Reading.{Reads}
 use Rattle.hy_schedule.specs.declared.Item.{Item}
 use Rattle.hy_render.specs.declared.Outcome.{Outcome}
 use Rattle.hy_render.specs.Named.{Differ, IsTableName, IsSessionName, AreTelling}
-use Rattle.hy_render.specs.Report.{text}
 use Rattle.hy_render.specs.Telling.{TextTells}
 use Rattle.hy_machine.specs.declared.Setting.{Setting}
 use Rattle.hy_machine.specs.declared.State.{State}
@@ -26,7 +25,7 @@ use Rattle.hy_machine.specs.Runs.{IsReached, all_ended_from, run_of}
 use Rattle.hy_lawful.specs.Lawful.{Lawful}
 use Rattle.hy_lawful.specs.Laws.{SerialEnds, SerialRuns}
 use Rattle.hy_lawful.specs.Serial.{IsSerial}
-use Rattle.hy_serial.specs.Naming.{AreNamesOf, IsPrintedOutcome, OutcomesAreNamed}
+use Rattle.hy_serial.specs.Naming.{AreNamesOf, OutcomesAreNamed}
 use Rattle.hy_top.specs.Program.{MayCome, names_at}
 use Rattle.hy_top.specs.Settings.{setting_at}
 use Rattle.hy_top.specs.Telling.{TextsTellOutcomes}

@@ -1,7 +1,7 @@
 -- A step that is blocked leaves a world as it was, no step changes who prunes, and where a step finds no memory its session's open
 -- transaction has no entry.
 use Rattle.std.proofs.Common.{◌≡◌, ℕ, zero, suc, ◌*◌, ◌<◌, ◌≤◌, ◌^◌, List, [], ◌∷◌, Bool, false, length, refl, ap, ◌∙◌, subst, arith}
-use Rattle.std.proofs.Common.{Option, Some, Result, Ok, Err}
+use Rattle.std.proofs.Common.{Some, Result, Ok, Err}
 use Rattle.std.proofs.Math.ListN.{set}
 use Rattle.std.proofs.Math.Nat.{mul-le-mul_right}
 use Rattle.std.specs.Prelude.{slice_get, IfOk, OnErr}

@@ -1,12 +1,4 @@
-pub mod Spreads
-pub mod Hits
-pub mod Listed
-pub mod Histories
-pub mod Snapshots
-pub mod Replaced
-pub mod Entries
 pub mod Falls
 pub mod Marks
-pub mod Rounds
 pub mod Reached
 pub mod Ends

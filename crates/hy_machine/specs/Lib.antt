@@ -1,10 +1,8 @@
-pub mod Codes
 pub mod Positions
 pub mod Tables
 pub mod Writes
 pub mod Sessions
 pub mod Holding
-pub mod Versions
 pub mod Validation
 pub mod Visits
 pub mod Turns

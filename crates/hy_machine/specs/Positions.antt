@@ -39,13 +39,3 @@ spread pos zero items = []
 spread pos (suc left) [] = None ∷ spread (suc pos) left []
 spread pos (suc left) (item ∷ items) =
     if item.0 == pos then Some item.1 ∷ spread (suc pos) left items else None ∷ spread (suc pos) left (item ∷ items)
-
--- how many of numbered things stand before a position
-abbrev pub count_before : {A : Type 0} → ℕ → List (ℕ × A) → ℕ
-count_before pos [] = 0
-count_before pos (item ∷ items) = if nat_lt item.0 pos then suc (count_before pos items) else 0
-
--- what numbered things give, one after another
-abbrev pub by_items : {A B : Type 0} → (ℕ → A → List B) → List (ℕ × A) → List B
-by_items f [] = []
-by_items f (item ∷ items) = f item.0 item.1 ++ by_items f items

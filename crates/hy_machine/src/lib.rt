@@ -11,29 +11,11 @@ use hy_render::Ending;
 use hy_stamp::Label;
 use hy_value::{Row, Seq};
 
-mod cells;
-mod holding;
 mod laws;
-mod machine;
-mod measures;
-mod numbers;
-mod outcomes;
-mod runs;
-mod seeing;
-mod sessions;
 mod sparse;
-mod steps;
-mod turns;
-mod validation;
-mod visits;
-mod writes;
 
 pub use laws::runs_are_steps;
-pub use machine::{Machine, Version, Versions};
-pub use outcomes::outcome;
-pub use runs::{opening, run};
 pub use sparse::Sparse;
-pub use steps::step;
 
 /// A position of a table: a row, or none.
 pub type Cell = Option<Row>;

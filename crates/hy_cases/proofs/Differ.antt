@@ -11,8 +11,8 @@ use Rattle.hy_render.specs.declared.Ending.TheVariants as ending
 use Rattle.hy_render.specs.declared.Outcome.{Outcome}
 use Rattle.hy_render.specs.declared.Place.{Place}
 use Rattle.hy_render.specs.declared.TxnOutcome.{TxnOutcome}
-use Rattle.hy_machine.specs.declared.Cause.{Cause}
-use Rattle.hy_machine.specs.declared.Cause.TheVariants as cause
+use Rattle.hy_machine.specs.States.{Cause}
+use Rattle.hy_machine.specs.States as cause
 use Rattle.hy_lawful.specs.Outcomes.{is_label}
 
 -- values that a test tells apart are not the same

@@ -7,13 +7,11 @@ use Rattle.std.proofs.Math.ListN.{get_or-eq_default}
 use Rattle.hy_bound.specs.declared.Txn.{Txn}
 use Rattle.hy_render.specs.declared.Outcome.{Outcome}
 use Rattle.hy_machine.specs.declared.Setting.{Setting}
-use Rattle.hy_machine.specs.declared.State.{State}
+use Rattle.hy_machine.specs.States.{State}
 use Rattle.hy_machine.specs.declared.Stepped.{Stepped}
 use Rattle.hy_machine.specs.declared.Stepped.TheVariants.{Blocked, Moved, Answered, Ended}
-use Rattle.hy_machine.specs.declared.Turn.{Turn}
-use Rattle.hy_machine.specs.declared.Turn.TheVariants.{Done, Waits, Begins, Visits, Answers, Enters, Ends}
+use Rattle.hy_machine.specs.Turns.{Turn, Done, Waits, Begins, Visits, Answers, Enters, Ends, session_turn, turn}
 use Rattle.hy_machine.specs.Sessions.{session_at, txn_at}
-use Rattle.hy_machine.specs.Turns.{session_turn, turn}
 use Rattle.hy_machine.specs.Steps.{Step, after_turn, step_of}
 use Rattle.hy_machine.specs.Runs.{after_steps, all_ended_from}
 use Rattle.hy_machine.specs.Outcomes.{outcome_of}

@@ -1,7 +1,7 @@
 -- That some outcomes are never given: all runs of their scripts give others.
 use Rattle.std.proofs.Common.{◌≡◌, refl, ℕ, true, false, ap, sym, ◌∙◌, subst, arith}
 use Rattle.std.specs.Prelude.{IsFalse, IsTrue}
-use Rattle.hy_machine.specs.declared.State.{State}
+use Rattle.hy_machine.specs.States.{State}
 use Rattle.hy_machine.specs.Outcomes.{outcome_of}
 use Rattle.hy_machine.specs.Runs.{opening_of, IsReached, all_ended_from}
 use Rattle.hy_cases.specs.Cases.{Case}

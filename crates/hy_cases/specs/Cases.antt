@@ -12,7 +12,7 @@ use Rattle.hy_render.specs.declared.Outcome.{Outcome}
 use Rattle.hy_render.specs.declared.Place.{Place}
 use Rattle.hy_render.specs.declared.TxnOutcome.{TxnOutcome}
 use Rattle.hy_machine.specs.declared.Setting.{Setting}
-use Rattle.hy_machine.specs.declared.State.{State}
+use Rattle.hy_machine.specs.States.{State}
 use Rattle.hy_machine.specs.Runs.{run_of, IsReached, all_ended_from}
 use Rattle.hy_machine.specs.Outcomes.{outcome_of}
 use Rattle.hy_lawful.specs.Outcomes.{is_label}

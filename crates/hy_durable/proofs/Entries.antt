@@ -11,10 +11,8 @@ use Rattle.hy_journal.specs.declared.Entry.{Entry}
 use Rattle.hy_body.specs.declared.HeldTable.{HeldTable}
 use Rattle.hy_body.specs.Bytes.{net_of}
 use Rattle.hy_body.specs.Bodies.{IsRowOf, IsChangeOf}
-use Rattle.hy_machine.specs.declared.Pair.{Pair}
-use Rattle.hy_machine.specs.declared.Entry.{Entry as Entered}
+use Rattle.hy_machine.specs.Tables.{Pair, Entry as Entered, Cell, Tables, overlaid, covered, covered_tables, after_entry, history}
 use Rattle.hy_machine.specs.Positions.{item_at, by_place}
-use Rattle.hy_machine.specs.Tables.{Cell, Tables, overlaid, covered, covered_tables, after_entry, history}
 use Rattle.hy_machine.specs.Validation.{change_at}
 use Rattle.hy_redo.specs.Tables.{Held, after_changes, after_entry as after_noted, applied, rise, BeginsFrom, IsBehind, Stands, AllStand}
 use Rattle.hy_near.specs.Typed.{kinds_of}

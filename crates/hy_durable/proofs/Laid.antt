@@ -5,9 +5,8 @@ use Rattle.std.specs.List.{AllByRecursion}
 use Rattle.hy_value.specs.declared.Kind.{Kind}
 use Rattle.hy_change.specs.declared.Change.{Change}
 use Rattle.hy_body.specs.declared.HeldTable.{HeldTable}
-use Rattle.hy_machine.specs.declared.Pair.{Pair}
+use Rattle.hy_machine.specs.Tables.{Pair, Cell, Tables, overlaid, covered, covered_tables}
 use Rattle.hy_machine.specs.Positions.{item_at, by_position, by_table, by_place}
-use Rattle.hy_machine.specs.Tables.{Cell, Tables, overlaid, covered, covered_tables}
 use Rattle.hy_machine.specs.Validation.{change_between, change_at}
 use Rattle.hy_redo.specs.Tables.{Held, with_cell, with_table, after_changes}
 use Rattle.hy_recovery.specs.Recovered.{held, held_tables}

@@ -8,9 +8,8 @@ use Rattle.std.specs.declared.cmp.Ordering.TheVariants.{Less}
 use Rattle.std.proofs.lemmas.Bool.{and_from}
 use Rattle.hy_change.specs.declared.Change.{Change}
 use Rattle.hy_notes.specs.Notes.{Ascends, order_of}
-use Rattle.hy_machine.specs.declared.Pair.{Pair}
+use Rattle.hy_machine.specs.Tables.{Pair, Cell}
 use Rattle.hy_machine.specs.Positions.{item_at, by_position, by_table, by_place}
-use Rattle.hy_machine.specs.Tables.{Cell}
 use Rattle.hy_machine.specs.Validation.{change_between, change_at}
 use Rattle.hy_redo.specs.Tables.{is_past, rise_past, rise}
 

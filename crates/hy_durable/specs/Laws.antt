@@ -5,7 +5,7 @@ use Rattle.hy_body.specs.declared.HeldTable.{HeldTable}
 use Rattle.hy_event.specs.declared.SessionData.{SessionData}
 use Rattle.hy_event.specs.Events.{Part}
 use Rattle.hy_machine.specs.declared.Setting.{Setting}
-use Rattle.hy_machine.specs.declared.State.{State}
+use Rattle.hy_machine.specs.States.{State}
 use Rattle.hy_machine.specs.Sessions.{snapshot}
 use Rattle.hy_redo.specs.Tables.{applied, AllStand}
 use Rattle.hy_redo.specs.Logs.{IsLogOf}

@@ -1,8 +1,6 @@
 -- How many transactions have begun.
 use Rattle.std.specs.Prelude.{ℕ, ◌+◌, Option, None, Some, length, sum_by}
-use Rattle.hy_machine.specs.declared.State.{State}
-use Rattle.hy_machine.specs.declared.Session.{Session}
-use Rattle.hy_machine.specs.declared.Open.{Open}
+use Rattle.hy_machine.specs.States.{State, Session, Open}
 
 -- one where a transaction is open
 abbrev pub count_open : Option Open → ℕ

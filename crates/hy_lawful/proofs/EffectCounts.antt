@@ -15,12 +15,11 @@ use Rattle.hy_bound.specs.declared.WriteKind.{WriteKind}
 use Rattle.hy_bound.specs.declared.WriteKind.TheVariants as kind
 use Rattle.hy_bound.specs.Condition.{Condition}
 use Rattle.hy_machine.specs.declared.Setting.{Setting}
-use Rattle.hy_machine.specs.declared.Write.{Write}
+use Rattle.hy_machine.specs.Writes.{Write, blank_own, with_write, with_writes}
 use Rattle.hy_machine.specs.Outcomes.{inserts_into, placed_by, placed_in}
 use Rattle.hy_machine.specs.Positions.{item_at}
 use Rattle.hy_machine.specs.Tables.{Cell, Tables, Own, capacity, covered, over}
 use Rattle.hy_machine.specs.Visits.{verdict}
-use Rattle.hy_machine.specs.Writes.{blank_own, with_write, with_writes}
 use Rattle.hy_replay.specs.BagLaws.{IsPosition}
 use Rattle.hy_replay.specs.Laws.{AreTables}
 use Rattle.hy_replay.specs.Ran.{One, Ran, has_key_at, placed_at, writes_at, changed_by, one, ran_from}

@@ -8,15 +8,8 @@ use Rattle.hy_render.specs.declared.Ending.{Ending}
 use Rattle.hy_render.specs.declared.Ending.TheVariants.{Committed, Read, RolledBack, Conflict, Invalid, Range, Full}
 use Rattle.hy_render.specs.declared.TxnOutcome.{TxnOutcome}
 use Rattle.hy_machine.specs.declared.Setting.{Setting}
-use Rattle.hy_machine.specs.declared.State.{State}
-use Rattle.hy_machine.specs.declared.Session.{Session}
-use Rattle.hy_machine.specs.declared.Open.{Open}
-use Rattle.hy_machine.specs.declared.Begun.{Begun}
-use Rattle.hy_machine.specs.declared.Finished.{Finished}
-use Rattle.hy_machine.specs.declared.Entry.{Entry}
-use Rattle.hy_machine.specs.declared.Phase.{Phase}
-use Rattle.hy_machine.specs.declared.Phase.TheVariants.{Working, Stamping, Undoing}
-use Rattle.hy_machine.specs.Tables.{capacity}
+use Rattle.hy_machine.specs.States.{State, Session, Open, Begun, Finished, Phase, Working, Stamping, Undoing}
+use Rattle.hy_machine.specs.Tables.{Entry, capacity}
 use Rattle.hy_machine.specs.Sessions.{session_at, program_of}
 use Rattle.hy_machine.specs.Turns.{ending_of}
 use Rattle.hy_machine.specs.Outcomes.{txn_outcome_of}

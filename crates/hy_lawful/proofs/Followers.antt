@@ -5,8 +5,7 @@ use Rattle.std.specs.Prelude.{slice_get, ◌==◌, nat_lt, IfSome}
 use Rattle.std.proofs.lemmas.Bool.{eqb-true, ltb-true}
 use Rattle.std.proofs.lemmas.Option.{same_Some}
 use Rattle.hy_machine.specs.declared.Setting.{Setting}
-use Rattle.hy_machine.specs.declared.State.{State}
-use Rattle.hy_machine.specs.declared.Finished.{Finished}
+use Rattle.hy_machine.specs.States.{State, Finished}
 use Rattle.hy_machine.specs.Sessions.{session_at}
 use Rattle.hy_machine.specs.Outcomes.{txn_outcome_of}
 use Rattle.hy_lawful.specs.Outcomes.{committed_at, is_later}

@@ -9,16 +9,10 @@ use Rattle.hy_bound.specs.declared.Txn.{Txn}
 use Rattle.hy_stamp.specs.declared.Label.{Label}
 use Rattle.hy_render.specs.declared.Ending.{Ending}
 use Rattle.hy_machine.specs.declared.Setting.{Setting}
-use Rattle.hy_machine.specs.declared.State.{State}
-use Rattle.hy_machine.specs.declared.Session.{Session}
-use Rattle.hy_machine.specs.declared.Open.{Open}
-use Rattle.hy_machine.specs.declared.Entry.{Entry}
-use Rattle.hy_machine.specs.declared.Finished.{Finished}
-use Rattle.hy_machine.specs.declared.Phase.TheVariants.{Stamping}
-use Rattle.hy_machine.specs.declared.Turn.{Turn}
-use Rattle.hy_machine.specs.declared.Turn.TheVariants.{Done, Waits, Begins, Visits, Answers, Enters, Ends}
+use Rattle.hy_machine.specs.States.{State, Session, Open, Finished, Stamping}
+use Rattle.hy_machine.specs.Tables.{Entry}
+use Rattle.hy_machine.specs.Turns.{Turn, Done, Waits, Begins, Visits, Answers, Enters, Ends, unless_blocked, phase_turn, session_turn}
 use Rattle.hy_machine.specs.Sessions.{fresh, session_at, txn_at, blocker, least_with, least_prefix}
-use Rattle.hy_machine.specs.Turns.{unless_blocked, phase_turn, session_turn}
 use Rattle.hy_machine.specs.Steps.{with_open, beginning, with_changed, after_visit, after_answer, done_with, order_with, after_turn, step_of}
 use Rattle.hy_machine.specs.Runs.{opening_of, after_steps, IsReached}
 use Rattle.hy_lawful.specs.Outcomes.{committed_at}

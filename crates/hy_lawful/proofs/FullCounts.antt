@@ -9,10 +9,9 @@ use Rattle.std.proofs.lemmas.Option.{same_Some}
 use Rattle.hy_value.specs.declared.Value.{Value}
 use Rattle.hy_bound.specs.declared.Bound.{Bound}
 use Rattle.hy_bound.specs.declared.Bound.TheVariants.{Insert}
-use Rattle.hy_machine.specs.declared.Write.{Write}
+use Rattle.hy_machine.specs.Writes.{Write, with_write, with_writes}
 use Rattle.hy_machine.specs.Positions.{item_at}
 use Rattle.hy_machine.specs.Tables.{Cell, Tables, Own}
-use Rattle.hy_machine.specs.Writes.{with_write, with_writes}
 use Rattle.hy_machine.specs.Outcomes.{placed_by, placed_in}
 use Rattle.hy_lawful.specs.Rooms.{how_many, has_placed}
 use Rattle.hy_lawful.proofs.Booleans.{and_left, and_right, and_true}

@@ -7,14 +7,10 @@ use Rattle.std.proofs.lemmas.List.{length-append}
 use Rattle.hy_bound.specs.declared.Txn.{Txn}
 use Rattle.hy_stamp.specs.declared.Label.{Label}
 use Rattle.hy_machine.specs.declared.Setting.{Setting}
-use Rattle.hy_machine.specs.declared.State.{State}
-use Rattle.hy_machine.specs.declared.Open.{Open}
-use Rattle.hy_machine.specs.declared.Entry.{Entry}
-use Rattle.hy_machine.specs.declared.Phase.TheVariants.{Stamping}
-use Rattle.hy_machine.specs.declared.Turn.{Turn}
-use Rattle.hy_machine.specs.declared.Turn.TheVariants.{Done, Waits, Begins, Visits, Answers, Enters, Ends}
+use Rattle.hy_machine.specs.States.{State, Open, Stamping}
+use Rattle.hy_machine.specs.Tables.{Entry}
+use Rattle.hy_machine.specs.Turns.{Turn, Done, Waits, Begins, Visits, Answers, Enters, Ends, unless_blocked, phase_turn, session_turn}
 use Rattle.hy_machine.specs.Sessions.{session_at, txn_at, label_of, blocker_of, blocker, entry_of}
-use Rattle.hy_machine.specs.Turns.{unless_blocked, phase_turn, session_turn}
 use Rattle.hy_machine.specs.Steps.{with_changed, after_visit, after_answer, order_with, after_turn, step_of}
 use Rattle.hy_machine.specs.Runs.{opening_of, after_steps, IsReached}
 use Rattle.hy_lawful.proofs.Fits.{OpenFits, NowFits, NowStamps, Fits}

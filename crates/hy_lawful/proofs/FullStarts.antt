@@ -11,16 +11,10 @@ use Rattle.std.proofs.lemmas.Option.{slice_get-get_or}
 use Rattle.hy_bound.specs.declared.Txn.{Txn}
 use Rattle.hy_render.specs.declared.Ending.{Ending}
 use Rattle.hy_machine.specs.declared.Setting.{Setting}
-use Rattle.hy_machine.specs.declared.State.{State}
-use Rattle.hy_machine.specs.declared.Session.{Session}
-use Rattle.hy_machine.specs.declared.Open.{Open}
-use Rattle.hy_machine.specs.declared.Finished.{Finished}
-use Rattle.hy_machine.specs.declared.Entry.{Entry}
-use Rattle.hy_machine.specs.declared.Phase.TheVariants.{Stamping}
-use Rattle.hy_machine.specs.declared.Turn.{Turn}
-use Rattle.hy_machine.specs.declared.Turn.TheVariants.{Done, Waits, Begins, Visits, Answers, Enters, Ends}
+use Rattle.hy_machine.specs.States.{State, Session, Open, Finished, Stamping}
+use Rattle.hy_machine.specs.Tables.{Entry}
+use Rattle.hy_machine.specs.Turns.{Turn, Done, Waits, Begins, Visits, Answers, Enters, Ends, session_turn, phase_turn}
 use Rattle.hy_machine.specs.Sessions.{session_at, txn_at, entry_of}
-use Rattle.hy_machine.specs.Turns.{session_turn, phase_turn}
 use Rattle.hy_machine.specs.Steps.{with_open, beginning, with_changed, with_ended, after_visit, after_answer, order_with, after_turn, step_of}
 use Rattle.hy_machine.specs.Runs.{after_steps}
 use Rattle.hy_lawful.proofs.Fits.{OpenFits, NowFits, NowStamps, Fits}

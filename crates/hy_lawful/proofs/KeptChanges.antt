@@ -10,11 +10,9 @@ use Rattle.hy_change.specs.declared.Change.{Change}
 use Rattle.hy_render.specs.declared.Place.{Place}
 use Rattle.hy_render.specs.declared.Committed.{Committed as Committing}
 use Rattle.hy_machine.specs.declared.Setting.{Setting}
-use Rattle.hy_machine.specs.declared.Begun.{Begun}
-use Rattle.hy_machine.specs.declared.Entry.{Entry}
-use Rattle.hy_machine.specs.declared.Pair.{Pair}
+use Rattle.hy_machine.specs.States.{Begun}
+use Rattle.hy_machine.specs.Tables.{Entry, Pair, Cell}
 use Rattle.hy_machine.specs.Positions.{item_at, by_place}
-use Rattle.hy_machine.specs.Tables.{Cell}
 use Rattle.hy_machine.specs.Writes.{written}
 use Rattle.hy_machine.specs.Validation.{change_between, change_at, committed_of}
 use Rattle.hy_lawful.specs.Cells.{cell_at as printed_at}

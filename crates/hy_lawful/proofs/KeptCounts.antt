@@ -11,17 +11,10 @@ use Rattle.hy_bound.specs.declared.Bound.{Bound}
 use Rattle.hy_bound.specs.declared.Txn.{Txn}
 use Rattle.hy_stamp.specs.declared.Label.{Label}
 use Rattle.hy_machine.specs.declared.Setting.{Setting}
-use Rattle.hy_machine.specs.declared.State.{State}
-use Rattle.hy_machine.specs.declared.Session.{Session}
-use Rattle.hy_machine.specs.declared.Open.{Open}
-use Rattle.hy_machine.specs.declared.Begun.{Begun}
-use Rattle.hy_machine.specs.declared.Entry.{Entry}
-use Rattle.hy_machine.specs.declared.Phase.{Phase}
-use Rattle.hy_machine.specs.declared.Phase.TheVariants.{Working, Stamping, Undoing}
-use Rattle.hy_machine.specs.declared.Turn.{Turn}
-use Rattle.hy_machine.specs.declared.Turn.TheVariants.{Done, Waits, Begins, Visits, Answers, Enters, Ends}
+use Rattle.hy_machine.specs.States.{State, Session, Open, Begun, Phase, Working, Stamping, Undoing}
+use Rattle.hy_machine.specs.Tables.{Entry}
+use Rattle.hy_machine.specs.Turns.{Turn, Done, Waits, Begins, Visits, Answers, Enters, Ends, unless_blocked, session_turn, phase_turn, stamp_turn}
 use Rattle.hy_machine.specs.Sessions.{fresh, session_at, txn_at, blocker, entry_of}
-use Rattle.hy_machine.specs.Turns.{unless_blocked, session_turn, phase_turn, stamp_turn}
 use Rattle.hy_machine.specs.Writes.{written_chunks}
 use Rattle.hy_machine.specs.Steps.{with_session, beginning, after_visit, after_answer, done_with, order_with, after_turn, step_of}
 use Rattle.hy_machine.specs.Runs.{opening_of, after_steps, IsReached}

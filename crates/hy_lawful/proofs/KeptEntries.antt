@@ -6,15 +6,9 @@ use Rattle.std.specs.Prelude.{slice_get, IfSome}
 use Rattle.std.proofs.lemmas.Option.{same_Some}
 use Rattle.hy_stamp.specs.declared.Label.{Label}
 use Rattle.hy_machine.specs.declared.Setting.{Setting}
-use Rattle.hy_machine.specs.declared.State.{State}
-use Rattle.hy_machine.specs.declared.Begun.{Begun}
-use Rattle.hy_machine.specs.declared.Finished.{Finished}
-use Rattle.hy_machine.specs.declared.Entry.{Entry}
-use Rattle.hy_machine.specs.declared.Pair.{Pair}
-use Rattle.hy_machine.specs.declared.Phase.{Phase}
-use Rattle.hy_machine.specs.declared.Phase.TheVariants.{Working, Stamping, Undoing}
+use Rattle.hy_machine.specs.States.{State, Begun, Finished, Phase, Working, Stamping, Undoing}
+use Rattle.hy_machine.specs.Tables.{Entry, Pair, Cell, Tables, covered}
 use Rattle.hy_machine.specs.Positions.{item_at}
-use Rattle.hy_machine.specs.Tables.{Cell, Tables, covered}
 use Rattle.hy_machine.specs.Sessions.{session_at, pair_of}
 use Rattle.hy_machine.specs.Runs.{IsReached}
 use Rattle.hy_kept.specs.Kept.{IsAtOrOpen, ended, at_work, IsRanked, committed, entered, EntriesAre, PositionsAreOwn, HoldersApart}

@@ -2,11 +2,7 @@
 use Rattle.std.proofs.Common.{◌≡◌, ℕ, ◌<◌, ◌≤◌, Option, None, Some, length, refl, subst, arith}
 use Rattle.hy_bound.specs.declared.Txn.{Txn}
 use Rattle.hy_machine.specs.declared.Setting.{Setting}
-use Rattle.hy_machine.specs.declared.State.{State}
-use Rattle.hy_machine.specs.declared.Open.{Open}
-use Rattle.hy_machine.specs.declared.Begun.{Begun}
-use Rattle.hy_machine.specs.declared.Phase.{Phase}
-use Rattle.hy_machine.specs.declared.Phase.TheVariants.{Working, Stamping, Undoing}
+use Rattle.hy_machine.specs.States.{State, Open, Begun, Phase, Working, Stamping, Undoing}
 use Rattle.hy_machine.specs.Sessions.{session_at, program_of, txn_at}
 use Rattle.hy_machine.specs.Outcomes.{statements_in}
 use Rattle.hy_machine.specs.Runs.{IsReached}

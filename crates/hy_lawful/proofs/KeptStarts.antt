@@ -5,11 +5,8 @@ use Rattle.hy_render.specs.declared.Ending.{Ending}
 use Rattle.hy_render.specs.declared.Ending.TheVariants.{Committed}
 use Rattle.hy_render.specs.declared.TxnOutcome.{TxnOutcome}
 use Rattle.hy_machine.specs.declared.Setting.{Setting}
-use Rattle.hy_machine.specs.declared.State.{State}
-use Rattle.hy_machine.specs.declared.Open.{Open}
-use Rattle.hy_machine.specs.declared.Begun.{Begun}
-use Rattle.hy_machine.specs.declared.Entry.{Entry}
-use Rattle.hy_machine.specs.declared.Finished.{Finished}
+use Rattle.hy_machine.specs.States.{State, Open, Begun, Finished}
+use Rattle.hy_machine.specs.Tables.{Entry}
 use Rattle.hy_machine.specs.Sessions.{session_at}
 use Rattle.hy_machine.specs.Outcomes.{txn_outcome_of}
 use Rattle.hy_machine.specs.Runs.{IsReached}

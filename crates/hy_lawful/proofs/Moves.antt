@@ -10,12 +10,8 @@ use Rattle.hy_stamp.specs.declared.Label.{Label}
 use Rattle.hy_render.specs.declared.Ending.{Ending}
 use Rattle.hy_render.specs.declared.Ending.TheVariants.{Committed, Read, RolledBack, Conflict, Invalid, Range, Full}
 use Rattle.hy_machine.specs.declared.Setting.{Setting}
-use Rattle.hy_machine.specs.declared.State.{State}
-use Rattle.hy_machine.specs.declared.Session.{Session}
-use Rattle.hy_machine.specs.declared.Open.{Open}
-use Rattle.hy_machine.specs.declared.Begun.{Begun}
-use Rattle.hy_machine.specs.declared.Finished.{Finished}
-use Rattle.hy_machine.specs.declared.Entry.{Entry}
+use Rattle.hy_machine.specs.States.{State, Session, Open, Begun, Finished}
+use Rattle.hy_machine.specs.Tables.{Entry}
 use Rattle.hy_machine.specs.Sessions.{fresh, session_at, entry_of}
 use Rattle.hy_lawful.specs.Outcomes.{EachFrom, committed_at}
 use Rattle.hy_lawful.proofs.Lists.{kept_in_front, last_item, all_more, each_more}

@@ -14,10 +14,8 @@ use Rattle.hy_stamp.specs.declared.Label.{Label}
 use Rattle.hy_render.specs.declared.TxnOutcome.{TxnOutcome}
 use Rattle.hy_render.specs.declared.Committed.{Committed as Committing}
 use Rattle.hy_machine.specs.declared.Setting.{Setting}
-use Rattle.hy_machine.specs.declared.State.{State}
-use Rattle.hy_machine.specs.declared.Session.{Session}
-use Rattle.hy_machine.specs.declared.Finished.{Finished}
-use Rattle.hy_machine.specs.declared.Entry.{Entry}
+use Rattle.hy_machine.specs.States.{State, Session, Finished}
+use Rattle.hy_machine.specs.Tables.{Entry}
 use Rattle.hy_machine.specs.Sessions.{fresh, session_at}
 use Rattle.hy_machine.specs.Validation.{committed_of}
 use Rattle.hy_machine.specs.Outcomes.{txn_outcome_of, outcomes_from, all_outcomes_from, outcome_of}

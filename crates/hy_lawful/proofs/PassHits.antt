@@ -9,11 +9,9 @@ use Rattle.std.proofs.lemmas.Option.{same_Some}
 use Rattle.hy_bound.specs.declared.Record.{Record}
 use Rattle.hy_change.specs.declared.Change.{Change}
 use Rattle.hy_stamp.specs.declared.Label.{Label}
-use Rattle.hy_machine.specs.declared.Cause.{Cause}
-use Rattle.hy_machine.specs.declared.Entry.{Entry}
-use Rattle.hy_machine.specs.declared.Pair.{Pair}
+use Rattle.hy_machine.specs.States.{Cause}
+use Rattle.hy_machine.specs.Tables.{Entry, Pair, Cell}
 use Rattle.hy_machine.specs.Positions.{item_at, last_some, by_position, by_table}
-use Rattle.hy_machine.specs.Tables.{Cell}
 use Rattle.hy_machine.specs.Holding.{changes_row, changer_at, has_pair}
 use Rattle.hy_machine.specs.Validation.{change_between, change_at, committed_of, record_hit, invalid_at, change_hits, hit_among, first_hit}
 use Rattle.hy_lawful.proofs.PassTables.{pair_at}

@@ -10,11 +10,10 @@ use Rattle.std.proofs.lemmas.List.Folds.{list_any-append}
 use Rattle.std.proofs.lemmas.Nat.{div-add-mod', div_below}
 use Rattle.std.proofs.Math.Nat.{mod-lt}
 use Rattle.hy_machine.specs.declared.Setting.{Setting}
-use Rattle.hy_machine.specs.declared.Session.{Session}
-use Rattle.hy_machine.specs.declared.Write.{Write}
+use Rattle.hy_machine.specs.States.{Session}
+use Rattle.hy_machine.specs.Writes.{Write, with_write, with_writes, has_written_in, chunks_in_table, chunks_from, written_chunks, is_among}
 use Rattle.hy_machine.specs.Positions.{item_at}
 use Rattle.hy_machine.specs.Tables.{Cell, Own, capacity, chunk_of}
-use Rattle.hy_machine.specs.Writes.{with_write, with_writes, has_written_in, chunks_in_table, chunks_from, written_chunks, is_among}
 use Rattle.hy_machine.specs.Sessions.{fresh, label_of}
 use Rattle.hy_machine.specs.Holding.{holds, holder_from}
 use Rattle.hy_lawful.proofs.Fits.{FitsTables}

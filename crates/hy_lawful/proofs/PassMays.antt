@@ -12,14 +12,10 @@ use Rattle.hy_bound.specs.Condition.{Condition}
 use Rattle.hy_bound.specs.Predicate.{truth_of}
 use Rattle.hy_stamp.specs.declared.Label.{Label}
 use Rattle.hy_machine.specs.declared.Setting.{Setting}
-use Rattle.hy_machine.specs.declared.State.{State}
-use Rattle.hy_machine.specs.declared.Begun.{Begun}
-use Rattle.hy_machine.specs.declared.Entry.{Entry}
-use Rattle.hy_machine.specs.declared.Pair.{Pair}
-use Rattle.hy_machine.specs.declared.Write.{Write}
-use Rattle.hy_machine.specs.declared.Cause.{Cause}
+use Rattle.hy_machine.specs.States.{State, Begun, Cause}
+use Rattle.hy_machine.specs.Tables.{Entry, Pair, Cell, covered, opening_tables, positions_in}
+use Rattle.hy_machine.specs.Writes.{Write}
 use Rattle.hy_machine.specs.Positions.{item_at, last_some}
-use Rattle.hy_machine.specs.Tables.{Cell, covered, opening_tables, positions_in}
 use Rattle.hy_machine.specs.Sessions.{session_at, view, snapshot}
 use Rattle.hy_machine.specs.Holding.{holds, holder_from, changes_row, changer_at, opponent, is_held, has_pair, is_free}
 use Rattle.hy_machine.specs.Visits.{new_cell, judged, verdict, and_write, sweep, verdict_at, swept}

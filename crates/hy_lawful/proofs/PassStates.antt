@@ -11,18 +11,10 @@ use Rattle.hy_stamp.specs.declared.Label.{Label}
 use Rattle.hy_render.specs.declared.Ending.{Ending}
 use Rattle.hy_render.specs.declared.Ending.TheVariants.{Committed, Read, RolledBack, Conflict, Invalid, Range, Full}
 use Rattle.hy_machine.specs.declared.Setting.{Setting}
-use Rattle.hy_machine.specs.declared.State.{State}
-use Rattle.hy_machine.specs.declared.Session.{Session}
-use Rattle.hy_machine.specs.declared.Open.{Open}
-use Rattle.hy_machine.specs.declared.Begun.{Begun}
-use Rattle.hy_machine.specs.declared.Finished.{Finished}
-use Rattle.hy_machine.specs.declared.Entry.{Entry}
-use Rattle.hy_machine.specs.declared.Pair.{Pair}
-use Rattle.hy_machine.specs.declared.Cause.TheVariants as cause
-use Rattle.hy_machine.specs.declared.Phase.{Phase}
-use Rattle.hy_machine.specs.declared.Phase.TheVariants.{Working, Stamping, Undoing}
+use Rattle.hy_machine.specs.States.{State, Session, Open, Begun, Finished, Phase, Working, Stamping, Undoing}
+use Rattle.hy_machine.specs.Tables.{Entry, Pair, Cell, Tables, over}
+use Rattle.hy_machine.specs.States as cause
 use Rattle.hy_machine.specs.Positions.{item_at}
-use Rattle.hy_machine.specs.Tables.{Cell, Tables, over}
 use Rattle.hy_machine.specs.Sessions.{session_at, pair_of, entry_cells}
 use Rattle.hy_machine.specs.Holding.{holds}
 use Rattle.hy_machine.specs.Turns.{ending_of}

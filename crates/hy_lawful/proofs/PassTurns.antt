@@ -17,20 +17,11 @@ use Rattle.hy_stamp.specs.declared.Label.{Label}
 use Rattle.hy_render.specs.declared.Ending.{Ending}
 use Rattle.hy_render.specs.declared.Ending.TheVariants as ways
 use Rattle.hy_machine.specs.declared.Setting.{Setting}
-use Rattle.hy_machine.specs.declared.State.{State}
-use Rattle.hy_machine.specs.declared.Open.{Open}
-use Rattle.hy_machine.specs.declared.Begun.{Begun}
-use Rattle.hy_machine.specs.declared.Entry.{Entry}
-use Rattle.hy_machine.specs.declared.Write.{Write}
-use Rattle.hy_machine.specs.declared.Cause.{Cause}
-use Rattle.hy_machine.specs.declared.Cause.TheVariants.{RolledBack, Conflict, Invalid, Range, Full}
-use Rattle.hy_machine.specs.declared.Phase.{Phase}
-use Rattle.hy_machine.specs.declared.Phase.TheVariants.{Working, Stamping, Undoing}
-use Rattle.hy_machine.specs.declared.Turn.{Turn}
-use Rattle.hy_machine.specs.declared.Turn.TheVariants.{Done, Waits, Begins, Visits, Answers, Enters, Ends}
+use Rattle.hy_machine.specs.States.{State, Open, Begun, Cause, RolledBack, Conflict, Invalid, Range, Full, Phase, Working, Stamping, Undoing}
+use Rattle.hy_machine.specs.Tables.{Entry, Cell, Own, positions_in, chunk_of}
+use Rattle.hy_machine.specs.Writes.{Write, with_writes, wrote_nothing, written_chunks, is_among}
+use Rattle.hy_machine.specs.Turns.{Turn, Done, Waits, Begins, Visits, Answers, Enters, Ends}
 use Rattle.hy_machine.specs.Positions.{item_at}
-use Rattle.hy_machine.specs.Tables.{Cell, Own, positions_in, chunk_of}
-use Rattle.hy_machine.specs.Writes.{with_writes, wrote_nothing, written_chunks, is_among}
 use Rattle.hy_machine.specs.Sessions.{blocker, view}
 use Rattle.hy_machine.specs.Holding.{undone, holds, is_free, opponent}
 use Rattle.hy_machine.specs.Validation.{committed_of, first_hit}

@@ -8,10 +8,8 @@ use Rattle.std.proofs.lemmas.List.Folds.{list_all-append}
 use Rattle.hy_change.specs.declared.Change.{Change}
 use Rattle.hy_render.specs.declared.Place.{Place}
 use Rattle.hy_machine.specs.declared.Setting.{Setting}
-use Rattle.hy_machine.specs.declared.Entry.{Entry}
-use Rattle.hy_machine.specs.declared.Pair.{Pair}
+use Rattle.hy_machine.specs.Tables.{Entry, Pair, Cell, Own, capacity}
 use Rattle.hy_machine.specs.Positions.{by_position, by_table, by_place}
-use Rattle.hy_machine.specs.Tables.{Cell, Own, capacity}
 use Rattle.hy_machine.specs.Writes.{place_at, written}
 use Rattle.hy_machine.specs.Validation.{change_between, change_at, committed_of}
 use Rattle.hy_lawful.specs.Positions.{places_of, is_position, comes_before, ascend, ArePositions}

@@ -13,10 +13,8 @@ use Rattle.hy_bound.specs.Fits.{FitsRows}
 use Rattle.hy_change.specs.declared.Change.{Change}
 use Rattle.hy_render.specs.declared.Committed.{Committed as Committing}
 use Rattle.hy_machine.specs.declared.Setting.{Setting}
-use Rattle.hy_machine.specs.declared.Entry.{Entry}
-use Rattle.hy_machine.specs.declared.Pair.{Pair}
+use Rattle.hy_machine.specs.Tables.{Entry, Pair, Cell, Tables, capacity, laid_out, opening_tables, history, after_entry}
 use Rattle.hy_machine.specs.Positions.{item_at}
-use Rattle.hy_machine.specs.Tables.{Cell, Tables, capacity, laid_out, opening_tables, history, after_entry}
 use Rattle.hy_machine.specs.Validation.{committed_of}
 use Rattle.hy_replay.specs.Laws.{AreTables, bags_of}
 use Rattle.hy_lawful.specs.Outcomes.{EachFrom}

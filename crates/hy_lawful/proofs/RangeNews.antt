@@ -12,10 +12,9 @@ use Rattle.hy_bound.specs.declared.Reply.{Reply}
 use Rattle.hy_bound.specs.declared.Reply.TheVariants as reply
 use Rattle.hy_bound.specs.declared.WriteKind.TheVariants as kind
 use Rattle.hy_machine.specs.declared.Setting.{Setting}
-use Rattle.hy_machine.specs.declared.Write.{Write}
+use Rattle.hy_machine.specs.Writes.{Write, blank_own, with_writes}
 use Rattle.hy_machine.specs.Positions.{item_at}
 use Rattle.hy_machine.specs.Tables.{Cell, Tables, Own, capacity, covered, over}
-use Rattle.hy_machine.specs.Writes.{blank_own, with_writes}
 use Rattle.hy_replay.specs.Laws.{AreTables}
 use Rattle.hy_replay.specs.Ran.{One, Ran, placed_at, one, ran_from, ran}
 use Rattle.hy_lawful.specs.Written.{writes, left_by, after_one, followed, row_inserted, some_inserted}

@@ -14,11 +14,9 @@ use Rattle.hy_bound.specs.Condition.{Condition}
 use Rattle.hy_bound.specs.Predicate.{truth_of}
 use Rattle.hy_change.specs.declared.Change.{Change}
 use Rattle.hy_stamp.specs.declared.Label.{Label}
-use Rattle.hy_machine.specs.declared.Entry.{Entry}
-use Rattle.hy_machine.specs.declared.Write.{Write}
-use Rattle.hy_machine.specs.declared.Cause.{Cause}
-use Rattle.hy_machine.specs.declared.Cause.TheVariants.{RolledBack, Conflict, Invalid, Range, Full}
-use Rattle.hy_machine.specs.Tables.{Cell}
+use Rattle.hy_machine.specs.Tables.{Entry, Cell}
+use Rattle.hy_machine.specs.Writes.{Write}
+use Rattle.hy_machine.specs.States.{Cause, RolledBack, Conflict, Invalid, Range, Full}
 use Rattle.hy_machine.specs.Visits.{new_cell, judged, verdict, and_write, sweep}
 use Rattle.hy_machine.specs.Validation.{committed_of, record_hit, invalid_at, change_hits, hit_among, first_hit}
 use Rattle.hy_lawful.proofs.Lists.{or_some}

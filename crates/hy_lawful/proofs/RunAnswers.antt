@@ -10,10 +10,9 @@ use Rattle.hy_bound.specs.declared.Bound.{Bound}
 use Rattle.hy_bound.specs.declared.Record.{Record}
 use Rattle.hy_bound.specs.declared.Reply.{Reply}
 use Rattle.hy_machine.specs.declared.Setting.{Setting}
-use Rattle.hy_machine.specs.declared.Begun.{Begun}
-use Rattle.hy_machine.specs.declared.Write.{Write}
+use Rattle.hy_machine.specs.States.{Begun}
+use Rattle.hy_machine.specs.Writes.{Write, blank_own, with_writes}
 use Rattle.hy_machine.specs.Tables.{Tables, Own}
-use Rattle.hy_machine.specs.Writes.{blank_own, with_writes}
 use Rattle.hy_replay.specs.Ran.{One, Ran, one, after_one, ran_from, ran}
 use Rattle.hy_replay.specs.BagLaws.{IsPosition}
 use Rattle.hy_lawful.proofs.Lists.{all_more}

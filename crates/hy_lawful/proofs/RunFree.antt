@@ -8,15 +8,9 @@ use Rattle.std.proofs.lemmas.List.Folds.{list_any-append}
 use Rattle.std.proofs.lemmas.Option.{same_Some}
 use Rattle.std.proofs.Math.Nat.{div-lt_iff_lt-mul, div-mul-le_self, lt-div-mul-add}
 use Rattle.hy_machine.specs.declared.Setting.{Setting}
-use Rattle.hy_machine.specs.declared.State.{State}
-use Rattle.hy_machine.specs.declared.Session.{Session}
-use Rattle.hy_machine.specs.declared.Open.{Open}
-use Rattle.hy_machine.specs.declared.Begun.{Begun}
-use Rattle.hy_machine.specs.declared.Entry.{Entry}
-use Rattle.hy_machine.specs.declared.Pair.{Pair}
-use Rattle.hy_machine.specs.declared.Phase.TheVariants.{Working}
+use Rattle.hy_machine.specs.States.{State, Session, Open, Begun, Working}
+use Rattle.hy_machine.specs.Tables.{Entry, Pair, Cell, Tables, Own, capacity, chunk_of, after_entry, history, opening_tables}
 use Rattle.hy_machine.specs.Positions.{item_at}
-use Rattle.hy_machine.specs.Tables.{Cell, Tables, Own, capacity, chunk_of, after_entry, history, opening_tables}
 use Rattle.hy_machine.specs.Writes.{has_written_in, chunks_in_table, chunks_from, written_chunks, is_among}
 use Rattle.hy_machine.specs.Sessions.{fresh, session_at, snapshot}
 use Rattle.hy_machine.specs.Holding.{holds, is_held, has_pair, is_free}

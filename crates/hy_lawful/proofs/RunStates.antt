@@ -13,21 +13,12 @@ use Rattle.hy_bound.specs.declared.Record.{Record}
 use Rattle.hy_bound.specs.declared.Reply.{Reply}
 use Rattle.hy_render.specs.declared.Ending.{Ending}
 use Rattle.hy_machine.specs.declared.Setting.{Setting}
-use Rattle.hy_machine.specs.declared.State.{State}
-use Rattle.hy_machine.specs.declared.Session.{Session}
-use Rattle.hy_machine.specs.declared.Open.{Open}
-use Rattle.hy_machine.specs.declared.Begun.{Begun}
-use Rattle.hy_machine.specs.declared.Finished.{Finished}
-use Rattle.hy_machine.specs.declared.Entry.{Entry}
-use Rattle.hy_machine.specs.declared.Write.{Write}
-use Rattle.hy_machine.specs.declared.Phase.TheVariants.{Working, Stamping}
-use Rattle.hy_machine.specs.declared.Turn.{Turn}
-use Rattle.hy_machine.specs.declared.Turn.TheVariants.{Done, Waits, Begins, Visits, Answers, Enters, Ends}
-use Rattle.hy_machine.specs.Tables.{Tables, history, opening_tables, over}
-use Rattle.hy_machine.specs.Writes.{blank_own, with_writes}
+use Rattle.hy_machine.specs.States.{State, Session, Open, Begun, Finished, Working, Stamping}
+use Rattle.hy_machine.specs.Tables.{Entry, Tables, history, opening_tables, over}
+use Rattle.hy_machine.specs.Writes.{Write, blank_own, with_writes}
+use Rattle.hy_machine.specs.Turns.{Turn, Done, Waits, Begins, Visits, Answers, Enters, Ends, unless_blocked, session_turn, phase_turn}
 use Rattle.hy_machine.specs.Sessions.{session_at, txn_at, blocker, least_with, least_prefix, entry_of}
 use Rattle.hy_machine.specs.Outcomes.{statements_in}
-use Rattle.hy_machine.specs.Turns.{unless_blocked, session_turn, phase_turn}
 use Rattle.hy_machine.specs.Steps.{with_session, beginning, after_visit, after_answer, done_with, order_with, after_turn, step_of}
 use Rattle.hy_machine.specs.Runs.{opening_of, after_steps, IsReached}
 use Rattle.hy_replay.specs.Ran.{Ran}

@@ -8,11 +8,10 @@ use Rattle.hy_stamp.specs.declared.Label.{Label}
 use Rattle.hy_bound.specs.declared.WriteKind.{WriteKind}
 use Rattle.hy_bound.specs.Condition.{Condition}
 use Rattle.hy_bound.specs.Predicate.{truth_of}
-use Rattle.hy_machine.specs.declared.Write.{Write}
-use Rattle.hy_machine.specs.declared.Cause.{Cause}
+use Rattle.hy_machine.specs.Writes.{Write, with_write, with_writes}
+use Rattle.hy_machine.specs.States.{Cause}
 use Rattle.hy_machine.specs.Positions.{item_at}
 use Rattle.hy_machine.specs.Tables.{Cell, Tables, Own, overlaid, covered, covered_tables, over}
-use Rattle.hy_machine.specs.Writes.{with_write, with_writes}
 use Rattle.hy_machine.specs.Visits.{new_cell, judged, verdict, write_of, and_write, sweep}
 
 -- ---- lists laid over tables

@@ -16,16 +16,9 @@ use Rattle.hy_bound.specs.declared.WriteKind.TheVariants as kind
 use Rattle.hy_meaning.specs.Statement.{answer_of, grouped}
 use Rattle.hy_render.specs.declared.Ending.TheVariants as ways
 use Rattle.hy_machine.specs.declared.Setting.{Setting}
-use Rattle.hy_machine.specs.declared.State.{State}
-use Rattle.hy_machine.specs.declared.Begun.{Begun}
-use Rattle.hy_machine.specs.declared.Cause.{Cause}
-use Rattle.hy_machine.specs.declared.Cause.TheVariants.{RolledBack, Conflict, Invalid, Range, Full}
-use Rattle.hy_machine.specs.declared.Phase.{Phase}
-use Rattle.hy_machine.specs.declared.Phase.TheVariants.{Working, Stamping, Undoing}
-use Rattle.hy_machine.specs.declared.Turn.{Turn}
-use Rattle.hy_machine.specs.declared.Turn.TheVariants.{Ends}
-use Rattle.hy_machine.specs.declared.Entry.{Entry}
-use Rattle.hy_machine.specs.Tables.{Cell, Tables, Own, over}
+use Rattle.hy_machine.specs.States.{State, Begun, Cause, RolledBack, Conflict, Invalid, Range, Full, Phase, Working, Stamping, Undoing}
+use Rattle.hy_machine.specs.Turns.{Turn, Ends}
+use Rattle.hy_machine.specs.Tables.{Entry, Cell, Tables, Own, over}
 use Rattle.hy_machine.specs.Writes.{wrote_nothing, written_chunks}
 use Rattle.hy_machine.specs.Sessions.{session_at, snapshot, view, blocker}
 use Rattle.hy_machine.specs.Validation.{committed_of, first_hit}

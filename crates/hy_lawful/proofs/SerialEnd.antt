@@ -11,8 +11,7 @@ use Rattle.hy_render.specs.declared.Ending.{Ending}
 use Rattle.hy_render.specs.declared.Ending.TheVariants.{Committed, Read, RolledBack, Conflict, Invalid, Range, Full}
 use Rattle.hy_render.specs.declared.Committed.{Committed as Committing}
 use Rattle.hy_machine.specs.declared.Setting.{Setting}
-use Rattle.hy_machine.specs.declared.State.{State}
-use Rattle.hy_machine.specs.declared.Finished.{Finished}
+use Rattle.hy_machine.specs.States.{State, Finished}
 use Rattle.hy_machine.specs.Tables.{over}
 use Rattle.hy_machine.specs.Sessions.{session_at, snapshot}
 use Rattle.hy_machine.specs.Validation.{committed_of}

@@ -14,10 +14,8 @@ use Rattle.hy_render.specs.declared.Ending.{Ending}
 use Rattle.hy_render.specs.declared.TxnOutcome.{TxnOutcome}
 use Rattle.hy_render.specs.declared.Committed.{Committed as Committing}
 use Rattle.hy_machine.specs.declared.Setting.{Setting}
-use Rattle.hy_machine.specs.declared.State.{State}
-use Rattle.hy_machine.specs.declared.Finished.{Finished}
-use Rattle.hy_machine.specs.declared.Entry.{Entry}
-use Rattle.hy_machine.specs.Tables.{Tables, history, opening_tables}
+use Rattle.hy_machine.specs.States.{State, Finished}
+use Rattle.hy_machine.specs.Tables.{Entry, Tables, history, opening_tables}
 use Rattle.hy_machine.specs.Sessions.{session_at, snapshot}
 use Rattle.hy_machine.specs.Writes.{written}
 use Rattle.hy_machine.specs.Validation.{committed_of}

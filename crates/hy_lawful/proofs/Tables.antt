@@ -9,13 +9,10 @@ use Rattle.std.proofs.lemmas.List.{length-append, length-map, length-set}
 use Rattle.hy_value.specs.declared.Value.{Value}
 use Rattle.hy_render.specs.declared.Place.{Place}
 use Rattle.hy_machine.specs.declared.Setting.{Setting}
-use Rattle.hy_machine.specs.declared.State.{State}
-use Rattle.hy_machine.specs.declared.Begun.{Begun}
-use Rattle.hy_machine.specs.declared.Write.{Write}
-use Rattle.hy_machine.specs.declared.Pair.{Pair}
+use Rattle.hy_machine.specs.States.{State, Begun}
+use Rattle.hy_machine.specs.Writes.{Write, blank_own, with_write, with_writes, wrote_nothing, place_at, written}
+use Rattle.hy_machine.specs.Tables.{Pair, Cell, Tables, Own, capacity}
 use Rattle.hy_machine.specs.Positions.{by_position, by_table, item_at}
-use Rattle.hy_machine.specs.Tables.{Cell, Tables, Own, capacity}
-use Rattle.hy_machine.specs.Writes.{blank_own, with_write, with_writes, wrote_nothing, place_at, written}
 use Rattle.hy_machine.specs.Sessions.{pairs_from, entry_cells, entry_of, snapshot}
 use Rattle.hy_lawful.proofs.Fits.{FitsTables}
 use Rattle.hy_lawful.proofs.Booleans.{or_left, or_right, not_false, not_true}

@@ -8,17 +8,10 @@ use Rattle.std.proofs.lemmas.List.Elements.{recursion_from_All}
 use Rattle.hy_bound.specs.declared.Txn.{Txn}
 use Rattle.hy_stamp.specs.declared.Label.{Label}
 use Rattle.hy_machine.specs.declared.Setting.{Setting}
-use Rattle.hy_machine.specs.declared.State.{State}
-use Rattle.hy_machine.specs.declared.Session.{Session}
-use Rattle.hy_machine.specs.declared.Open.{Open}
-use Rattle.hy_machine.specs.declared.Begun.{Begun}
-use Rattle.hy_machine.specs.declared.Entry.{Entry}
-use Rattle.hy_machine.specs.declared.Phase.TheVariants.{Working, Stamping}
-use Rattle.hy_machine.specs.declared.Turn.{Turn}
-use Rattle.hy_machine.specs.declared.Turn.TheVariants.{Done, Waits, Begins, Visits, Answers, Enters, Ends}
-use Rattle.hy_machine.specs.Tables.{Cell}
+use Rattle.hy_machine.specs.States.{State, Session, Open, Begun, Working, Stamping}
+use Rattle.hy_machine.specs.Tables.{Entry, Cell}
+use Rattle.hy_machine.specs.Turns.{Turn, Done, Waits, Begins, Visits, Answers, Enters, Ends, unless_blocked, session_turn, phase_turn}
 use Rattle.hy_machine.specs.Sessions.{session_at, program_of, txn_at, blocker, snapshot, view, entry_of}
-use Rattle.hy_machine.specs.Turns.{unless_blocked, session_turn, phase_turn}
 use Rattle.hy_machine.specs.Steps.{with_session, beginning, after_visit, after_answer, done_with, order_with, after_turn, step_of}
 use Rattle.hy_machine.specs.Runs.{opening_of, after_steps, IsReached}
 use Rattle.hy_lawful.specs.Rows.{Demand, StatementMeets, SettingMeets, RowsMeet, ReachedEntriesStand}

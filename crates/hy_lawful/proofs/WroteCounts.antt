@@ -10,11 +10,10 @@ use Rattle.hy_value.specs.declared.Value.{Value}
 use Rattle.hy_bound.specs.declared.WriteKind.{WriteKind}
 use Rattle.hy_bound.specs.Condition.{Condition}
 use Rattle.hy_render.specs.declared.Place.{Place}
-use Rattle.hy_machine.specs.declared.Write.{Write}
-use Rattle.hy_machine.specs.declared.Cause.{Cause}
+use Rattle.hy_machine.specs.Writes.{Write, with_write, with_writes, place_at, written}
+use Rattle.hy_machine.specs.States.{Cause}
 use Rattle.hy_machine.specs.Positions.{item_at, by_position, by_table}
 use Rattle.hy_machine.specs.Tables.{Cell, Own}
-use Rattle.hy_machine.specs.Writes.{with_write, with_writes, place_at, written}
 use Rattle.hy_machine.specs.Visits.{verdict, write_of, sweep}
 use Rattle.hy_lawful.proofs.Lists.{all_so}
 use Rattle.hy_lawful.proofs.RunSweeps.{AndWritten, and_written}

@@ -11,12 +11,9 @@ use Rattle.hy_bound.specs.Predicate.{truth_at}
 use Rattle.hy_render.specs.declared.Ending.{Ending}
 use Rattle.hy_render.specs.declared.Ending.TheVariants.{Committed, Read, RolledBack, Conflict, Invalid, Range, Full}
 use Rattle.hy_machine.specs.declared.Setting.{Setting}
-use Rattle.hy_machine.specs.declared.Begun.{Begun}
-use Rattle.hy_machine.specs.declared.Pair.{Pair}
-use Rattle.hy_machine.specs.declared.Entry.{Entry}
-use Rattle.hy_machine.specs.declared.Finished.{Finished}
+use Rattle.hy_machine.specs.States.{Begun, Finished}
+use Rattle.hy_machine.specs.Tables.{Pair, Entry, Cell, Tables, Own, capacity, covered, over}
 use Rattle.hy_machine.specs.Positions.{item_at}
-use Rattle.hy_machine.specs.Tables.{Cell, Tables, Own, capacity, covered, over}
 use Rattle.hy_machine.specs.Writes.{blank_own, written}
 use Rattle.hy_machine.specs.Visits.{verdict}
 use Rattle.hy_replay.specs.Laws.{AreTables}

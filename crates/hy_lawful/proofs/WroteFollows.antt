@@ -4,11 +4,10 @@ use Rattle.std.proofs.Common.{get_or, refl, ap, sym, ◌∙◌, subst, arith, in
 use Rattle.std.proofs.Math.ListN.{set}
 use Rattle.std.specs.List.{range_with_len}
 use Rattle.std.proofs.lemmas.Bool.{cases_lt}
-use Rattle.hy_machine.specs.declared.Write.{Write}
-use Rattle.hy_machine.specs.declared.Cause.{Cause}
+use Rattle.hy_machine.specs.Writes.{Write, with_write, with_writes}
+use Rattle.hy_machine.specs.States.{Cause}
 use Rattle.hy_machine.specs.Positions.{item_at}
 use Rattle.hy_machine.specs.Tables.{Cell, Own}
-use Rattle.hy_machine.specs.Writes.{with_write, with_writes}
 use Rattle.hy_machine.specs.Visits.{write_of, sweep}
 use Rattle.hy_replay.specs.Ran.{one}
 use Rattle.hy_lawful.specs.Written.{writes}

@@ -15,10 +15,8 @@ use Rattle.hy_bound.specs.Condition.{Condition}
 use Rattle.hy_render.specs.declared.Ending.{Ending}
 use Rattle.hy_render.specs.declared.Ending.TheVariants.{Committed, Read, RolledBack, Conflict, Invalid, Range, Full}
 use Rattle.hy_machine.specs.declared.Setting.{Setting}
-use Rattle.hy_machine.specs.declared.Begun.{Begun}
-use Rattle.hy_machine.specs.declared.Entry.{Entry}
-use Rattle.hy_machine.specs.declared.Finished.{Finished}
-use Rattle.hy_machine.specs.Tables.{Cell, Tables, Own, capacity}
+use Rattle.hy_machine.specs.States.{Begun, Finished}
+use Rattle.hy_machine.specs.Tables.{Entry, Cell, Tables, Own, capacity}
 use Rattle.hy_machine.specs.Writes.{blank_own, written}
 use Rattle.hy_machine.specs.Outcomes.{placed_by, placed_in, placed_from}
 use Rattle.hy_replay.specs.Ran.{One, Ran, one, ran_from}

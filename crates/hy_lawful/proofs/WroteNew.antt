@@ -16,13 +16,10 @@ use Rattle.hy_bound.specs.Condition.{Condition}
 use Rattle.hy_render.specs.declared.Ending.{Ending}
 use Rattle.hy_render.specs.declared.Ending.TheVariants.{Committed, Read, RolledBack, Conflict, Invalid, Range, Full}
 use Rattle.hy_machine.specs.declared.Setting.{Setting}
-use Rattle.hy_machine.specs.declared.Write.{Write}
-use Rattle.hy_machine.specs.declared.Begun.{Begun}
-use Rattle.hy_machine.specs.declared.Entry.{Entry}
-use Rattle.hy_machine.specs.declared.Finished.{Finished}
+use Rattle.hy_machine.specs.Writes.{Write, blank_own, with_write, with_writes}
+use Rattle.hy_machine.specs.States.{Begun, Finished}
+use Rattle.hy_machine.specs.Tables.{Entry, Cell, Tables, Own, capacity, covered, over}
 use Rattle.hy_machine.specs.Positions.{item_at}
-use Rattle.hy_machine.specs.Tables.{Cell, Tables, Own, capacity, covered, over}
-use Rattle.hy_machine.specs.Writes.{blank_own, with_write, with_writes}
 use Rattle.hy_machine.specs.Outcomes.{inserts_into, placed_by, placed_in}
 use Rattle.hy_machine.specs.Visits.{verdict}
 use Rattle.hy_replay.specs.Laws.{AreTables}

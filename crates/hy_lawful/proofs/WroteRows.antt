@@ -18,11 +18,10 @@ use Rattle.hy_bound.specs.Condition.{Condition}
 use Rattle.hy_bound.specs.Predicate.{truth_of, truth_at}
 use Rattle.hy_bound.specs.Assignment.{assigned}
 use Rattle.hy_machine.specs.declared.Setting.{Setting}
-use Rattle.hy_machine.specs.declared.Write.{Write}
-use Rattle.hy_machine.specs.declared.Cause.{Cause}
+use Rattle.hy_machine.specs.Writes.{Write, with_write, with_writes}
+use Rattle.hy_machine.specs.States.{Cause}
 use Rattle.hy_machine.specs.Positions.{item_at}
 use Rattle.hy_machine.specs.Tables.{Cell, Tables, Own, capacity, covered, over}
-use Rattle.hy_machine.specs.Writes.{with_write, with_writes}
 use Rattle.hy_machine.specs.Visits.{new_cell, judged, verdict}
 use Rattle.hy_replay.specs.Laws.{AreTables}
 use Rattle.hy_replay.specs.Ran.{One, Ran, has_key_at, placed_at, writes_at, changed_by, one, ran_from}

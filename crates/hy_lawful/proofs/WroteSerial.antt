@@ -9,10 +9,9 @@ use Rattle.hy_render.specs.declared.Ending.TheVariants.{Committed}
 use Rattle.hy_render.specs.declared.TxnOutcome.{TxnOutcome}
 use Rattle.hy_render.specs.declared.Committed.{Committed as Committing}
 use Rattle.hy_machine.specs.declared.Setting.{Setting}
-use Rattle.hy_machine.specs.declared.Entry.{Entry}
-use Rattle.hy_machine.specs.declared.Finished.{Finished}
+use Rattle.hy_machine.specs.Tables.{Entry, Cell, Tables}
+use Rattle.hy_machine.specs.States.{Finished}
 use Rattle.hy_render.specs.declared.Place.{Place}
-use Rattle.hy_machine.specs.Tables.{Cell, Tables}
 use Rattle.hy_machine.specs.Writes.{written}
 use Rattle.hy_machine.specs.Validation.{committed_of}
 use Rattle.hy_machine.specs.Outcomes.{txn_outcome_of}

@@ -1,7 +1,7 @@
 -- That each state that the machine comes to is kept: the sentences that the engine takes of the machine alone hold of it.
 use Rattle.std.specs.Prelude.{◌≡◌, length}
 use Rattle.hy_machine.specs.declared.Setting.{Setting}
-use Rattle.hy_machine.specs.declared.State.{State}
+use Rattle.hy_machine.specs.States.{State}
 use Rattle.hy_machine.specs.Runs.{IsReached}
 use Rattle.hy_kept.specs.Kept.{Kept}
 

@@ -10,10 +10,8 @@ use Rattle.hy_render.specs.declared.Ending.TheVariants.{Committed, Read, RolledB
 use Rattle.hy_render.specs.declared.TxnOutcome.{TxnOutcome}
 use Rattle.hy_render.specs.declared.Outcome.{Outcome}
 use Rattle.hy_machine.specs.declared.Setting.{Setting}
-use Rattle.hy_machine.specs.declared.State.{State}
-use Rattle.hy_machine.specs.declared.Open.{Open}
-use Rattle.hy_machine.specs.declared.Entry.{Entry}
-use Rattle.hy_machine.specs.Tables.{capacity}
+use Rattle.hy_machine.specs.States.{State, Open}
+use Rattle.hy_machine.specs.Tables.{Entry, capacity}
 use Rattle.hy_machine.specs.Sessions.{session_at, label_of}
 use Rattle.hy_machine.specs.Outcomes.{outcome_of}
 use Rattle.hy_machine.specs.Runs.{after_steps, IsReached, all_ended_from}

@@ -4,9 +4,7 @@ use Rattle.std.specs.Prelude.{◌≡◌, ℕ, suc, ◌<◌, ◌≤◌, List, Som
 use Rattle.std.specs.List.{AllByRecursion}
 use Rattle.hy_bound.specs.declared.Bound.{Bound}
 use Rattle.hy_machine.specs.declared.Setting.{Setting}
-use Rattle.hy_machine.specs.declared.State.{State}
-use Rattle.hy_machine.specs.declared.Begun.{Begun}
-use Rattle.hy_machine.specs.declared.Finished.{Finished}
+use Rattle.hy_machine.specs.States.{State, Begun, Finished}
 use Rattle.hy_machine.specs.Tables.{over}
 use Rattle.hy_machine.specs.Sessions.{session_at, program_of, snapshot}
 use Rattle.hy_machine.specs.Outcomes.{statements_in}

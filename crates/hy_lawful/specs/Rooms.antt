@@ -1,8 +1,7 @@
 -- How many positions of a table a transaction placed: it wrote them where no row was at its start.
 use Rattle.std.specs.Prelude.{◌≡◌, ℕ, zero, suc, ◌+◌, ◌≤◌, Bool, not, ◌&&◌, if◌then◌else◌, is_some, Some, slice_get}
 use Rattle.hy_machine.specs.declared.Setting.{Setting}
-use Rattle.hy_machine.specs.declared.State.{State}
-use Rattle.hy_machine.specs.declared.Finished.{Finished}
+use Rattle.hy_machine.specs.States.{State, Finished}
 use Rattle.hy_machine.specs.Positions.{item_at}
 use Rattle.hy_machine.specs.Tables.{Tables, Own, capacity}
 use Rattle.hy_machine.specs.Sessions.{session_at, snapshot}

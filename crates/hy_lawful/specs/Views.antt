@@ -8,8 +8,7 @@ use Rattle.hy_bound.specs.Agreement.{FitTable, FitTables, HaveTheirKeys, HaveWid
 use Rattle.hy_bound.specs.Fits.{FitsShape, FitsStatement}
 use Rattle.hy_bound.specs.Records.{shape_of}
 use Rattle.hy_machine.specs.declared.Setting.{Setting}
-use Rattle.hy_machine.specs.declared.State.{State}
-use Rattle.hy_machine.specs.declared.Open.{Open}
+use Rattle.hy_machine.specs.States.{State, Open}
 use Rattle.hy_machine.specs.Tables.{Tables}
 use Rattle.hy_machine.specs.Sessions.{snapshot, view}
 use Rattle.hy_machine.specs.Turns.{rows_seen}

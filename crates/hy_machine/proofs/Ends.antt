@@ -8,16 +8,9 @@ use Rattle.hy_bound.specs.declared.Txn.{Txn}
 use Rattle.hy_stamp.specs.declared.Label.{Label}
 use Rattle.hy_schedule.specs.declared.Item.{Item}
 use Rattle.hy_machine.specs.declared.Setting.{Setting}
-use Rattle.hy_machine.specs.declared.State.{State}
-use Rattle.hy_machine.specs.declared.Session.{Session}
-use Rattle.hy_machine.specs.declared.Finished.{Finished}
-use Rattle.hy_machine.specs.declared.Open.{Open}
-use Rattle.hy_machine.specs.declared.Phase.{Phase}
-use Rattle.hy_machine.specs.declared.Phase.TheVariants.{Stamping}
-use Rattle.hy_machine.specs.declared.Turn.{Turn}
-use Rattle.hy_machine.specs.declared.Turn.TheVariants.{Done, Waits, Begins, Visits, Answers, Enters, Ends}
+use Rattle.hy_machine.specs.States.{State, Session, Finished, Open, Phase, Stamping}
+use Rattle.hy_machine.specs.Turns.{Turn, Done, Waits, Begins, Visits, Answers, Enters, Ends, turn, phase_turn, session_turn, unless_blocked}
 use Rattle.hy_machine.specs.Sessions.{fresh, session_at, program_of, txn_at, has_ended, blocker_of, blocker}
-use Rattle.hy_machine.specs.Turns.{turn, phase_turn, session_turn, unless_blocked}
 use Rattle.hy_machine.specs.Steps.{after_turn, step_of, with_open, beginning, after_visit, after_answer, with_changed, with_ended}
 use Rattle.hy_machine.specs.Measures.{later_left, txns_left, steps_left, all_left, measure_of}
 use Rattle.hy_machine.specs.Runs.{is_moved, moves, whole_of, round_from, round_of, all_ended_from, repeated, opening_of, items_of, run_of, RunsEnd}

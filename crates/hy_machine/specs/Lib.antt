@@ -1,6 +1,7 @@
 pub mod Positions
 pub mod Tables
 pub mod Writes
+pub mod States
 pub mod Sessions
 pub mod Holding
 pub mod Validation

@@ -9,9 +9,7 @@ use Rattle.hy_bound.specs.Changes.{present}
 use Rattle.hy_render.specs.declared.TxnOutcome.{TxnOutcome}
 use Rattle.hy_render.specs.declared.Outcome.{Outcome}
 use Rattle.hy_machine.specs.declared.Setting.{Setting}
-use Rattle.hy_machine.specs.declared.State.{State}
-use Rattle.hy_machine.specs.declared.Session.{Session}
-use Rattle.hy_machine.specs.declared.Finished.{Finished}
+use Rattle.hy_machine.specs.States.{State, Session, Finished}
 use Rattle.hy_machine.specs.Tables.{Cell, history, opening_tables}
 use Rattle.hy_machine.specs.Writes.{written}
 use Rattle.hy_machine.specs.Sessions.{program_of}

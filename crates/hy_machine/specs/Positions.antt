@@ -1,5 +1,5 @@
 -- Lists with something at some of their positions, and what is last in a list.
-use Rattle.std.specs.Prelude.{ℕ, zero, suc, ◌<◌, ◌≤◌, List, [], ◌∷◌, ◌++◌, Option, None, Some, ◌==◌, nat_lt, if◌then◌else◌, slice_index_or}
+use Rattle.std.specs.Prelude.{ℕ, suc, List, [], ◌∷◌, ◌++◌, Option, None, Some, slice_index_or}
 use Rattle.std.specs.Option.{option_or}
 
 -- what stands at a position of a table's list; nothing where there is no such position
@@ -25,17 +25,3 @@ by_place f lists = by_table f 0 lists
 abbrev pub last_some : {A B : Type 0} → (A → Option B) → List A → Option B
 last_some f [] = None
 last_some f (x ∷ xs) = option_or (last_some f xs) (f x)
-
--- ---- lists that are kept as what there is
-
--- numbered things stand at ascending positions from the first one on, before the end
-abbrev pub Ascends : {A : Type 0} → ℕ → ℕ → List (ℕ × A) → Type 0
-Ascends first end [] = Unit {0}
-Ascends first end (item ∷ items) = (first ≤ item.0) × (item.0 < end) × Ascends (suc item.0) end items
-
--- so many positions from this one on, with numbered things at theirs and nothing elsewhere
-abbrev pub spread : {A : Type 0} → ℕ → ℕ → List (ℕ × A) → List (Option A)
-spread pos zero items = []
-spread pos (suc left) [] = None ∷ spread (suc pos) left []
-spread pos (suc left) (item ∷ items) =
-    if item.0 == pos then Some item.1 ∷ spread (suc pos) left items else None ∷ spread (suc pos) left (item ∷ items)

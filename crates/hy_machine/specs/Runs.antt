@@ -2,8 +2,7 @@
 use Rattle.std.specs.Prelude.{◌≡◌, ℕ, zero, suc, ◌<◌, List, [], ◌∷◌, length, None, Bool, true, false, ◌&&◌, if◌then◌else◌, map}
 use Rattle.hy_schedule.specs.declared.Item.{Item}
 use Rattle.hy_machine.specs.declared.Setting.{Setting}
-use Rattle.hy_machine.specs.declared.State.{State}
-use Rattle.hy_machine.specs.declared.Session.{Session}
+use Rattle.hy_machine.specs.States.{State, Session}
 use Rattle.hy_machine.specs.declared.Stepped.{Stepped}
 use Rattle.hy_machine.specs.declared.Stepped.TheVariants.{Blocked, Moved, Answered, Ended}
 use Rattle.hy_machine.specs.Sessions.{fresh, session_at, has_ended}

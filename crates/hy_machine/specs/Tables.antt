@@ -2,8 +2,7 @@
 use Rattle.std.specs.Prelude.{ℕ, ◌*◌, ◌/◌, List, [], ◌∷◌, Option, None, Some, map, slice_get}
 use Rattle.std.specs.List.{range_with_len}
 use Rattle.hy_value.specs.declared.Value.{Value}
-use Rattle.hy_machine.specs.declared.Pair.{Pair}
-use Rattle.hy_machine.specs.declared.Entry.{Entry}
+use Rattle.hy_stamp.specs.declared.Label.{Label}
 use Rattle.hy_machine.specs.declared.Setting.{Setting}
 
 -- a position: a row, or none
@@ -17,6 +16,17 @@ Tables = List (List Cell)
 -- what a transaction wrote, by table and position: nothing, or a cell
 abbrev pub Own : Type 0
 Own = List (List (Option Cell))
+
+-- what an entry of the commit order did at a position: the cell that its transaction saw at its start, and the one
+-- that it left
+pub record Pair : Type 0 where
+  pub before : Cell
+  pub after : Cell
+
+-- an entry of the commit order: the transaction that committed, and what it did, by table and position
+pub record Entry : Type 0 where
+  pub label : Label
+  pub cells : List (List (Option Pair))
 
 -- how many positions a table has
 abbrev pub capacity : Setting → ℕ

@@ -7,6 +7,7 @@ use Rattle.hy_bound.specs.declared.Bound.{Bound}
 use Rattle.hy_bound.specs.declared.Bound.TheVariants.{Select, Group, Insert, Update, Delete}
 use Rattle.hy_bound.specs.declared.WriteKind.{WriteKind}
 use Rattle.hy_bound.specs.declared.WriteKind.TheVariants as kind
+use Rattle.hy_bound.specs.declared.Record.{Record}
 use Rattle.hy_bound.specs.declared.Reply.{Reply}
 use Rattle.hy_bound.specs.declared.Reply.TheVariants as reply
 use Rattle.hy_bound.specs.Changes.{present}
@@ -17,21 +18,25 @@ use Rattle.hy_stamp.specs.declared.Label.{Label}
 use Rattle.hy_render.specs.declared.Ending.{Ending}
 use Rattle.hy_render.specs.declared.Ending.TheVariants as ending
 use Rattle.hy_machine.specs.declared.Setting.{Setting}
-use Rattle.hy_machine.specs.declared.State.{State}
-use Rattle.hy_machine.specs.declared.Open.{Open}
-use Rattle.hy_machine.specs.declared.Begun.{Begun}
-use Rattle.hy_machine.specs.declared.Write.{Write}
-use Rattle.hy_machine.specs.declared.Cause.{Cause}
-use Rattle.hy_machine.specs.declared.Cause.TheVariants.{RolledBack, Conflict, Invalid, Range, Full}
-use Rattle.hy_machine.specs.declared.Phase.{Phase}
-use Rattle.hy_machine.specs.declared.Phase.TheVariants.{Working, Stamping, Undoing}
-use Rattle.hy_machine.specs.declared.Turn.{Turn}
-use Rattle.hy_machine.specs.declared.Turn.TheVariants.{Done, Waits, Begins, Visits, Answers, Enters, Ends}
+use Rattle.hy_machine.specs.States.{State, Open, Begun, Cause, RolledBack, Conflict, Invalid, Range, Full, Phase, Working, Stamping, Undoing}
+use Rattle.hy_machine.specs.Writes.{Write, wrote_nothing, written_chunks}
 use Rattle.hy_machine.specs.Tables.{Tables}
-use Rattle.hy_machine.specs.Writes.{wrote_nothing, written_chunks}
 use Rattle.hy_machine.specs.Sessions.{session_at, txn_at, blocker, view}
 use Rattle.hy_machine.specs.Validation.{committed_of, first_hit}
 use Rattle.hy_machine.specs.Visits.{swept, sees_key, free_position, checks_of}
+
+-- what a session does next: nothing, its script being at its end; it waits for a transaction that stands between the
+-- entry of its commit and its end; it begins its next transaction; its open transaction writes, and goes on to a phase
+-- without an answer, or answers its present statement, an INSERT with the position that it took; the entry of its open
+-- transaction goes into the commit order; its open transaction ends
+pub data Turn : Type 0 where
+  Done : Turn
+  Waits : (by : Label) → Turn
+  Begins : Turn
+  Visits : (writes : List Write) (phase : Phase) → Turn
+  Answers : (writes : List Write) (reply : Reply) (took : Option ℕ) (records : List Record) → Turn
+  Enters : Turn
+  Ends : (ending : Ending) → Turn
 
 -- ---- statements
 

@@ -6,12 +6,9 @@ use Rattle.hy_bound.specs.Records.{is_hit}
 use Rattle.hy_change.specs.declared.Change.{Change}
 use Rattle.hy_render.specs.declared.Committed.{Committed}
 use Rattle.hy_stamp.specs.declared.Label.{Label}
-use Rattle.hy_machine.specs.declared.Cause.{Cause}
-use Rattle.hy_machine.specs.declared.Cause.TheVariants.{Invalid}
-use Rattle.hy_machine.specs.declared.Entry.{Entry}
-use Rattle.hy_machine.specs.declared.Pair.{Pair}
+use Rattle.hy_machine.specs.States.{Cause, Invalid}
+use Rattle.hy_machine.specs.Tables.{Entry, Pair, Cell}
 use Rattle.hy_machine.specs.Positions.{by_place}
-use Rattle.hy_machine.specs.Tables.{Cell}
 
 -- the change at a position: absent before and after is none
 abbrev pub change_between : ℕ → ℕ → Cell → Cell → List Change

@@ -14,11 +14,8 @@ use Rattle.hy_bound.specs.Assignment.{assigned}
 use Rattle.hy_meaning.specs.Statement.{has_key_of}
 use Rattle.hy_stamp.specs.declared.Label.{Label}
 use Rattle.hy_machine.specs.declared.Setting.{Setting}
-use Rattle.hy_machine.specs.declared.State.{State}
-use Rattle.hy_machine.specs.declared.Begun.{Begun}
-use Rattle.hy_machine.specs.declared.Write.{Write}
-use Rattle.hy_machine.specs.declared.Cause.{Cause}
-use Rattle.hy_machine.specs.declared.Cause.TheVariants.{Conflict, Range}
+use Rattle.hy_machine.specs.States.{State, Begun, Cause, Conflict, Range}
+use Rattle.hy_machine.specs.Writes.{Write}
 use Rattle.hy_machine.specs.Positions.{item_at}
 use Rattle.hy_machine.specs.Tables.{Cell, positions_in}
 use Rattle.hy_machine.specs.Sessions.{view}

@@ -4,9 +4,14 @@ use Rattle.std.specs.Prelude.{◌==◌, Option, None, Some, is_some, map, filter
 use Rattle.std.specs.List.{list_any, range_with_len}
 use Rattle.hy_render.specs.declared.Place.{Place}
 use Rattle.hy_machine.specs.declared.Setting.{Setting}
-use Rattle.hy_machine.specs.declared.Write.{Write}
 use Rattle.hy_machine.specs.Positions.{by_place}
 use Rattle.hy_machine.specs.Tables.{Cell, Own, capacity, positions_in}
+
+-- that a transaction writes a cell at a position: the row that stands there from then on, or none
+pub record Write : Type 0 where
+  pub table : ℕ
+  pub pos : ℕ
+  pub cell : Cell
 
 -- nothing is written
 abbrev pub blank_own : Setting → Own

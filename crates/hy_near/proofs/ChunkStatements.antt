@@ -19,9 +19,8 @@ use Rattle.hy_event.specs.declared.Phase.TheVariants as phase
 use Rattle.hy_event.specs.Ended.{statements_in}
 use Rattle.hy_event.specs.Needs.{need_of, session_need, phase_need, working_need, statement_need, checks_of}
 use Rattle.hy_machine.specs.declared.Setting.{Setting}
-use Rattle.hy_machine.specs.declared.State.{State}
-use Rattle.hy_machine.specs.declared.Phase.{Phase as Stage}
-use Rattle.hy_machine.specs.declared.Phase.TheVariants as stage
+use Rattle.hy_machine.specs.States.{State, Phase as Stage}
+use Rattle.hy_machine.specs.States as stage
 use Rattle.hy_machine.specs.Sessions.{program_of}
 use Rattle.hy_kept.specs.Kept.{PhaseFits, visits_in}
 use Rattle.hy_session.specs.Near.{IsTyped, HasVisitLeft, present_statement}

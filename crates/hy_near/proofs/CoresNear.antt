@@ -5,7 +5,7 @@ use Rattle.hy_event.specs.declared.SessionData.{SessionData}
 use Rattle.hy_event.specs.declared.Open.{Open}
 use Rattle.hy_event.specs.Events.{Part}
 use Rattle.hy_machine.specs.declared.Setting.{Setting}
-use Rattle.hy_machine.specs.declared.State.{State}
+use Rattle.hy_machine.specs.States.{State}
 use Rattle.hy_kept.specs.Kept.{Kept}
 use Rattle.hy_lawful.specs.Kept.{ReachedAreKept}
 use Rattle.hy_session.specs.Near.{IsActive}

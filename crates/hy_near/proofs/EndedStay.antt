@@ -16,7 +16,7 @@ use Rattle.hy_event.specs.declared.Need.TheVariants.{Core, Chunk, Done}
 use Rattle.hy_event.specs.Sessions.{txn_at as txn_here, written_chunks}
 use Rattle.hy_event.specs.Needs.{checks_of, statement_need, chunk_or_core, written_need, working_need, phase_need, session_need, need_of}
 use Rattle.hy_machine.specs.declared.Setting.{Setting}
-use Rattle.hy_machine.specs.declared.State.{State}
+use Rattle.hy_machine.specs.States.{State}
 use Rattle.hy_machine.specs.declared.Stepped.TheVariants.{Ended}
 use Rattle.hy_machine.specs.Sessions.{session_at, txn_at}
 use Rattle.hy_machine.specs.Steps.{after_turn, step_of}

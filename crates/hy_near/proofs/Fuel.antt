@@ -7,10 +7,7 @@ use Rattle.std.proofs.lemmas.Option.{same_Some}
 use Rattle.hy_bound.specs.declared.Txn.{Txn}
 use Rattle.hy_schedule.specs.declared.Item.{Item}
 use Rattle.hy_machine.specs.declared.Setting.{Setting}
-use Rattle.hy_machine.specs.declared.State.{State}
-use Rattle.hy_machine.specs.declared.Open.{Open}
-use Rattle.hy_machine.specs.declared.Phase.{Phase}
-use Rattle.hy_machine.specs.declared.Phase.TheVariants.{Working, Stamping, Undoing}
+use Rattle.hy_machine.specs.States.{State, Open, Phase, Working, Stamping, Undoing}
 use Rattle.hy_machine.specs.declared.Stepped.TheVariants.{Ended}
 use Rattle.hy_machine.specs.Sessions.{session_at, program_of, txn_at}
 use Rattle.hy_machine.specs.Turns.{session_turn}

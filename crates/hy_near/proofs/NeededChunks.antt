@@ -25,9 +25,8 @@ use Rattle.hy_event.specs.Sessions.{txn_at as txn_here, lies_in, chunks_in_table
 use Rattle.hy_event.specs.Needs.{checks_of as checks_here, insert_need, statement_need, chunk_or_core, written_need, working_need, phase_need}
 use Rattle.hy_event.specs.Needs.{session_need}
 use Rattle.hy_machine.specs.declared.Setting.{Setting}
-use Rattle.hy_machine.specs.declared.State.{State}
-use Rattle.hy_machine.specs.declared.Phase.{Phase as Stage}
-use Rattle.hy_machine.specs.declared.Phase.TheVariants as stage
+use Rattle.hy_machine.specs.States.{State, Phase as Stage}
+use Rattle.hy_machine.specs.States as stage
 use Rattle.hy_machine.specs.Sessions.{session_at}
 use Rattle.hy_machine.specs.Visits.{checks_of}
 use Rattle.hy_kept.specs.Kept.{Kept, PhaseFits, visits_in}

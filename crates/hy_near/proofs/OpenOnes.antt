@@ -15,9 +15,7 @@ use Rattle.hy_event.specs.declared.Open.{Open}
 use Rattle.hy_event.specs.Events.{Part}
 use Rattle.hy_event.specs.Sessions.{txn_at as txn_of}
 use Rattle.hy_machine.specs.declared.Setting.{Setting}
-use Rattle.hy_machine.specs.declared.State.{State}
-use Rattle.hy_machine.specs.declared.Finished.{Finished}
-use Rattle.hy_machine.specs.declared.Open.{Open as Current}
+use Rattle.hy_machine.specs.States.{State, Finished, Open as Current}
 use Rattle.hy_machine.specs.Sessions.{session_at, program_of, txn_at}
 use Rattle.hy_machine.specs.Outcomes.{outcomes_from}
 use Rattle.hy_kept.specs.Kept.{Kept, IsNow, PhaseFits}

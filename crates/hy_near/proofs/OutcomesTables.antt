@@ -14,11 +14,9 @@ use Rattle.hy_undo.specs.Chunks.{rows_seen}
 use Rattle.hy_event.specs.declared.SessionData.{SessionData}
 use Rattle.hy_event.specs.Events.{Part}
 use Rattle.hy_machine.specs.declared.Setting.{Setting}
-use Rattle.hy_machine.specs.declared.State.{State}
-use Rattle.hy_machine.specs.declared.Entry.{Entry}
-use Rattle.hy_machine.specs.declared.Pair.{Pair}
+use Rattle.hy_machine.specs.States.{State}
+use Rattle.hy_machine.specs.Tables.{Entry, Pair, Cell, Tables, capacity, overlaid, covered, covered_tables, after_entry, history, laid_out, opening_tables}
 use Rattle.hy_machine.specs.Positions.{item_at}
-use Rattle.hy_machine.specs.Tables.{Cell, Tables, capacity, overlaid, covered, covered_tables, after_entry, history, laid_out, opening_tables}
 use Rattle.hy_machine.specs.Sessions.{snapshot}
 use Rattle.hy_machine.specs.Outcomes.{rows_sorted}
 use Rattle.hy_shows.specs.Stamped.{is_unstamped_by, entries_counted}

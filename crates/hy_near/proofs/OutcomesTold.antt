@@ -12,10 +12,8 @@ use Rattle.hy_journal.specs.declared.CoreData.{CoreData}
 use Rattle.hy_journal.specs.declared.Entry.{Entry}
 use Rattle.hy_event.specs.declared.SessionData.{SessionData}
 use Rattle.hy_machine.specs.declared.Setting.{Setting}
-use Rattle.hy_machine.specs.declared.State.{State}
-use Rattle.hy_machine.specs.declared.Session.{Session}
-use Rattle.hy_machine.specs.declared.Open.{Open as Current}
-use Rattle.hy_machine.specs.declared.Entry.{Entry as Entered}
+use Rattle.hy_machine.specs.States.{State, Session, Open as Current}
+use Rattle.hy_machine.specs.Tables.{Entry as Entered}
 use Rattle.hy_machine.specs.Outcomes.{outcomes_from, all_outcomes_from, outcome_of}
 use Rattle.hy_machine.specs.Validation.{committed_of}
 use Rattle.hy_kept.specs.Kept.{Kept, IsNow}

@@ -1,7 +1,7 @@
 -- How long the engine's loops go on: a fixed number of steps or rounds is as good as the machine's own bounds.
 use Rattle.std.specs.Prelude.{◌≡◌, ℕ, ◌-◌, ◌^◌}
 use Rattle.hy_machine.specs.declared.Setting.{Setting}
-use Rattle.hy_machine.specs.declared.State.{State}
+use Rattle.hy_machine.specs.States.{State}
 use Rattle.hy_machine.specs.Runs.{IsReached, moves, repeated, rounds_of, whole_of}
 use Rattle.hy_machine.specs.Steps.{step_of}
 use Rattle.hy_near.specs.Runnable.{IsRunnable}

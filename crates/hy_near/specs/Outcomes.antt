@@ -18,7 +18,7 @@ use Rattle.hy_event.specs.declared.Need.TheVariants.{Core, Chunk, Done}
 use Rattle.hy_event.specs.Needs.{need_of}
 use Rattle.hy_event.specs.Events.{Part, ChunkPart, CorePart}
 use Rattle.hy_machine.specs.declared.Setting.{Setting}
-use Rattle.hy_machine.specs.declared.State.{State}
+use Rattle.hy_machine.specs.States.{State}
 use Rattle.hy_machine.specs.Outcomes.{outcome_of}
 use Rattle.hy_machine.specs.Runs.{all_ended_from}
 use Rattle.hy_near.specs.Runnable.{IsShown}

@@ -4,7 +4,7 @@ use Rattle.hy_bound.specs.Fits.{Fits}
 use Rattle.hy_event.specs.declared.SessionData.{SessionData}
 use Rattle.hy_event.specs.Events.{Part}
 use Rattle.hy_machine.specs.declared.Setting.{Setting}
-use Rattle.hy_machine.specs.declared.State.{State}
+use Rattle.hy_machine.specs.States.{State}
 use Rattle.hy_machine.specs.Runs.{IsReached}
 use Rattle.hy_shows.specs.Shows.{Shows}
 

@@ -8,7 +8,7 @@ use Rattle.hy_event.specs.declared.Progress.{Progress}
 use Rattle.hy_event.specs.Needs.{need_of}
 use Rattle.hy_event.specs.Events.{Part, ChunkPart, part_number, NeededVisit}
 use Rattle.hy_machine.specs.declared.Setting.{Setting}
-use Rattle.hy_machine.specs.declared.State.{State}
+use Rattle.hy_machine.specs.States.{State}
 use Rattle.hy_machine.specs.declared.Stepped.TheVariants.{Ended}
 use Rattle.hy_machine.specs.Steps.{step_of}
 use Rattle.hy_shows.specs.Taken.{stepped_of}

@@ -5,8 +5,8 @@ use Rattle.hy_value.specs.declared.Value.{Value}
 use Rattle.hy_value.specs.declared.Value.TheVariants.{Null}
 use Rattle.hy_bound.specs.Condition.{True}
 use Rattle.hy_bound.specs.Fits.{FitsShape}
-use Rattle.hy_machine.specs.declared.Cause.{Cause}
-use Rattle.hy_machine.specs.declared.Write.{Write}
+use Rattle.hy_machine.specs.States.{Cause}
+use Rattle.hy_machine.specs.Writes.{Write}
 use Rattle.hy_machine.specs.Positions.{item_at}
 use Rattle.hy_machine.specs.Validation.{record_hit}
 use Rattle.hy_meaning.specs.Serial.{Alone}

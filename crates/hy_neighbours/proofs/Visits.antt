@@ -1,7 +1,7 @@
 -- An UPDATE that visits a position twice counts its row twice.
 use Rattle.std.proofs.Common.{◌≡◌, ℕ, [], ◌∷◌, Some, Result, Ok, Err, ap, arith}
 use Rattle.hy_bound.specs.Condition.{True}
-use Rattle.hy_machine.specs.declared.Cause.{Cause}
+use Rattle.hy_machine.specs.States.{Cause}
 use Rattle.hy_replay.specs.EffectVisits.{Visited}
 use Rattle.hy_neighbours.specs.Examples.{row_of}
 use Rattle.hy_neighbours.specs.Visits.{RevisitsAddUp, to_two}

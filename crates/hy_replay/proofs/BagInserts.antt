@@ -19,10 +19,9 @@ use Rattle.hy_bound.specs.Records.{shape_of}
 use Rattle.hy_plan.specs.Reads.{records_of}
 use Rattle.hy_meaning.specs.Statement.{Table, Database, rows_in, has_key_of, mean}
 use Rattle.hy_machine.specs.declared.Setting.{Setting}
-use Rattle.hy_machine.specs.declared.Write.{Write}
+use Rattle.hy_machine.specs.Writes.{Write, with_write}
 use Rattle.hy_machine.specs.Positions.{item_at}
 use Rattle.hy_machine.specs.Tables.{Cell, Tables, Own, capacity, over}
-use Rattle.hy_machine.specs.Writes.{with_write}
 use Rattle.hy_replay.specs.Ran.{One, has_key_at, placed_at}
 use Rattle.hy_replay.specs.BagLaws.{IsPosition}
 use Rattle.hy_replay.proofs.OverCells.{Alike, HavePositions, few_positions, positions_there, write_alike, over_write, over_none}

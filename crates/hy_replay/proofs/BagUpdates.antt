@@ -20,14 +20,13 @@ use Rattle.hy_bound.specs.Changes.{present}
 use Rattle.hy_bound.specs.Predicate.{truth_of}
 use Rattle.hy_plan.specs.Reads.{records_of}
 use Rattle.hy_meaning.specs.Statement.{Table, rows_in, gathered_by, updated_rows, with_table}
-use Rattle.hy_machine.specs.declared.Cause.{Cause}
+use Rattle.hy_machine.specs.States.{Cause}
 use Rattle.hy_machine.specs.declared.Setting.{Setting}
-use Rattle.hy_machine.specs.declared.Write.{Write}
+use Rattle.hy_machine.specs.Writes.{Write, with_writes}
 use Rattle.hy_machine.specs.Positions.{item_at}
 use Rattle.hy_machine.specs.Tables.{Tables, Own, capacity, over}
 use Rattle.hy_machine.specs.Turns.{told_by}
 use Rattle.hy_machine.specs.Visits.{verdict}
-use Rattle.hy_machine.specs.Writes.{with_writes}
 use Rattle.hy_replay.specs.Ran.{One, writes_at, changed_by}
 use Rattle.hy_replay.proofs.OverCells.{Alike, HavePositions, few_positions, writes_alike, over_writes}
 use Rattle.hy_replay.proofs.Presents.{rows_of, rows_at}

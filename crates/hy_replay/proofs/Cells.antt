@@ -10,10 +10,9 @@ use Rattle.hy_bound.specs.Agreement.{HaveWidth}
 use Rattle.hy_bound.specs.Changes.{present}
 use Rattle.hy_bound.specs.Records.{shape_of}
 use Rattle.hy_machine.specs.declared.Setting.{Setting}
-use Rattle.hy_machine.specs.declared.Write.{Write}
+use Rattle.hy_machine.specs.Writes.{Write, blank_own, with_write, with_writes}
 use Rattle.hy_machine.specs.Positions.{item_at}
 use Rattle.hy_machine.specs.Tables.{Cell, Tables, Own, capacity, overlaid, covered, over}
-use Rattle.hy_machine.specs.Writes.{blank_own, with_write, with_writes}
 use Rattle.hy_replay.specs.Laws.{AreTables, HaveWidths}
 
 -- ---- lists laid over lists

@@ -4,11 +4,10 @@ use Rattle.std.proofs.Common.{get_or, refl, ap, sym, ◌∙◌, arith, append_as
 use Rattle.std.proofs.Math.ListN.{set}
 use Rattle.std.specs.List.{AllByRecursion, range_with_len}
 use Rattle.std.proofs.lemmas.List.{get_or-set_other}
-use Rattle.hy_machine.specs.declared.Write.{Write}
-use Rattle.hy_machine.specs.declared.Cause.{Cause}
+use Rattle.hy_machine.specs.Writes.{Write, with_write, with_writes}
+use Rattle.hy_machine.specs.States.{Cause}
 use Rattle.hy_machine.specs.Positions.{item_at}
 use Rattle.hy_machine.specs.Tables.{Cell, Tables, Own, overlaid, covered, over}
-use Rattle.hy_machine.specs.Writes.{with_write, with_writes}
 use Rattle.hy_machine.specs.Visits.{write_of, and_write, sweep}
 
 -- ---- what stands behind writes

@@ -8,14 +8,13 @@ use Rattle.hy_bound.specs.declared.WriteKind.{WriteKind}
 use Rattle.hy_bound.specs.declared.WriteKind.TheVariants as kind
 use Rattle.hy_bound.specs.Condition.{Condition}
 use Rattle.hy_plan.specs.Reads.{records_of}
-use Rattle.hy_machine.specs.declared.Cause.{Cause}
+use Rattle.hy_machine.specs.States.{Cause}
 use Rattle.hy_machine.specs.declared.Setting.{Setting}
-use Rattle.hy_machine.specs.declared.Write.{Write}
+use Rattle.hy_machine.specs.Writes.{Write, with_writes}
 use Rattle.hy_machine.specs.Positions.{item_at}
 use Rattle.hy_machine.specs.Tables.{Cell, Tables, Own, capacity, over, positions_in}
 use Rattle.hy_machine.specs.Turns.{told_by}
 use Rattle.hy_machine.specs.Visits.{verdict, sweep}
-use Rattle.hy_machine.specs.Writes.{with_writes}
 use Rattle.hy_replay.specs.Ran.{changed_by, writes_at}
 use Rattle.hy_replay.specs.EffectUnseen.{change_of}
 use Rattle.hy_replay.specs.EffectVisits.{Visited, visited_by, visit, then_visit, by_chunks, answered_by, VisitsAddUp, ChunksAddUp, ChangesByChunks}

@@ -14,12 +14,11 @@ use Rattle.hy_bound.specs.Predicate.{column_of, truth_at}
 use Rattle.hy_bound.specs.Records.{shape_of}
 use Rattle.hy_plan.specs.Reads.{key_is_value, key_reads_of, recorded, records_of}
 use Rattle.hy_machine.specs.declared.Setting.{Setting}
-use Rattle.hy_machine.specs.declared.Write.{Write}
+use Rattle.hy_machine.specs.Writes.{Write, with_write}
 use Rattle.hy_machine.specs.Positions.{item_at}
 use Rattle.hy_machine.specs.Tables.{Cell, Tables, Own, capacity, over}
 use Rattle.hy_machine.specs.Validation.{record_hit}
 use Rattle.hy_machine.specs.Visits.{has_key_in}
-use Rattle.hy_machine.specs.Writes.{with_write}
 use Rattle.hy_replay.specs.Laws.{DifferUnseen}
 use Rattle.hy_replay.specs.Ran.{One, has_key_at, placed_at}
 use Rattle.hy_replay.proofs.Cells.{tables_shape, no_item, where_is, written_at, HasWidth, width_at}

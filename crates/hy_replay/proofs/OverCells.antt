@@ -4,10 +4,9 @@ use Rattle.std.proofs.Math.ListN.{set}
 use Rattle.std.specs.List.{AllByRecursion}
 use Rattle.std.proofs.lemmas.List.{length-set, set-get_or}
 use Rattle.hy_value.specs.declared.Value.{Value}
-use Rattle.hy_machine.specs.declared.Write.{Write}
+use Rattle.hy_machine.specs.Writes.{Write, with_write, with_writes}
 use Rattle.hy_machine.specs.Positions.{item_at}
 use Rattle.hy_machine.specs.Tables.{Cell, Tables, Own, overlaid, covered, over}
-use Rattle.hy_machine.specs.Writes.{with_write, with_writes}
 
 -- own writes have as many tables and positions as the tables
 abbrev pub Alike : Tables → Own → Type 0

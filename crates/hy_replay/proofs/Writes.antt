@@ -9,14 +9,13 @@ use Rattle.hy_bound.specs.declared.Shape.{Shape}
 use Rattle.hy_bound.specs.declared.WriteKind.{WriteKind}
 use Rattle.hy_bound.specs.Condition.{Condition}
 use Rattle.hy_bound.specs.Records.{shape_of}
-use Rattle.hy_machine.specs.declared.Cause.{Cause}
+use Rattle.hy_machine.specs.States.{Cause}
 use Rattle.hy_machine.specs.declared.Setting.{Setting}
-use Rattle.hy_machine.specs.declared.Write.{Write}
+use Rattle.hy_machine.specs.Writes.{Write, with_writes}
 use Rattle.hy_machine.specs.Positions.{item_at}
 use Rattle.hy_machine.specs.Tables.{Cell, Tables, Own, capacity, over}
 use Rattle.hy_machine.specs.Turns.{told_by}
 use Rattle.hy_machine.specs.Visits.{new_cell, verdict}
-use Rattle.hy_machine.specs.Writes.{with_writes}
 use Rattle.hy_replay.specs.Laws.{AreTables, HaveWidths, DifferUnseen}
 use Rattle.hy_replay.specs.Ran.{One, writes_at, changed_by}
 use Rattle.hy_replay.proofs.Cells.{HasShape, tables_shape, over_shape, there_is, IsWithin, writes_own, HasWidth, OwnWidth, width_at}

@@ -14,11 +14,10 @@ use Rattle.hy_bound.specs.Predicate.{truth_at}
 use Rattle.hy_bound.specs.Records.{shape_of}
 use Rattle.hy_plan.specs.Reads.{records_of}
 use Rattle.hy_machine.specs.declared.Setting.{Setting}
-use Rattle.hy_machine.specs.declared.Write.{Write}
+use Rattle.hy_machine.specs.Writes.{Write, with_writes}
 use Rattle.hy_machine.specs.Positions.{item_at}
 use Rattle.hy_machine.specs.Tables.{Cell, Tables, Own, capacity, over}
 use Rattle.hy_machine.specs.Validation.{record_hit}
-use Rattle.hy_machine.specs.Writes.{with_writes}
 use Rattle.hy_replay.specs.Laws.{AreTables, HaveWidths, DifferUnseen}
 use Rattle.hy_replay.specs.Ran.{One, Ran, has_key_at, one, ran, writes_at}
 

@@ -5,12 +5,11 @@ use Rattle.hy_bound.specs.declared.Record.{Record}
 use Rattle.hy_bound.specs.declared.WriteKind.{WriteKind}
 use Rattle.hy_bound.specs.Condition.{Condition}
 use Rattle.hy_plan.specs.Reads.{records_of}
-use Rattle.hy_machine.specs.declared.Cause.{Cause}
+use Rattle.hy_machine.specs.States.{Cause}
 use Rattle.hy_machine.specs.declared.Setting.{Setting}
-use Rattle.hy_machine.specs.declared.Write.{Write}
+use Rattle.hy_machine.specs.Writes.{Write, with_writes}
 use Rattle.hy_machine.specs.Tables.{Tables, Own, over, positions_in}
 use Rattle.hy_machine.specs.Turns.{told_by}
-use Rattle.hy_machine.specs.Writes.{with_writes}
 use Rattle.hy_replay.specs.Ran.{One, one, writes_at}
 use Rattle.hy_replay.specs.EffectUnseen.{change_of}
 

@@ -16,11 +16,10 @@ use Rattle.hy_bound.specs.Records.{shape_of}
 use Rattle.hy_plan.specs.Reads.{records_of}
 use Rattle.hy_meaning.specs.Statement.{answer_of, grouped}
 use Rattle.hy_machine.specs.declared.Setting.{Setting}
-use Rattle.hy_machine.specs.declared.Write.{Write}
-use Rattle.hy_machine.specs.declared.Cause.{Cause}
+use Rattle.hy_machine.specs.Writes.{Write, blank_own, with_write, with_writes}
+use Rattle.hy_machine.specs.States.{Cause}
 use Rattle.hy_machine.specs.Positions.{item_at}
 use Rattle.hy_machine.specs.Tables.{Tables, Own, capacity, over}
-use Rattle.hy_machine.specs.Writes.{blank_own, with_write, with_writes}
 use Rattle.hy_machine.specs.Visits.{verdict, sweep, has_key_in}
 use Rattle.hy_machine.specs.Turns.{rows_seen, told_by}
 

@@ -23,8 +23,8 @@ use Rattle.hy_render.specs.declared.TxnOutcome.{TxnOutcome}
 use Rattle.hy_render.specs.declared.Committed.{Committed as Entry}
 use Rattle.hy_render.specs.declared.Outcome.{Outcome}
 use Rattle.hy_render.specs.Named.{IsPrinted, IsNamedPlace, IsNamedEnding, IsNamedTxn, IsNamedChange, IsNamedEntry, IsNamed}
-use Rattle.hy_machine.specs.declared.Cause.{Cause}
-use Rattle.hy_machine.specs.declared.Cause.TheVariants as cause
+use Rattle.hy_machine.specs.States.{Cause}
+use Rattle.hy_machine.specs.States as cause
 use Rattle.hy_machine.specs.declared.Setting.{Setting}
 use Rattle.hy_machine.specs.Validation.{invalid_at, record_hit, hit_among, first_hit}
 use Rattle.hy_lawful.specs.Scripts.{numbered, txn_of, statements_in, statements_of, labels_of, labels_from}

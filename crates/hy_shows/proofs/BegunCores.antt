@@ -15,8 +15,7 @@ use Rattle.hy_event.specs.declared.Phase.{Phase}
 use Rattle.hy_event.specs.declared.Phase.TheVariants as phase
 use Rattle.hy_event.specs.Coring.{beginning}
 use Rattle.hy_machine.specs.declared.Setting.{Setting}
-use Rattle.hy_machine.specs.declared.State.{State}
-use Rattle.hy_machine.specs.declared.Open.{Open as Current}
+use Rattle.hy_machine.specs.States.{State, Open as Current}
 use Rattle.hy_machine.specs.Sessions.{session_at, label_of}
 use Rattle.hy_shows.specs.Transactions.{IsOpen, OfOpen}
 use Rattle.hy_shows.specs.Numbers.{IsStart, StampingShows, CoreShows}

@@ -14,10 +14,7 @@ use Rattle.hy_event.specs.declared.SessionData.{SessionData}
 use Rattle.hy_event.specs.declared.Open.{Open}
 use Rattle.hy_event.specs.Coring.{beginning}
 use Rattle.hy_machine.specs.declared.Setting.{Setting}
-use Rattle.hy_machine.specs.declared.State.{State}
-use Rattle.hy_machine.specs.declared.Session.{Session}
-use Rattle.hy_machine.specs.declared.Open.{Open as Current}
-use Rattle.hy_machine.specs.declared.Phase.TheVariants.{Working}
+use Rattle.hy_machine.specs.States.{State, Session, Open as Current, Working}
 use Rattle.hy_machine.specs.Positions.{item_at}
 use Rattle.hy_machine.specs.Tables.{capacity, chunk_of}
 use Rattle.hy_machine.specs.Writes.{blank_own, written_chunks, is_among}

@@ -5,8 +5,7 @@ use Rattle.std.specs.Option.{option_map}
 use Rattle.std.proofs.lemmas.Bool.{cases_eq, eq-eqb, ne_eqb, and_from}
 use Rattle.hy_stamp.specs.declared.Label.{Label}
 use Rattle.hy_journal.specs.Core.{other_than}
-use Rattle.hy_machine.specs.declared.State.{State}
-use Rattle.hy_machine.specs.declared.Session.{Session}
+use Rattle.hy_machine.specs.States.{State, Session}
 use Rattle.hy_machine.specs.Sessions.{session_at, label_of, blocker_of}
 use Rattle.hy_shows.specs.Waiting.{BlockersAreTheMachines}
 use Rattle.hy_shows.proofs.Holders.{same_label}

@@ -5,12 +5,9 @@ use Rattle.std.proofs.lemmas.Bool.{cases_Bool, cases_lt}
 use Rattle.hy_value.specs.declared.Value.{Value}
 use Rattle.hy_stamp.specs.declared.Label.{Label}
 use Rattle.hy_machine.specs.declared.Setting.{Setting}
-use Rattle.hy_machine.specs.declared.State.{State}
-use Rattle.hy_machine.specs.declared.Open.{Open}
-use Rattle.hy_machine.specs.declared.Begun.{Begun}
-use Rattle.hy_machine.specs.declared.Entry.{Entry}
+use Rattle.hy_machine.specs.States.{State, Open, Begun}
+use Rattle.hy_machine.specs.Tables.{Entry, Cell}
 use Rattle.hy_machine.specs.Positions.{item_at}
-use Rattle.hy_machine.specs.Tables.{Cell}
 use Rattle.hy_machine.specs.Sessions.{snapshot, pair_of}
 use Rattle.hy_machine.specs.Holding.{has_pair, changes_row}
 use Rattle.hy_kept.specs.Kept.{Kept, IsNow, IsAtOrOpen, ended, at_work, IsRanked, committed, entered}

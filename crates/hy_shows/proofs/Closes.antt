@@ -19,11 +19,9 @@ use Rattle.hy_event.specs.Sessions.{place_noted, written_in, written}
 use Rattle.hy_event.specs.Turns.{with_ended as ended_here}
 use Rattle.hy_event.specs.Events.{Part, CorePart}
 use Rattle.hy_machine.specs.declared.Setting.{Setting}
-use Rattle.hy_machine.specs.declared.State.{State}
-use Rattle.hy_machine.specs.declared.Open.{Open as Current}
-use Rattle.hy_machine.specs.declared.Phase.{Phase as Stage}
-use Rattle.hy_machine.specs.declared.Phase.TheVariants as stage
-use Rattle.hy_machine.specs.declared.Turn.TheVariants.{Ends}
+use Rattle.hy_machine.specs.States.{State, Open as Current, Phase as Stage}
+use Rattle.hy_machine.specs.States as stage
+use Rattle.hy_machine.specs.Turns.{Ends}
 use Rattle.hy_machine.specs.Writes.{written as written_there}
 use Rattle.hy_machine.specs.Sessions.{session_at, label_of, blocker_of}
 use Rattle.hy_machine.specs.Steps.{after_turn}

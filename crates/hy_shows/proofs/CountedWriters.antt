@@ -5,8 +5,8 @@ use Rattle.hy_stamp.specs.declared.Stamp.{Stamp}
 use Rattle.hy_journal.specs.declared.CoreData.{CoreData}
 use Rattle.hy_journal.specs.declared.Entry.{Entry as Noted}
 use Rattle.hy_machine.specs.declared.Setting.{Setting}
-use Rattle.hy_machine.specs.declared.State.{State}
-use Rattle.hy_machine.specs.declared.Entry.{Entry}
+use Rattle.hy_machine.specs.States.{State}
+use Rattle.hy_machine.specs.Tables.{Entry}
 use Rattle.hy_shows.specs.Stamped.{entries_counted}
 use Rattle.hy_shows.specs.Places.{IsOfWriter, IsLastWriter}
 

@@ -10,11 +10,9 @@ use Rattle.hy_journal.specs.declared.CoreData.{CoreData}
 use Rattle.hy_journal.specs.declared.Entry.{Entry as Noted}
 use Rattle.hy_event.specs.declared.SessionData.{SessionData}
 use Rattle.hy_machine.specs.declared.Setting.{Setting}
-use Rattle.hy_machine.specs.declared.State.{State}
-use Rattle.hy_machine.specs.declared.Open.{Open as Current}
-use Rattle.hy_machine.specs.declared.Entry.{Entry}
+use Rattle.hy_machine.specs.States.{State, Open as Current}
+use Rattle.hy_machine.specs.Tables.{Entry, Cell, opening_tables}
 use Rattle.hy_machine.specs.Positions.{item_at}
-use Rattle.hy_machine.specs.Tables.{Cell, opening_tables}
 use Rattle.hy_machine.specs.Sessions.{session_at, snapshot}
 use Rattle.hy_machine.specs.Holding.{has_pair}
 use Rattle.hy_shows.specs.Stamped.{entries_counted}

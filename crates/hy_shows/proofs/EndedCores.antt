@@ -19,9 +19,7 @@ use Rattle.hy_event.specs.Sessions.{written}
 use Rattle.hy_event.specs.Ended.{outcome_of}
 use Rattle.hy_event.specs.Turns.{with_ended as ended_here, done_with as done_here}
 use Rattle.hy_machine.specs.declared.Setting.{Setting}
-use Rattle.hy_machine.specs.declared.State.{State}
-use Rattle.hy_machine.specs.declared.Session.{Session}
-use Rattle.hy_machine.specs.declared.Open.{Open as Current}
+use Rattle.hy_machine.specs.States.{State, Session, Open as Current}
 use Rattle.hy_machine.specs.Writes.{written as written_there}
 use Rattle.hy_machine.specs.Sessions.{fresh, session_at, program_of, txn_at, view}
 use Rattle.hy_machine.specs.Steps.{with_ended, done_with}

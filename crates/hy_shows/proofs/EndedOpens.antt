@@ -9,9 +9,7 @@ use Rattle.hy_render.specs.declared.Ending.{Ending}
 use Rattle.hy_event.specs.declared.SessionData.{SessionData}
 use Rattle.hy_event.specs.declared.Open.{Open}
 use Rattle.hy_event.specs.Turns.{with_ended as ended_here}
-use Rattle.hy_machine.specs.declared.State.{State}
-use Rattle.hy_machine.specs.declared.Session.{Session}
-use Rattle.hy_machine.specs.declared.Open.{Open as Current}
+use Rattle.hy_machine.specs.States.{State, Session, Open as Current}
 use Rattle.hy_machine.specs.Sessions.{fresh, session_at}
 use Rattle.hy_machine.specs.Steps.{with_session, with_ended, without_mark}
 use Rattle.hy_shows.specs.Transactions.{IsOpen, OfOpen}

@@ -17,8 +17,7 @@ use Rattle.hy_event.specs.declared.Open.{Open}
 use Rattle.hy_event.specs.Sessions.{txn_at, label_of, written}
 use Rattle.hy_event.specs.Ended.{inserts_into, placed_in, statements_in, outcome_of}
 use Rattle.hy_machine.specs.declared.Setting.{Setting}
-use Rattle.hy_machine.specs.declared.Open.{Open as Current}
-use Rattle.hy_machine.specs.declared.Finished.{Finished}
+use Rattle.hy_machine.specs.States.{Open as Current, Finished}
 use Rattle.hy_machine.specs.Writes.{written as written_there}
 use Rattle.hy_machine.specs.Sessions.{program_of}
 use Rattle.hy_machine.specs.Outcomes.{inserts_into as inserts_there, placed_by, placed_in as placed_there, placed_from, statements_in as statements_there}

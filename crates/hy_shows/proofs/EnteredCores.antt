@@ -13,10 +13,8 @@ use Rattle.hy_event.specs.declared.Open.{Open}
 use Rattle.hy_event.specs.declared.Phase.TheVariants as phase
 use Rattle.hy_event.specs.Sessions.{label_of as label_here, written}
 use Rattle.hy_machine.specs.declared.Setting.{Setting}
-use Rattle.hy_machine.specs.declared.State.{State}
-use Rattle.hy_machine.specs.declared.Finished.{Finished}
-use Rattle.hy_machine.specs.declared.Open.{Open as Current}
-use Rattle.hy_machine.specs.declared.Entry.{Entry}
+use Rattle.hy_machine.specs.States.{State, Finished, Open as Current}
+use Rattle.hy_machine.specs.Tables.{Entry}
 use Rattle.hy_machine.specs.Writes.{written as written_there}
 use Rattle.hy_machine.specs.Sessions.{snapshot, entry_of}
 use Rattle.hy_kept.specs.Kept.{Kept, is_stamping}

@@ -23,12 +23,9 @@ use Rattle.hy_event.specs.declared.SessionData.{SessionData}
 use Rattle.hy_event.specs.declared.Open.{Open}
 use Rattle.hy_event.specs.Sessions.{label_of as label_here, viewer_of}
 use Rattle.hy_machine.specs.declared.Setting.{Setting}
-use Rattle.hy_machine.specs.declared.State.{State}
-use Rattle.hy_machine.specs.declared.Session.{Session}
-use Rattle.hy_machine.specs.declared.Open.{Open as Current}
-use Rattle.hy_machine.specs.declared.Entry.{Entry}
+use Rattle.hy_machine.specs.States.{State, Session, Open as Current}
+use Rattle.hy_machine.specs.Tables.{Entry, Tables, opening_tables, chunk_of, over}
 use Rattle.hy_machine.specs.Positions.{item_at, last_some}
-use Rattle.hy_machine.specs.Tables.{Tables, opening_tables, chunk_of, over}
 use Rattle.hy_machine.specs.Writes.{written_chunks, is_among}
 use Rattle.hy_machine.specs.Sessions.{session_at, snapshot, view, entry_of}
 use Rattle.hy_machine.specs.Holding.{holds, is_held, has_pair, undone}

@@ -6,9 +6,8 @@ use Rattle.hy_event.specs.declared.Open.{Open}
 use Rattle.hy_event.specs.declared.Phase.TheVariants as phase
 use Rattle.hy_event.specs.Sessions.{written}
 use Rattle.hy_machine.specs.declared.Setting.{Setting}
-use Rattle.hy_machine.specs.declared.State.{State}
-use Rattle.hy_machine.specs.declared.Open.{Open as Current}
-use Rattle.hy_machine.specs.declared.Phase.TheVariants as stage
+use Rattle.hy_machine.specs.States.{State, Open as Current}
+use Rattle.hy_machine.specs.States as stage
 use Rattle.hy_machine.specs.Tables.{opening_tables, history}
 use Rattle.hy_machine.specs.Sessions.{snapshot, entry_of}
 use Rattle.hy_shows.specs.Transactions.{IsOpen}

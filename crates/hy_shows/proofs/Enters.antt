@@ -14,11 +14,9 @@ use Rattle.hy_event.specs.Sessions.{label_of as label_here, written}
 use Rattle.hy_event.specs.Turns.{after_entry}
 use Rattle.hy_event.specs.Events.{Part, CorePart}
 use Rattle.hy_machine.specs.declared.Setting.{Setting}
-use Rattle.hy_machine.specs.declared.State.{State}
-use Rattle.hy_machine.specs.declared.Open.{Open as Current}
-use Rattle.hy_machine.specs.declared.Phase.{Phase as Stage}
-use Rattle.hy_machine.specs.declared.Phase.TheVariants as stage
-use Rattle.hy_machine.specs.declared.Turn.TheVariants.{Enters}
+use Rattle.hy_machine.specs.States.{State, Open as Current, Phase as Stage}
+use Rattle.hy_machine.specs.States as stage
+use Rattle.hy_machine.specs.Turns.{Enters}
 use Rattle.hy_machine.specs.Writes.{written as written_there}
 use Rattle.hy_machine.specs.Sessions.{session_at}
 use Rattle.hy_machine.specs.Holding.{undone}

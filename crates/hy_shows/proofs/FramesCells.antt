@@ -17,12 +17,8 @@ use Rattle.hy_event.specs.declared.Phase.TheVariants as phase
 use Rattle.hy_event.specs.Sessions.{viewer_of}
 use Rattle.hy_event.specs.Events.{Part}
 use Rattle.hy_machine.specs.declared.Setting.{Setting}
-use Rattle.hy_machine.specs.declared.State.{State}
-use Rattle.hy_machine.specs.declared.Begun.{Begun}
-use Rattle.hy_machine.specs.declared.Entry.{Entry}
-use Rattle.hy_machine.specs.declared.Pair.{Pair}
-use Rattle.hy_machine.specs.declared.Open.{Open as Current}
-use Rattle.hy_machine.specs.Tables.{Cell, Tables, capacity, laid_out, after_entry, history, opening_tables}
+use Rattle.hy_machine.specs.States.{State, Begun, Open as Current}
+use Rattle.hy_machine.specs.Tables.{Entry, Pair, Cell, Tables, capacity, laid_out, after_entry, history, opening_tables}
 use Rattle.hy_machine.specs.Sessions.{snapshot, view}
 use Rattle.hy_shows.specs.Taken.{AtChunk}
 use Rattle.hy_shows.proofs.Orders.{dropped_get}

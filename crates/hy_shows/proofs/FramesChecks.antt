@@ -23,8 +23,7 @@ use Rattle.hy_event.specs.Turns.{Step, after_turn, answer_turn, goes_on, after_v
 use Rattle.hy_event.specs.declared.Phase.TheVariants as phase
 use Rattle.hy_event.specs.Inserting.{sees_key, CheckVisit}
 use Rattle.hy_machine.specs.declared.Setting.{Setting}
-use Rattle.hy_machine.specs.declared.State.{State}
-use Rattle.hy_machine.specs.declared.Open.{Open as Current}
+use Rattle.hy_machine.specs.States.{State, Open as Current}
 use Rattle.hy_machine.specs.Positions.{item_at}
 use Rattle.hy_machine.specs.Tables.{positions_in}
 use Rattle.hy_machine.specs.Sessions.{session_at, txn_at, view}

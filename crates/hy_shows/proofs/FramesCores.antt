@@ -10,10 +10,7 @@ use Rattle.hy_event.specs.declared.SessionData.{SessionData}
 use Rattle.hy_event.specs.declared.Open.{Open}
 use Rattle.hy_event.specs.declared.Phase.TheVariants as phase
 use Rattle.hy_machine.specs.declared.Setting.{Setting}
-use Rattle.hy_machine.specs.declared.State.{State}
-use Rattle.hy_machine.specs.declared.Session.{Session}
-use Rattle.hy_machine.specs.declared.Finished.{Finished}
-use Rattle.hy_machine.specs.declared.Open.{Open as Current}
+use Rattle.hy_machine.specs.States.{State, Session, Finished, Open as Current}
 use Rattle.hy_machine.specs.Sessions.{session_at, label_of}
 use Rattle.hy_kept.specs.Begun.{count_open, count_begun}
 use Rattle.hy_shows.specs.Transactions.{IsOpen, OfOpen}

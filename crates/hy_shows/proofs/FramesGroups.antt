@@ -30,8 +30,7 @@ use Rattle.hy_event.specs.Sessions.{viewer_of}
 use Rattle.hy_event.specs.Gathering.{ReadPlan, group_part, group_read_plan}
 use Rattle.hy_event.specs.Reading.{ReadVisit, PlannedVisit, Reads, gathered_with}
 use Rattle.hy_machine.specs.declared.Setting.{Setting}
-use Rattle.hy_machine.specs.declared.State.{State}
-use Rattle.hy_machine.specs.declared.Open.{Open as Current}
+use Rattle.hy_machine.specs.States.{State, Open as Current}
 use Rattle.hy_machine.specs.Sessions.{view}
 use Rattle.hy_machine.specs.Turns.{rows_seen as rows_there, read_turn as read_turn_there}
 use Rattle.hy_shows.specs.Sessions.{SessionIs, GatheredBy, gathered_after}

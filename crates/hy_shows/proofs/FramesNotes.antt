@@ -6,10 +6,9 @@ use Rattle.std.proofs.lemmas.Bool.{cases_eq, eq-eqb, ne_eqb, and_from}
 use Rattle.hy_change.specs.declared.Change.{Change}
 use Rattle.hy_notes.specs.Notes.{Cell, with_note, note_at}
 use Rattle.hy_notes.specs.Telling.{NotesTell, before_or}
-use Rattle.hy_machine.specs.declared.Write.{Write}
+use Rattle.hy_machine.specs.Writes.{Write, with_write}
 use Rattle.hy_machine.specs.Positions.{item_at}
 use Rattle.hy_machine.specs.Tables.{Own}
-use Rattle.hy_machine.specs.Writes.{with_write}
 use Rattle.hy_machine.specs.Sessions.{snapshot, view, pair_of}
 use Rattle.hy_shows.specs.Numbers.{noted}
 use Rattle.hy_shows.specs.Frames.{NotesFollowWrites}

@@ -18,8 +18,7 @@ use Rattle.hy_event.specs.Gathering.{ReadPlan}
 use Rattle.hy_event.specs.Reading.{Reads, with_gathered}
 use Rattle.hy_event.specs.Turns.{Step, after_turn, answer_turn, goes_on, with_changed, after_visit as visited_by, after_answer as answered_by}
 use Rattle.hy_machine.specs.declared.Setting.{Setting}
-use Rattle.hy_machine.specs.declared.State.{State}
-use Rattle.hy_machine.specs.declared.Open.{Open as Current}
+use Rattle.hy_machine.specs.States.{State, Open as Current}
 use Rattle.hy_machine.specs.Sessions.{view}
 use Rattle.hy_machine.specs.Turns.{answers as answers_there, goes_on as goes_on_there}
 use Rattle.hy_shows.specs.Sessions.{OpenShows, SessionIs, GatheredBy}

@@ -7,10 +7,8 @@ use Rattle.hy_event.specs.declared.Phase.TheVariants as phase
 use Rattle.hy_event.specs.Events.{Part}
 use Rattle.hy_event.specs.Turns.{after_visit as visited_by}
 use Rattle.hy_machine.specs.declared.Setting.{Setting}
-use Rattle.hy_machine.specs.declared.State.{State}
-use Rattle.hy_machine.specs.declared.Cause.{Cause}
-use Rattle.hy_machine.specs.declared.Open.{Open as Current}
-use Rattle.hy_machine.specs.declared.Phase.TheVariants as stage
+use Rattle.hy_machine.specs.States.{State, Cause, Open as Current}
+use Rattle.hy_machine.specs.States as stage
 use Rattle.hy_machine.specs.Turns.{ending_of}
 use Rattle.hy_machine.specs.Steps.{after_visit}
 use Rattle.hy_shows.specs.Sessions.{OpenShows, PhaseShows}

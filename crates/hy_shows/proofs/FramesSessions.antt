@@ -9,10 +9,7 @@ use Rattle.hy_journal.specs.declared.CoreData.{CoreData}
 use Rattle.hy_event.specs.declared.SessionData.{SessionData}
 use Rattle.hy_event.specs.declared.Open.{Open}
 use Rattle.hy_machine.specs.declared.Setting.{Setting}
-use Rattle.hy_machine.specs.declared.State.{State}
-use Rattle.hy_machine.specs.declared.Session.{Session}
-use Rattle.hy_machine.specs.declared.Finished.{Finished}
-use Rattle.hy_machine.specs.declared.Open.{Open as Current}
+use Rattle.hy_machine.specs.States.{State, Session, Finished, Open as Current}
 use Rattle.hy_machine.specs.Sessions.{session_at, program_of, view}
 use Rattle.hy_machine.specs.Outcomes.{outcomes_from}
 use Rattle.hy_shows.specs.Transactions.{IsOpen}

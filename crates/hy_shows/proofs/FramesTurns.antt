@@ -12,8 +12,7 @@ use Rattle.hy_event.specs.Turns.{Step, with_changed, after_visit as visited_by, 
 use Rattle.hy_event.specs.Changing.{OnlyPlaces}
 use Rattle.hy_event.specs.Events.{Part, ChunkPart}
 use Rattle.hy_machine.specs.declared.Setting.{Setting}
-use Rattle.hy_machine.specs.declared.State.{State}
-use Rattle.hy_machine.specs.declared.Open.{Open as Current}
+use Rattle.hy_machine.specs.States.{State, Open as Current}
 use Rattle.hy_machine.specs.Sessions.{session_at}
 use Rattle.hy_machine.specs.Steps.{with_session, with_changed as changed_there, after_visit, after_answer}
 use Rattle.hy_shows.specs.Transactions.{IsOpen}

@@ -3,9 +3,7 @@ use Rattle.std.proofs.Common.{◌≡◌, ◌≢◌, ℕ, List, Option, None, Som
 use Rattle.hy_event.specs.declared.SessionData.{SessionData}
 use Rattle.hy_event.specs.declared.Open.{Open}
 use Rattle.hy_machine.specs.declared.Setting.{Setting}
-use Rattle.hy_machine.specs.declared.State.{State}
-use Rattle.hy_machine.specs.declared.Session.{Session}
-use Rattle.hy_machine.specs.declared.Open.{Open as Current}
+use Rattle.hy_machine.specs.States.{State, Session, Open as Current}
 use Rattle.hy_machine.specs.Writes.{is_among}
 use Rattle.hy_shows.specs.Stamped.{is_unstamped, is_unstamped_by, stamped_chunks}
 use Rattle.hy_shows.specs.Transactions.{IsOpen, OfOpen}

@@ -9,7 +9,7 @@ use Rattle.std.proofs.lemmas.Bool.{lt-ltb, le-ltb, eq-eqb, ne_eqb, and_from, and
 use Rattle.std.proofs.lemmas.List.Elements.{filter-append}
 use Rattle.hy_change.specs.declared.Change.{Change}
 use Rattle.hy_notes.specs.Notes.{Cell, Ascends, order_of, note_at, is_change}
-use Rattle.hy_machine.specs.declared.Pair.{Pair}
+use Rattle.hy_machine.specs.Tables.{Pair}
 use Rattle.hy_machine.specs.Positions.{item_at, by_position, by_table, by_place}
 use Rattle.hy_machine.specs.Validation.{change_between, change_at}
 use Rattle.hy_shows.specs.Numbers.{noted}

@@ -20,10 +20,9 @@ use Rattle.hy_validate.specs.Statements.{statement_at, statement_hit}
 use Rattle.hy_event.specs.Coring.{invalid_by, statement_of}
 use Rattle.hy_event.specs.declared.Open.{Open}
 use Rattle.hy_machine.specs.declared.Setting.{Setting}
-use Rattle.hy_machine.specs.declared.State.{State}
-use Rattle.hy_machine.specs.declared.Open.{Open as Current}
+use Rattle.hy_machine.specs.States.{State, Open as Current}
 use Rattle.hy_machine.specs.Sessions.{session_at}
-use Rattle.hy_machine.specs.declared.Entry.{Entry as Entered}
+use Rattle.hy_machine.specs.Tables.{Entry as Entered}
 use Rattle.hy_machine.specs.Positions.{by_place}
 use Rattle.hy_machine.specs.Validation.{committed_of, change_at, change_hits, first_hit, hit_among as hits_among, record_hit, invalid_at}
 use Rattle.hy_machine.specs.Turns.{ending_of}

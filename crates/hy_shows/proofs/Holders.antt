@@ -11,10 +11,7 @@ use Rattle.hy_event.specs.declared.SessionData.{SessionData}
 use Rattle.hy_event.specs.declared.Open.{Open}
 use Rattle.hy_event.specs.Sessions.{label_of as label_here}
 use Rattle.hy_machine.specs.declared.Setting.{Setting}
-use Rattle.hy_machine.specs.declared.State.{State}
-use Rattle.hy_machine.specs.declared.Session.{Session}
-use Rattle.hy_machine.specs.declared.Finished.{Finished}
-use Rattle.hy_machine.specs.declared.Open.{Open as Current}
+use Rattle.hy_machine.specs.States.{State, Session, Finished, Open as Current}
 use Rattle.hy_machine.specs.Sessions.{fresh, session_at, label_of}
 use Rattle.hy_machine.specs.Holding.{holds, holder_from}
 use Rattle.hy_machine.specs.Outcomes.{outcomes_from}

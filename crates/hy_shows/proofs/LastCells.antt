@@ -7,11 +7,9 @@ use Rattle.std.proofs.lemmas.Bool.{cases_Bool, or_left, or_right}
 use Rattle.std.proofs.lemmas.Option.{same_Some, slice_get_within}
 use Rattle.hy_journal.specs.declared.Entry.{Entry as Noted}
 use Rattle.hy_machine.specs.declared.Setting.{Setting}
-use Rattle.hy_machine.specs.declared.State.{State}
-use Rattle.hy_machine.specs.declared.Entry.{Entry}
-use Rattle.hy_machine.specs.declared.Pair.{Pair}
+use Rattle.hy_machine.specs.States.{State}
+use Rattle.hy_machine.specs.Tables.{Entry, Pair, Cell, Tables, overlaid, covered, covered_tables, after_entry, history, opening_tables}
 use Rattle.hy_machine.specs.Positions.{item_at}
-use Rattle.hy_machine.specs.Tables.{Cell, Tables, overlaid, covered, covered_tables, after_entry, history, opening_tables}
 use Rattle.hy_machine.specs.Sessions.{snapshot}
 use Rattle.hy_machine.specs.Holding.{has_pair}
 use Rattle.hy_shows.specs.Numbers.{EntriesShow, noted}

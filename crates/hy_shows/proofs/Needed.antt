@@ -17,7 +17,7 @@ use Rattle.hy_event.specs.Needs.{need_of}
 use Rattle.hy_event.specs.Coring.{CoreEvent}
 use Rattle.hy_event.specs.Events.{Part, ChunkPart, CorePart, part_number, NeededVisit, ChunkEvent}
 use Rattle.hy_machine.specs.declared.Setting.{Setting}
-use Rattle.hy_machine.specs.declared.State.{State}
+use Rattle.hy_machine.specs.States.{State}
 use Rattle.hy_machine.specs.Sessions.{session_at, txn_at}
 use Rattle.hy_shows.specs.Parts.{IsChunkPart, PartsAre}
 use Rattle.hy_shows.specs.Sessions.{SessionShows}

@@ -13,8 +13,7 @@ use Rattle.hy_undo.specs.Places.{Place, cell_of, stamps}
 use Rattle.hy_event.specs.declared.SessionData.{SessionData}
 use Rattle.hy_event.specs.declared.Open.{Open}
 use Rattle.hy_machine.specs.declared.Setting.{Setting}
-use Rattle.hy_machine.specs.declared.Session.{Session}
-use Rattle.hy_machine.specs.declared.Open.{Open as Current}
+use Rattle.hy_machine.specs.States.{Session, Open as Current}
 use Rattle.hy_machine.specs.Positions.{item_at}
 use Rattle.hy_machine.specs.Tables.{opening_tables}
 use Rattle.hy_machine.specs.Sessions.{fresh, session_at}

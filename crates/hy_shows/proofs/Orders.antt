@@ -6,11 +6,9 @@ use Rattle.std.specs.Option.{option_or}
 use Rattle.std.proofs.lemmas.Bool.{cases_Bool}
 use Rattle.std.proofs.lemmas.Option.{same_Some, slice_get-get_or}
 use Rattle.hy_machine.specs.declared.Setting.{Setting}
-use Rattle.hy_machine.specs.declared.State.{State}
-use Rattle.hy_machine.specs.declared.Entry.{Entry}
-use Rattle.hy_machine.specs.declared.Pair.{Pair}
+use Rattle.hy_machine.specs.States.{State}
+use Rattle.hy_machine.specs.Tables.{Entry, Pair, Cell, Tables, overlaid, covered, covered_tables, after_entry, history, opening_tables}
 use Rattle.hy_machine.specs.Positions.{item_at, last_some}
-use Rattle.hy_machine.specs.Tables.{Cell, Tables, overlaid, covered, covered_tables, after_entry, history, opening_tables}
 use Rattle.hy_machine.specs.Sessions.{snapshot}
 use Rattle.hy_machine.specs.Holding.{has_pair, changes_row, changer_at}
 

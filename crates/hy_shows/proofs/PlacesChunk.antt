@@ -14,12 +14,10 @@ use Rattle.hy_event.specs.declared.Open.{Open}
 use Rattle.hy_event.specs.Sessions.{label_of, viewer_of}
 use Rattle.hy_event.specs.Changing.{OnlyPlaces, OnlyAt}
 use Rattle.hy_machine.specs.declared.Setting.{Setting}
-use Rattle.hy_machine.specs.declared.State.{State}
-use Rattle.hy_machine.specs.declared.Open.{Open as Current}
-use Rattle.hy_machine.specs.declared.Write.{Write}
+use Rattle.hy_machine.specs.States.{State, Open as Current}
+use Rattle.hy_machine.specs.Writes.{Write, with_write}
 use Rattle.hy_machine.specs.Positions.{item_at}
 use Rattle.hy_machine.specs.Tables.{Own, capacity}
-use Rattle.hy_machine.specs.Writes.{with_write}
 use Rattle.hy_machine.specs.Holding.{undone, is_free}
 use Rattle.hy_kept.specs.Kept.{OwnFits}
 use Rattle.hy_shows.specs.Places.{PlaceShows}

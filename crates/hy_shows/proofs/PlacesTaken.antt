@@ -33,17 +33,14 @@ use Rattle.hy_event.specs.Turns.{Takes, answer_turn, goes_on as goes_on_here, re
 use Rattle.hy_event.specs.Turns.{after_visit as visited_by, after_answer as answered_by, Visits as visits_here}
 use Rattle.hy_event.specs.Inserting.{PlaceVisit, Comes, place_turn as place_turn_here}
 use Rattle.hy_machine.specs.declared.Setting.{Setting}
-use Rattle.hy_machine.specs.declared.State.{State}
-use Rattle.hy_machine.specs.declared.Open.{Open as Current}
-use Rattle.hy_machine.specs.declared.Cause.TheVariants as cause
-use Rattle.hy_machine.specs.declared.Phase.{Phase as Stage}
-use Rattle.hy_machine.specs.declared.Phase.TheVariants as stage
-use Rattle.hy_machine.specs.declared.Turn.TheVariants.{Visits, Answers}
-use Rattle.hy_machine.specs.declared.Write.{Write}
+use Rattle.hy_machine.specs.States.{State, Open as Current, Phase as Stage}
+use Rattle.hy_machine.specs.States as cause
+use Rattle.hy_machine.specs.States as stage
+use Rattle.hy_machine.specs.Turns.{Visits, Answers, place_turn, goes_on, refused, answers}
+use Rattle.hy_machine.specs.Writes.{Write}
 use Rattle.hy_machine.specs.Sessions.{session_at, view, txn_at}
 use Rattle.hy_machine.specs.Holding.{undone, is_free}
 use Rattle.hy_machine.specs.Visits.{free_position}
-use Rattle.hy_machine.specs.Turns.{place_turn, goes_on, refused, answers}
 use Rattle.hy_machine.specs.Steps.{after_visit, after_answer}
 use Rattle.hy_shows.specs.Transactions.{IsOpen}
 use Rattle.hy_shows.specs.Sessions.{PhaseShows, NotesShow, GatheredBy, OpenShows, statement_at}

@@ -16,10 +16,8 @@ use Rattle.hy_event.specs.Gathering.{select_read_plan, group_read_plan}
 use Rattle.hy_event.specs.Sessions.{label_of}
 use Rattle.hy_event.specs.Events.{Part}
 use Rattle.hy_machine.specs.declared.Setting.{Setting}
-use Rattle.hy_machine.specs.declared.State.{State}
-use Rattle.hy_machine.specs.declared.Open.{Open as Current}
-use Rattle.hy_machine.specs.declared.Phase.{Phase as Stage}
-use Rattle.hy_machine.specs.declared.Phase.TheVariants as stage
+use Rattle.hy_machine.specs.States.{State, Open as Current, Phase as Stage}
+use Rattle.hy_machine.specs.States as stage
 use Rattle.hy_machine.specs.Tables.{Tables}
 use Rattle.hy_machine.specs.Holding.{undone}
 use Rattle.hy_kept.specs.Kept.{is_stamping}

@@ -21,12 +21,9 @@ use Rattle.hy_event.specs.declared.SessionData.{SessionData}
 use Rattle.hy_event.specs.declared.Open.{Open}
 use Rattle.hy_event.specs.Sessions.{viewer_of, label_of as label_here}
 use Rattle.hy_machine.specs.declared.Setting.{Setting}
-use Rattle.hy_machine.specs.declared.State.{State}
-use Rattle.hy_machine.specs.declared.Open.{Open as Current}
-use Rattle.hy_machine.specs.declared.Entry.{Entry}
-use Rattle.hy_machine.specs.declared.Pair.{Pair}
+use Rattle.hy_machine.specs.States.{State, Open as Current}
+use Rattle.hy_machine.specs.Tables.{Entry, Pair, Cell, opening_tables, chunk_of}
 use Rattle.hy_machine.specs.Positions.{item_at, last_some}
-use Rattle.hy_machine.specs.Tables.{Cell, opening_tables, chunk_of}
 use Rattle.hy_machine.specs.Writes.{written_chunks, is_among}
 use Rattle.hy_machine.specs.Sessions.{snapshot, view, pair_of}
 use Rattle.hy_machine.specs.Holding.{holds, has_pair, undone}

@@ -20,14 +20,11 @@ use Rattle.hy_event.specs.Sessions.{label_of as label_here}
 use Rattle.hy_event.specs.Stamping.{StampVisit}
 use Rattle.hy_event.specs.Events.{Part, ChunkPart}
 use Rattle.hy_machine.specs.declared.Setting.{Setting}
-use Rattle.hy_machine.specs.declared.State.{State}
-use Rattle.hy_machine.specs.declared.Session.{Session}
-use Rattle.hy_machine.specs.declared.Open.{Open as Current}
-use Rattle.hy_machine.specs.declared.Entry.{Entry}
-use Rattle.hy_machine.specs.declared.Phase.TheVariants as stage
-use Rattle.hy_machine.specs.declared.Turn.TheVariants.{Visits}
+use Rattle.hy_machine.specs.States.{State, Session, Open as Current}
+use Rattle.hy_machine.specs.Tables.{Entry, opening_tables, chunk_of}
+use Rattle.hy_machine.specs.States as stage
+use Rattle.hy_machine.specs.Turns.{Visits}
 use Rattle.hy_machine.specs.Positions.{item_at}
-use Rattle.hy_machine.specs.Tables.{opening_tables, chunk_of}
 use Rattle.hy_machine.specs.Writes.{written_chunks, is_among}
 use Rattle.hy_machine.specs.Sessions.{session_at, snapshot, view}
 use Rattle.hy_machine.specs.Holding.{holds, is_held, has_pair, undone}

@@ -6,7 +6,7 @@ use Rattle.std.specs.List.{AllByRecursion, list_any, range_with_len}
 use Rattle.std.proofs.lemmas.Bool.{cond_both, and_left, and_right, or_parts}
 use Rattle.std.proofs.lemmas.Option.{same_Some}
 use Rattle.hy_machine.specs.declared.Setting.{Setting}
-use Rattle.hy_machine.specs.declared.Open.{Open as Current}
+use Rattle.hy_machine.specs.States.{Open as Current}
 use Rattle.hy_machine.specs.Positions.{item_at}
 use Rattle.hy_machine.specs.Tables.{Cell, Own, chunk_of}
 use Rattle.hy_machine.specs.Writes.{chunks_in_table, chunks_from, written_chunks, has_written_in, is_among, wrote_nothing}

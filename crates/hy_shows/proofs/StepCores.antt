@@ -21,17 +21,13 @@ use Rattle.hy_event.specs.Turns.{refused as refuses, Takes}
 use Rattle.hy_event.specs.Coring.{CoreTurn, TakesAtCore, unless_blocked as unless_waits, closing_turn as closes_at, commit_turn as commits_at, validated_turn as validates, close_turn, invalid_by}
 use Rattle.hy_event.specs.Events.{Part, CorePart}
 use Rattle.hy_machine.specs.declared.Setting.{Setting}
-use Rattle.hy_machine.specs.declared.State.{State}
-use Rattle.hy_machine.specs.declared.Open.{Open as Current}
-use Rattle.hy_machine.specs.declared.Cause.{Cause}
-use Rattle.hy_machine.specs.declared.Turn.{Turn}
-use Rattle.hy_machine.specs.declared.Turn.TheVariants.{Ends, Visits}
-use Rattle.hy_machine.specs.declared.Phase.TheVariants as stage
+use Rattle.hy_machine.specs.States.{State, Open as Current, Cause}
+use Rattle.hy_machine.specs.Turns.{Turn, Ends, Visits, unless_blocked, validated_turn, commit_turn, undo_turn, ending_of}
+use Rattle.hy_machine.specs.States as stage
 use Rattle.hy_machine.specs.Writes.{written_chunks, wrote_nothing}
 use Rattle.hy_machine.specs.Sessions.{blocker}
 use Rattle.hy_machine.specs.Holding.{undone}
 use Rattle.hy_machine.specs.Validation.{first_hit, committed_of}
-use Rattle.hy_machine.specs.Turns.{unless_blocked, validated_turn, commit_turn, undo_turn, ending_of}
 use Rattle.hy_kept.specs.Kept.{is_stamping}
 use Rattle.hy_shows.specs.Taken.{AtOpen, AtStatement, IsTaken, core_number}
 use Rattle.hy_shows.proofs.StepLaws.{StepLaws}

@@ -26,17 +26,12 @@ use Rattle.hy_event.specs.Undoing.{UndoVisit}
 use Rattle.hy_event.specs.Coring.{TakesAtCore, phase_turn as phase_at, working_turn as working_at, unless_blocked as unless_waits, closing_turn as closes_at}
 use Rattle.hy_event.specs.Events.{Part, ChunkPart, CorePart, PhaseVisit, WorkingVisit, ClosingVisit}
 use Rattle.hy_machine.specs.declared.Setting.{Setting}
-use Rattle.hy_machine.specs.declared.State.{State}
-use Rattle.hy_machine.specs.declared.Open.{Open as Current}
-use Rattle.hy_machine.specs.declared.Cause.{Cause}
-use Rattle.hy_machine.specs.declared.Cause.TheVariants.{RolledBack}
-use Rattle.hy_machine.specs.declared.Turn.TheVariants.{Ends, Visits}
-use Rattle.hy_machine.specs.declared.Phase.{Phase as Stage}
-use Rattle.hy_machine.specs.declared.Phase.TheVariants as stage
+use Rattle.hy_machine.specs.States.{State, Open as Current, Cause, RolledBack, Phase as Stage}
+use Rattle.hy_machine.specs.Turns.{Ends, Visits, phase_turn, working_turn, closing_turn, stamp_turn, undo_turn, unless_blocked, ending_of}
+use Rattle.hy_machine.specs.States as stage
 use Rattle.hy_machine.specs.Writes.{written_chunks}
 use Rattle.hy_machine.specs.Sessions.{session_at, txn_at, blocker, view}
 use Rattle.hy_machine.specs.Holding.{undone}
-use Rattle.hy_machine.specs.Turns.{phase_turn, working_turn, closing_turn, stamp_turn, undo_turn, unless_blocked, ending_of}
 use Rattle.hy_kept.specs.Kept.{is_stamping, PhaseFits, visits_in}
 use Rattle.hy_shows.specs.Sessions.{PhaseShows, statement_at}
 use Rattle.hy_shows.specs.Steps.{ReadsFit}

@@ -17,12 +17,10 @@ use Rattle.hy_event.specs.Needs.{statement_need, insert_need, checks_of as check
 use Rattle.hy_event.specs.Inserting.{CheckVisit, PlaceVisit, InsertVisit}
 use Rattle.hy_event.specs.Events.{Part, ChunkPart, StatementVisit}
 use Rattle.hy_machine.specs.declared.Setting.{Setting}
-use Rattle.hy_machine.specs.declared.State.{State}
-use Rattle.hy_machine.specs.declared.Open.{Open as Current}
-use Rattle.hy_machine.specs.declared.Turn.{Turn}
+use Rattle.hy_machine.specs.States.{State, Open as Current}
+use Rattle.hy_machine.specs.Turns.{Turn, statement_turn, insert_turn, check_turn, place_turn}
 use Rattle.hy_machine.specs.Sessions.{view}
 use Rattle.hy_machine.specs.Visits.{checks_of, sees_key, free_position}
-use Rattle.hy_machine.specs.Turns.{statement_turn, insert_turn, check_turn, place_turn}
 use Rattle.hy_kept.specs.Kept.{visits_in}
 use Rattle.hy_shows.specs.Steps.{ReadsFit}
 use Rattle.hy_shows.specs.Taken.{AtOpen, AtChunk, AtStatement, IsTaken, chunk_number}

@@ -16,11 +16,9 @@ use Rattle.hy_event.specs.Needs.{session_need}
 use Rattle.hy_event.specs.Coring.{TakesAtCore, session_turn as session_at_core, unless_blocked as unless_waits, begin_turn}
 use Rattle.hy_event.specs.Events.{Part, ChunkPart, CorePart, SessionVisit}
 use Rattle.hy_machine.specs.declared.Setting.{Setting}
-use Rattle.hy_machine.specs.declared.State.{State}
-use Rattle.hy_machine.specs.declared.Open.{Open as Current}
-use Rattle.hy_machine.specs.declared.Turn.TheVariants.{Begins}
+use Rattle.hy_machine.specs.States.{State, Open as Current}
+use Rattle.hy_machine.specs.Turns.{Begins, turn, session_turn, unless_blocked}
 use Rattle.hy_machine.specs.Sessions.{session_at, txn_at, blocker, view}
-use Rattle.hy_machine.specs.Turns.{turn, session_turn, unless_blocked}
 use Rattle.hy_kept.specs.Kept.{PhaseFits}
 use Rattle.hy_shows.specs.Sessions.{SessionShows, NowShows, OpenShows, statement_at}
 use Rattle.hy_shows.specs.Steps.{ReadsFit, ViewsFit, EventsAreSteps}

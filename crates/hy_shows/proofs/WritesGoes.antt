@@ -26,16 +26,13 @@ use Rattle.hy_event.specs.Events.{Part, ChunkPart}
 use Rattle.hy_event.specs.Turns.{Takes, Visits as Visits_here, with_notes, after_visit as visited_by, after_answer as answered_by, answer_turn}
 use Rattle.hy_event.specs.Writing.{write_turn as write_turn_here, told_by as told_here}
 use Rattle.hy_machine.specs.declared.Setting.{Setting}
-use Rattle.hy_machine.specs.declared.State.{State}
-use Rattle.hy_machine.specs.declared.Open.{Open as Current}
-use Rattle.hy_machine.specs.declared.Phase.TheVariants as stage
-use Rattle.hy_machine.specs.declared.Turn.TheVariants.{Visits, Answers}
-use Rattle.hy_machine.specs.declared.Write.{Write}
-use Rattle.hy_machine.specs.Writes.{with_writes}
+use Rattle.hy_machine.specs.States.{State, Open as Current}
+use Rattle.hy_machine.specs.States as stage
+use Rattle.hy_machine.specs.Turns.{Visits, Answers, write_turn, told_by, answers}
+use Rattle.hy_machine.specs.Writes.{Write, with_writes}
 use Rattle.hy_machine.specs.Tables.{Tables}
 use Rattle.hy_machine.specs.Sessions.{session_at, view, txn_at}
 use Rattle.hy_machine.specs.Visits.{kind_of}
-use Rattle.hy_machine.specs.Turns.{write_turn, told_by, answers}
 use Rattle.hy_machine.specs.Steps.{after_visit, after_answer}
 use Rattle.hy_shows.specs.Sessions.{NotesShow, GatheredBy, OpenShows, statement_at, SessionIs}
 use Rattle.hy_shows.specs.Parts.{ChunkIs}

@@ -9,12 +9,10 @@ use Rattle.hy_event.specs.declared.Open.{Open}
 use Rattle.hy_event.specs.Turns.{with_notes}
 use Rattle.hy_event.specs.Changing.{changes_from}
 use Rattle.hy_machine.specs.declared.Setting.{Setting}
-use Rattle.hy_machine.specs.declared.State.{State}
-use Rattle.hy_machine.specs.declared.Open.{Open as Current}
-use Rattle.hy_machine.specs.declared.Write.{Write}
+use Rattle.hy_machine.specs.States.{State, Open as Current}
+use Rattle.hy_machine.specs.Writes.{Write, with_writes}
 use Rattle.hy_machine.specs.Positions.{item_at}
 use Rattle.hy_machine.specs.Tables.{capacity}
-use Rattle.hy_machine.specs.Writes.{with_writes}
 use Rattle.hy_machine.specs.Sessions.{view}
 use Rattle.hy_shows.specs.Sessions.{NotesShow}
 use Rattle.hy_kept.specs.Kept.{OwnFits}

@@ -1,9 +1,7 @@
 -- A transaction that isn't marked has stamped no chunk before it goes on, and none then.
 use Rattle.std.proofs.Common.{◌≡◌, ℕ, Option, None, Some, not, refl, ap}
 use Rattle.hy_machine.specs.declared.Setting.{Setting}
-use Rattle.hy_machine.specs.declared.State.{State}
-use Rattle.hy_machine.specs.declared.Session.{Session}
-use Rattle.hy_machine.specs.declared.Open.{Open as Current}
+use Rattle.hy_machine.specs.States.{State, Session, Open as Current}
 use Rattle.hy_machine.specs.Writes.{is_among}
 use Rattle.hy_shows.specs.Stamped.{is_unstamped, is_unstamped_by, stamped_chunks}
 use Rattle.hy_shows.specs.Frames.{gone_on}

@@ -20,9 +20,9 @@ use Rattle.hy_undo.specs.Chunks.{Written}
 use Rattle.hy_undo.specs.Sweeps.{some_cell, new_cell, judged, verdict, and_new, swept, AllWritten}
 use Rattle.hy_event.specs.Changing.{changes_from}
 use Rattle.hy_event.specs.Writing.{ending_by}
-use Rattle.hy_machine.specs.declared.Cause.{Cause}
-use Rattle.hy_machine.specs.declared.Cause.TheVariants as cause
-use Rattle.hy_machine.specs.declared.Write.{Write}
+use Rattle.hy_machine.specs.States.{Cause}
+use Rattle.hy_machine.specs.States as cause
+use Rattle.hy_machine.specs.Writes.{Write}
 use Rattle.hy_machine.specs.Visits.{kind_of, sweep, and_write}
 use Rattle.hy_machine.specs.Visits.{new_cell as new_cell_there, judged as judged_there, verdict as verdict_there}
 use Rattle.hy_machine.specs.Turns.{ending_of}

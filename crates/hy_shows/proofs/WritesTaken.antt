@@ -21,14 +21,11 @@ use Rattle.hy_event.specs.Events.{Part, ChunkPart}
 use Rattle.hy_event.specs.Turns.{Takes, refused as refuses}
 use Rattle.hy_event.specs.Writing.{WriteVisit, Becomes, changes_by, cells_by, write_turn as write_turn_here}
 use Rattle.hy_machine.specs.declared.Setting.{Setting}
-use Rattle.hy_machine.specs.declared.State.{State}
-use Rattle.hy_machine.specs.declared.Open.{Open as Current}
-use Rattle.hy_machine.specs.declared.Cause.{Cause}
-use Rattle.hy_machine.specs.declared.Phase.TheVariants as stage
-use Rattle.hy_machine.specs.declared.Turn.TheVariants.{Visits}
-use Rattle.hy_machine.specs.declared.Write.{Write}
+use Rattle.hy_machine.specs.States.{State, Open as Current, Cause}
+use Rattle.hy_machine.specs.States as stage
+use Rattle.hy_machine.specs.Turns.{Visits, write_turn, ending_of}
+use Rattle.hy_machine.specs.Writes.{Write}
 use Rattle.hy_machine.specs.Visits.{kind_of, swept as swept_there}
-use Rattle.hy_machine.specs.Turns.{write_turn, ending_of}
 use Rattle.hy_shows.specs.Transactions.{IsOpen}
 use Rattle.hy_shows.specs.Sessions.{OpenShows}
 use Rattle.hy_shows.specs.Parts.{ChunkIs}

@@ -19,17 +19,14 @@ use Rattle.hy_event.specs.Turns.{Enters as enters, Waits as waits, refused as re
 use Rattle.hy_event.specs.Coring.{TakesAtCore, begin_turn, close_turn, leave_turn, invalid_by}
 use Rattle.hy_event.specs.Events.{Part, CorePart}
 use Rattle.hy_machine.specs.declared.Setting.{Setting}
-use Rattle.hy_machine.specs.declared.State.{State}
-use Rattle.hy_machine.specs.declared.Open.{Open as Current}
-use Rattle.hy_machine.specs.declared.Cause.{Cause}
-use Rattle.hy_machine.specs.declared.Turn.TheVariants.{Waits, Begins, Enters, Ends}
+use Rattle.hy_machine.specs.States.{State, Open as Current, Cause}
+use Rattle.hy_machine.specs.Turns.{Waits, Begins, Enters, Ends, refused, ending_of}
 use Rattle.hy_machine.specs.Writes.{written_chunks, wrote_nothing}
 use Rattle.hy_machine.specs.Sessions.{blocker}
 use Rattle.hy_machine.specs.Holding.{holds}
-use Rattle.hy_machine.specs.declared.Entry.{Entry as Entered}
+use Rattle.hy_machine.specs.Tables.{Entry as Entered}
 use Rattle.hy_machine.specs.Positions.{by_place}
 use Rattle.hy_machine.specs.Validation.{change_at, first_hit, committed_of}
-use Rattle.hy_machine.specs.Turns.{refused, ending_of}
 use Rattle.hy_kept.specs.Kept.{is_stamping}
 use Rattle.hy_shows.specs.Numbers.{EntryShows}
 use Rattle.hy_shows.specs.Shows.{Shows}

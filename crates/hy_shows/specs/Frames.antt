@@ -17,14 +17,11 @@ use Rattle.hy_event.specs.Turns.{Takes, Visits as visits, Answers as answers, af
 use Rattle.hy_event.specs.Changing.{PrunesFirst}
 use Rattle.hy_event.specs.Events.{Part, ChunkPart}
 use Rattle.hy_machine.specs.declared.Setting.{Setting}
-use Rattle.hy_machine.specs.declared.State.{State}
-use Rattle.hy_machine.specs.declared.Open.{Open as Current}
-use Rattle.hy_machine.specs.declared.Phase.{Phase as Stage}
-use Rattle.hy_machine.specs.declared.Write.{Write}
-use Rattle.hy_machine.specs.declared.Turn.TheVariants.{Visits, Answers}
+use Rattle.hy_machine.specs.States.{State, Open as Current, Phase as Stage}
+use Rattle.hy_machine.specs.Writes.{Write, with_write}
+use Rattle.hy_machine.specs.Turns.{Visits, Answers}
 use Rattle.hy_machine.specs.Positions.{item_at}
 use Rattle.hy_machine.specs.Tables.{Cell, capacity}
-use Rattle.hy_machine.specs.Writes.{with_write}
 use Rattle.hy_machine.specs.Sessions.{session_at, view}
 use Rattle.hy_machine.specs.Holding.{holds}
 use Rattle.hy_machine.specs.Steps.{with_session, after_visit, after_answer}

@@ -5,7 +5,7 @@ use Rattle.hy_undo.specs.Places.{Place, is_free}
 use Rattle.hy_journal.specs.declared.CoreData.{CoreData}
 use Rattle.hy_event.specs.declared.SessionData.{SessionData}
 use Rattle.hy_machine.specs.declared.Setting.{Setting}
-use Rattle.hy_machine.specs.declared.State.{State}
+use Rattle.hy_machine.specs.States.{State}
 use Rattle.hy_machine.specs.Tables.{Tables, opening_tables}
 use Rattle.hy_machine.specs.Holding.{is_free as is_free_there}
 use Rattle.hy_shows.specs.Transactions.{OfOpen}

@@ -3,7 +3,7 @@ use Rattle.std.specs.Prelude.{List}
 use Rattle.hy_stamp.specs.Times.{IsLabel}
 use Rattle.hy_event.specs.declared.SessionData.{SessionData}
 use Rattle.hy_event.specs.Sessions.{label_of}
-use Rattle.hy_machine.specs.declared.State.{State}
+use Rattle.hy_machine.specs.States.{State}
 use Rattle.hy_shows.specs.Transactions.{OfOpen}
 
 -- every open transaction has a label whose identifier no other label has

@@ -9,7 +9,7 @@ use Rattle.hy_undo.specs.Chunks.{Pruned}
 use Rattle.hy_journal.specs.declared.CoreData.{CoreData}
 use Rattle.hy_event.specs.declared.SessionData.{SessionData}
 use Rattle.hy_machine.specs.declared.Setting.{Setting}
-use Rattle.hy_machine.specs.declared.State.{State}
+use Rattle.hy_machine.specs.States.{State}
 use Rattle.hy_shows.specs.Numbers.{CoreShows}
 use Rattle.hy_shows.specs.Sessions.{IsHeld}
 use Rattle.hy_shows.specs.Places.{PlaceShows}

@@ -7,7 +7,7 @@ use Rattle.hy_journal.specs.declared.CoreData.{CoreData}
 use Rattle.hy_event.specs.declared.SessionData.{SessionData}
 use Rattle.hy_event.specs.Sessions.{viewer_of}
 use Rattle.hy_machine.specs.declared.Setting.{Setting}
-use Rattle.hy_machine.specs.declared.State.{State}
+use Rattle.hy_machine.specs.States.{State}
 use Rattle.hy_machine.specs.Holding.{opponent}
 use Rattle.hy_shows.specs.Transactions.{OfOpen}
 use Rattle.hy_shows.specs.Numbers.{CoreShows}

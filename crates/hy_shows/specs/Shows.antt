@@ -5,7 +5,7 @@ use Rattle.hy_undo.specs.Places.{Place, in_place}
 use Rattle.hy_event.specs.declared.SessionData.{SessionData}
 use Rattle.hy_event.specs.Events.{Part}
 use Rattle.hy_machine.specs.declared.Setting.{Setting}
-use Rattle.hy_machine.specs.declared.State.{State}
+use Rattle.hy_machine.specs.States.{State}
 use Rattle.hy_machine.specs.Positions.{item_at}
 use Rattle.hy_machine.specs.Tables.{opening_tables}
 use Rattle.hy_shows.specs.Numbers.{CoreShows}

@@ -12,8 +12,7 @@ use Rattle.hy_event.specs.declared.Progress.{Progress}
 use Rattle.hy_event.specs.Needs.{need_of}
 use Rattle.hy_event.specs.Events.{Part, part_number, NeededVisit}
 use Rattle.hy_machine.specs.declared.Setting.{Setting}
-use Rattle.hy_machine.specs.declared.State.{State}
-use Rattle.hy_machine.specs.declared.Open.{Open as Current}
+use Rattle.hy_machine.specs.States.{State, Open as Current}
 use Rattle.hy_machine.specs.Tables.{Tables}
 use Rattle.hy_machine.specs.Sessions.{session_at, txn_at, view}
 use Rattle.hy_machine.specs.Turns.{turn, rows_seen}

@@ -2,8 +2,7 @@
 use Rattle.std.specs.Prelude.{◌≡◌, ℕ, List, Some, slice_get}
 use Rattle.hy_event.specs.declared.SessionData.{SessionData}
 use Rattle.hy_event.specs.declared.Open.{Open}
-use Rattle.hy_machine.specs.declared.State.{State}
-use Rattle.hy_machine.specs.declared.Open.{Open as Current}
+use Rattle.hy_machine.specs.States.{State, Open as Current}
 use Rattle.hy_machine.specs.Sessions.{session_at}
 
 -- a session has an open transaction, in the engine and in the machine

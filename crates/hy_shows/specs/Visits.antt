@@ -24,16 +24,13 @@ use Rattle.hy_event.specs.Stamping.{StampVisit}
 use Rattle.hy_event.specs.Undoing.{UndoVisit}
 use Rattle.hy_event.specs.Events.{Part, ChunkPart}
 use Rattle.hy_machine.specs.declared.Setting.{Setting}
-use Rattle.hy_machine.specs.declared.State.{State}
-use Rattle.hy_machine.specs.declared.Open.{Open as Current}
-use Rattle.hy_machine.specs.declared.Cause.{Cause}
-use Rattle.hy_machine.specs.declared.Phase.TheVariants as stage
-use Rattle.hy_machine.specs.declared.Turn.TheVariants.{Visits}
+use Rattle.hy_machine.specs.States.{State, Open as Current, Cause}
+use Rattle.hy_machine.specs.States as stage
+use Rattle.hy_machine.specs.Turns.{Visits, rows_seen, read_turn, write_turn, check_turn, place_turn, ending_of}
 use Rattle.hy_machine.specs.Writes.{written_chunks}
 use Rattle.hy_machine.specs.Sessions.{view}
 use Rattle.hy_machine.specs.Holding.{undone}
 use Rattle.hy_machine.specs.Visits.{kind_of, swept, sees_key, free_position}
-use Rattle.hy_machine.specs.Turns.{rows_seen, read_turn, write_turn, check_turn, place_turn, ending_of}
 use Rattle.hy_event.specs.Sessions.{written_chunks as chunks_written}
 use Rattle.hy_kept.specs.Kept.{is_stamping}
 use Rattle.hy_shows.specs.Taken.{AtOpen, AtChunk, AtStatement, IsTaken, chunk_number}

@@ -5,7 +5,7 @@ use Rattle.hy_journal.specs.Core.{blocked_by}
 use Rattle.hy_event.specs.declared.SessionData.{SessionData}
 use Rattle.hy_event.specs.Sessions.{label_of}
 use Rattle.hy_machine.specs.declared.Setting.{Setting}
-use Rattle.hy_machine.specs.declared.State.{State}
+use Rattle.hy_machine.specs.States.{State}
 use Rattle.hy_machine.specs.Sessions.{blocker}
 use Rattle.hy_shows.specs.Numbers.{CoreShows}
 use Rattle.hy_shows.specs.Shows.{SessionsShow}

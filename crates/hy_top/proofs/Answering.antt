@@ -12,7 +12,7 @@ use Rattle.hy_script.specs.declared.codes.Code.TheVariants.{TooLong}
 use Rattle.hy_script.specs.Reading.{Reads, too_long}
 use Rattle.hy_render.specs.declared.Outcome.{Outcome}
 use Rattle.hy_machine.specs.declared.Setting.{Setting}
-use Rattle.hy_machine.specs.declared.State.{State}
+use Rattle.hy_machine.specs.States.{State}
 use Rattle.hy_machine.specs.Runs.{IsReached, RunsAreSteps, RunsEnd, all_ended_from, run_of}
 use Rattle.hy_machine.specs.Outcomes.{outcome_of}
 use Rattle.hy_bind.specs.Shapes.{catalog_shapes}

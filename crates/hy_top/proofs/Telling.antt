@@ -19,7 +19,7 @@ use Rattle.hy_render.specs.declared.Outcome.{Outcome}
 use Rattle.hy_render.specs.Named.{Differ, IsTableName, IsSessionName, AreTelling}
 use Rattle.hy_render.specs.Telling.{TextTells}
 use Rattle.hy_machine.specs.declared.Setting.{Setting}
-use Rattle.hy_machine.specs.declared.State.{State}
+use Rattle.hy_machine.specs.States.{State}
 use Rattle.hy_machine.specs.Outcomes.{outcome_of}
 use Rattle.hy_machine.specs.Runs.{IsReached, all_ended_from, run_of}
 use Rattle.hy_lawful.specs.Lawful.{Lawful}

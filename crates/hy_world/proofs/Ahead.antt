@@ -2,7 +2,7 @@
 use Rattle.std.proofs.Common.{◌≡◌, ◌∙◌, sym, subst, Result, Ok, Err}
 use Rattle.std.specs.Prelude.{OnErr}
 use Rattle.hy_machine.specs.declared.Setting.{Setting}
-use Rattle.hy_machine.specs.declared.State.{State}
+use Rattle.hy_machine.specs.States.{State}
 use Rattle.hy_world.specs.Follows.{Follows}
 use Rattle.hy_world.specs.Logged.{Extend, Approaches}
 use Rattle.hy_world.specs.Worlds.{WorldData, ShowsState}

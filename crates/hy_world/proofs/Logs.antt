@@ -15,10 +15,9 @@ use Rattle.hy_notes.specs.Notes.{is_change}
 use Rattle.hy_render.specs.declared.Committed.{Committed}
 use Rattle.hy_journal.specs.declared.CoreData.{CoreData}
 use Rattle.hy_machine.specs.declared.Setting.{Setting}
-use Rattle.hy_machine.specs.declared.State.{State}
-use Rattle.hy_machine.specs.declared.Entry.{Entry as Entered}
+use Rattle.hy_machine.specs.States.{State}
+use Rattle.hy_machine.specs.Tables.{Entry as Entered, history, opening_tables}
 use Rattle.hy_machine.specs.Sessions.{snapshot}
-use Rattle.hy_machine.specs.Tables.{history, opening_tables}
 use Rattle.hy_machine.specs.Validation.{committed_of}
 use Rattle.hy_shows.specs.CoreVisits.{EntriesTellChanges}
 use Rattle.hy_shows.specs.Numbers.{EntryShows, EntriesShow}

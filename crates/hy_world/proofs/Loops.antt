@@ -6,7 +6,7 @@ use Rattle.std.proofs.lemmas.Slice.Zip.{AllZip-long}
 use Rattle.hy_bound.specs.Fits.{FitsRows}
 use Rattle.hy_schedule.specs.declared.Item.{Item}
 use Rattle.hy_machine.specs.declared.Setting.{Setting}
-use Rattle.hy_machine.specs.declared.State.{State}
+use Rattle.hy_machine.specs.States.{State}
 use Rattle.hy_machine.specs.declared.Stepped.{Stepped}
 use Rattle.hy_machine.specs.Steps.{step_of}
 use Rattle.hy_machine.specs.Runs.{is_moved, moves, whole_of, item_of, items_of, round_from, round_of, all_ended_from, repeated, rounds_of}

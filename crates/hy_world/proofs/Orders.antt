@@ -2,13 +2,10 @@
 use Rattle.std.proofs.Common.{ℕ, zero, suc, List, [], ◌∷◌, Option, None, Some, Bool, true, false, cond, length, refl}
 use Rattle.hy_schedule.specs.declared.Item.{Item}
 use Rattle.hy_machine.specs.declared.Setting.{Setting}
-use Rattle.hy_machine.specs.declared.State.{State}
-use Rattle.hy_machine.specs.declared.Open.{Open}
-use Rattle.hy_machine.specs.declared.Turn.{Turn}
-use Rattle.hy_machine.specs.declared.Turn.TheVariants.{Done, Waits, Begins, Visits, Answers, Enters, Ends}
+use Rattle.hy_machine.specs.States.{State, Open}
+use Rattle.hy_machine.specs.Turns.{Turn, Done, Waits, Begins, Visits, Answers, Enters, Ends, turn}
 use Rattle.hy_machine.specs.Sessions.{session_at, entry_of}
 use Rattle.hy_machine.specs.Steps.{step_of, after_turn, order_with}
-use Rattle.hy_machine.specs.Turns.{turn}
 use Rattle.hy_machine.specs.Runs.{is_moved, moves, whole_of, item_of, items_of, round_from, round_of, all_ended_from, repeated, rounds_of}
 use Rattle.hy_machine.specs.Measures.{steps_left, measure_of}
 use Rattle.hy_world.specs.Logged.{Extend}

@@ -20,7 +20,7 @@ use Rattle.hy_event.specs.declared.Need.TheVariants.{Core, Chunk, Done}
 use Rattle.hy_event.specs.Events.{Part, ChunkPart, CorePart, part_number}
 use Rattle.hy_event.specs.Needs.{need_of}
 use Rattle.hy_machine.specs.declared.Setting.{Setting}
-use Rattle.hy_machine.specs.declared.State.{State}
+use Rattle.hy_machine.specs.States.{State}
 use Rattle.hy_machine.specs.Runs.{opening_of}
 use Rattle.hy_session.specs.Near.{NearChunk}
 use Rattle.hy_near.specs.Outcomes.{EndsAreTheMachines, is_done, are_done}

@@ -18,7 +18,7 @@ use Rattle.hy_chunk.specs.Views.{Whole}
 use Rattle.hy_event.specs.declared.SessionData.{SessionData}
 use Rattle.hy_event.specs.Events.{Part, ChunkPart}
 use Rattle.hy_machine.specs.declared.Setting.{Setting}
-use Rattle.hy_machine.specs.declared.State.{State}
+use Rattle.hy_machine.specs.States.{State}
 use Rattle.hy_machine.specs.Outcomes.{outcome_of, rows_sorted}
 use Rattle.hy_machine.specs.Sessions.{snapshot}
 use Rattle.hy_machine.specs.Tables.{history, opening_tables}

@@ -17,7 +17,7 @@ use Rattle.hy_event.specs.Needs.{need_of}
 use Rattle.hy_event.specs.Coring.{CoreEvent}
 use Rattle.hy_event.specs.Events.{Part, ChunkPart, CorePart, ChunkEvent, NeededVisit, part_number}
 use Rattle.hy_machine.specs.declared.Setting.{Setting}
-use Rattle.hy_machine.specs.declared.State.{State}
+use Rattle.hy_machine.specs.States.{State}
 use Rattle.hy_machine.specs.Steps.{step_of}
 use Rattle.hy_shows.specs.Sessions.{SessionIs}
 use Rattle.hy_shows.specs.Taken.{stepped_of}

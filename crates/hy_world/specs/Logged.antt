@@ -4,8 +4,8 @@ use Rattle.hy_journal.specs.declared.Entry.{Entry}
 use Rattle.hy_value.specs.declared.Kind.{Kind}
 use Rattle.hy_body.specs.declared.HeldTable.{HeldTable}
 use Rattle.hy_machine.specs.declared.Setting.{Setting}
-use Rattle.hy_machine.specs.declared.State.{State}
-use Rattle.hy_machine.specs.declared.Entry.{Entry as Entered}
+use Rattle.hy_machine.specs.States.{State}
+use Rattle.hy_machine.specs.Tables.{Entry as Entered}
 use Rattle.hy_machine.specs.Sessions.{snapshot}
 use Rattle.hy_machine.specs.Validation.{committed_of}
 use Rattle.hy_redo.specs.Logs.{IsLogOf}

@@ -20,7 +20,7 @@ use Rattle.hy_event.specs.Events.{Part, ChunkPart, CorePart, part_number, Needed
 use Rattle.hy_event.specs.Needs.{need_of}
 use Rattle.hy_event.specs.Turns.{Waits}
 use Rattle.hy_machine.specs.declared.Setting.{Setting}
-use Rattle.hy_machine.specs.declared.State.{State}
+use Rattle.hy_machine.specs.States.{State}
 use Rattle.hy_session.specs.Near.{NearCore, NearChunk}
 use Rattle.hy_near.specs.Typed.{AreTyped, kinds_of}
 use Rattle.hy_near.specs.Runnable.{IsShown}

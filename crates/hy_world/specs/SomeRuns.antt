@@ -1,7 +1,7 @@
 -- What a run may come to when the order of its steps is left open.
 use Rattle.std.specs.Prelude.{◌≡◌, true}
 use Rattle.hy_machine.specs.declared.Setting.{Setting}
-use Rattle.hy_machine.specs.declared.State.{State}
+use Rattle.hy_machine.specs.States.{State}
 use Rattle.hy_machine.specs.Outcomes.{outcome_of}
 use Rattle.hy_machine.specs.Runs.{IsReached, all_ended_from}
 use Rattle.hy_render.specs.declared.Outcome.{Outcome}

@@ -11,7 +11,7 @@ use Rattle.hy_event.specs.declared.SessionData.{SessionData}
 use Rattle.hy_event.specs.contracts.SessionData as session_data
 use Rattle.hy_event.specs.Events.{Part, ChunkPart, CorePart}
 use Rattle.hy_machine.specs.declared.Setting.{Setting}
-use Rattle.hy_machine.specs.declared.State.{State}
+use Rattle.hy_machine.specs.States.{State}
 use Rattle.hy_near.specs.Typed.{AreTyped, kinds_of}
 use Rattle.hy_near.specs.Runnable.{IsShown}
 

@@ -5,7 +5,7 @@ ghost use Rattle.std.specs.Prelude.{◌≡◌, IfOk, List, None};
 ghost use Rattle.std.specs.List.{All};
 ghost use Rattle.hy_value.specs.declared.Kind.{Kind};
 ghost use Rattle.hy_machine.specs.declared.Setting.{Setting};
-ghost use Rattle.hy_machine.specs.declared.State.{State};
+ghost use Rattle.hy_machine.specs.States.{State};
 ghost use Rattle.hy_near.specs.Runnable.{IsRunnable};
 ghost use Rattle.hy_near.specs.Typed.{AreTyped};
 ghost use Rattle.hy_world.specs.Shared.{AreShared};

@@ -1,6 +1,6 @@
 use Rattle.std.proofs.Common.{arith}
 use Rattle.hy_machine.specs.declared.Setting.{Setting}
-use Rattle.hy_machine.specs.declared.State.{State}
+use Rattle.hy_machine.specs.States.{State}
 use Rattle.hy_machine.specs.Runs.{IsReached, StepsFall, RunsEnd}
 use Rattle.hy_machine.specs.Sessions.{session_at}
 use Rattle.hy_machine.specs.Measures.{steps_left, measure_of}

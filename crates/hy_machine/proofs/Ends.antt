@@ -1,22 +1,21 @@
 -- After a run every session has ended.
 use Rattle.std.proofs.Common.{◌≡◌, ◌⊎◌, ℕ, ◌+◌, ◌<◌, ◌≤◌, List, [], ◌∷◌, length, drop, get_or, refl, ap, ◌∙◌, sym, arith, zero, suc, Option, None, Some, Bool, true, false, cond, inl, inr, subst}
 use Rattle.std.proofs.Math.ListN.{set}
-use Rattle.std.specs.Prelude.{slice_get, ◌==◌}
-use Rattle.std.proofs.lemmas.Bool.{cases_Bool, cases_lt, cases_eq, eq-eqb, eqb-true, and_from, and_parts, both_ways}
+use Rattle.std.specs.Prelude.{slice_get}
+use Rattle.std.proofs.lemmas.Bool.{cases_Bool, cases_lt, cases_eq, eq-eqb, and_from, both_ways}
 use Rattle.std.proofs.lemmas.List.{length-map, get_or-set_same, get_or_past, set-get_or}
 use Rattle.hy_bound.specs.declared.Txn.{Txn}
 use Rattle.hy_stamp.specs.declared.Label.{Label}
-use Rattle.hy_schedule.specs.declared.Item.{Item}
 use Rattle.hy_machine.specs.declared.Setting.{Setting}
 use Rattle.hy_machine.specs.States.{State, Session, Finished, Open, Phase, Stamping}
 use Rattle.hy_machine.specs.Turns.{Turn, Done, Waits, Begins, Visits, Answers, Enters, Ends, turn, phase_turn, session_turn, unless_blocked}
 use Rattle.hy_machine.specs.Sessions.{fresh, session_at, program_of, txn_at, has_ended, blocker_of, blocker}
 use Rattle.hy_machine.specs.Steps.{after_turn, step_of, with_open, beginning, after_visit, after_answer, with_changed, with_ended}
 use Rattle.hy_machine.specs.Measures.{later_left, txns_left, steps_left, all_left, measure_of}
-use Rattle.hy_machine.specs.Runs.{is_moved, moves, whole_of, round_from, round_of, all_ended_from, repeated, opening_of, items_of, run_of, RunsEnd}
+use Rattle.hy_machine.specs.Runs.{is_moved, moves, whole_of, round_from, round_of, all_ended_from, repeated, opening_of, items_of, RunsEnd}
 use Rattle.hy_machine.proofs.Falls.{IsActing, phase_falls, drop_at, left_is, session_set, whole_first}
-use Rattle.hy_machine.proofs.Marks.{IsKept, Follows, Fits, is_marked, has_entered, is_stamping, phase_follows, has_script, kept_step, kept_opening, kept_steps, kept_reached}
-use Rattle.hy_machine.proofs.Reached.{IsAfter, whole_is_after, items_after, round_after, run_is_steps}
+use Rattle.hy_machine.proofs.Marks.{IsKept, Follows, Fits, is_marked, has_entered, is_stamping, phase_follows, has_script, kept_step, kept_opening, kept_steps}
+use Rattle.hy_machine.proofs.Reached.{IsAfter, whole_is_after, items_after, round_after}
 
 -- ---- what one turn does to the steps that are left
 
@@ -339,36 +338,3 @@ runs_end setting items =
     let scheduled = items_of setting (opening_of setting) items in
     let kept = kept_after setting (opening_of setting) scheduled (kept_opening setting) (items_after setting (opening_of setting) items) in
     repeated_ends (measure_of setting scheduled) setting scheduled kept (omega arith)
-
--- ---- what that leaves
-
-one_ended : (setting : Setting) (first number i : ℕ) (sessions : List Session) → all_ended_from setting first sessions ≡ true → number ≡ first + i
-    → i < length sessions → has_ended setting number (get_or sessions i fresh) ≡ true
-one_ended setting first number i [] a e l = absurd (omega (arith, l))
-one_ended setting first number zero (session ∷ sessions) a e l =
-    let here : number ≡ first = omega arith in
-    rw here (and_parts (has_ended setting first session) (all_ended_from setting (suc first) sessions) a).0
-one_ended setting first number (suc i) (session ∷ sessions) a e l =
-    one_ended setting (suc first) number i sessions (and_parts (has_ended setting first session) (all_ended_from setting (suc first) sessions) a).1
-    (omega (arith, e)) (omega (arith, l))
-
-ended_closed : (now : Option Open) (done most : ℕ) → Fits now done most → (done == most) ≡ true → now ≡ None
-ended_closed None done most w e = refl
-ended_closed (Some current) done most w e = absurd (omega (arith, w, eqb-true done most e))
-
--- where every session has ended, none has an open transaction
-pub all_closed : (setting : Setting) (state : State) → IsKept setting state → all_ended_from setting 0 state.sessions ≡ true
-    → (number : ℕ) → (session_at state number).now ≡ None
-all_closed setting state k a number = elim (cases_lt number (length state.sessions)) [
-  | inl l ↦ ended_closed (session_at state number).now (length (session_at state number).done) (length (program_of setting number)) (k.within number)
-      (one_ended setting 0 number number state.sessions a (omega arith) l)
-  | inr ge ↦ ap (λ (session : Session). session.now) (get_or_past state.sessions number fresh ge)
-]
-
--- and none is marked
-pub all_unmarked : (setting : Setting) (state : State) → IsKept setting state → all_ended_from setting 0 state.sessions ≡ true → state.mark ≡ None
-all_unmarked setting state k a = none_of state.mark (λ number m.
-    both_ways (is_marked state.mark number) (sym (k.marks number) ∙ ap has_entered (all_closed setting state k a number)) m)
-
-pub run_kept : (setting : Setting) (items : List Item) → IsKept setting (run_of setting items)
-run_kept setting items = kept_reached setting (run_of setting items) (run_is_steps setting items)

@@ -1,5 +1,5 @@
 -- A step that goes on brings its session nearer to its end.
-use Rattle.std.proofs.Common.{◌≡◌, ℕ, ◌+◌, ◌-◌, ◌*◌, ◌<◌, ◌≤◌, List, [], ◌∷◌, ◌++◌, length, drop, map, get_or, refl, ap, ◌∙◌, sym, arith, zero, suc, Option, None, Some, Bool, true, false, cond, inl, inr, ltb, Result, Ok, Err, subst}
+use Rattle.std.proofs.Common.{◌≡◌, ℕ, ◌+◌, ◌-◌, ◌*◌, ◌<◌, ◌≤◌, List, [], ◌∷◌, ◌++◌, length, drop, map, get_or, refl, ap, ◌∙◌, sym, arith, zero, suc, Option, None, Some, Bool, true, false, cond, inl, inr, ltb, Result, Ok, Err}
 use Rattle.std.proofs.Math.ListN.{set}
 use Rattle.std.specs.Prelude.{slice_get}
 use Rattle.std.specs.List.{filter, range_with_len}
@@ -23,13 +23,12 @@ use Rattle.hy_machine.specs.Writes.{Write, with_write, with_writes, chunks_in_ta
 use Rattle.hy_machine.specs.Turns.{Turn, Done, Waits, Begins, Visits, Answers, Enters, Ends}
 use Rattle.hy_machine.specs.Tables.{Own}
 use Rattle.hy_machine.specs.Sessions.{fresh, session_at, program_of, txn_at, blocker, view}
-use Rattle.hy_machine.specs.declared.Stepped.{Stepped}
 use Rattle.hy_machine.specs.declared.Stepped.TheVariants.{Ended}
 use Rattle.hy_machine.specs.Runs.{is_moved, moves, whole_of}
 use Rattle.hy_machine.specs.Visits.{visits_of, checks_of, swept, sees_key, free_position}
 use Rattle.hy_machine.specs.Validation.{committed_of, first_hit}
 use Rattle.hy_machine.specs.Turns.{read_turn, write_turn, check_turn, place_turn, insert_turn, statement_turn, undo_turn, stamp_turn, validated_turn, commit_turn, closing_turn, working_turn, phase_turn, session_turn, unless_blocked, rows_seen, ending_of}
-use Rattle.hy_machine.specs.Steps.{Step, with_session, after_turn, step_of, after_visit, after_answer, with_changed, with_ended}
+use Rattle.hy_machine.specs.Steps.{with_session, after_turn, step_of, after_visit, after_answer, with_changed, with_ended}
 use Rattle.hy_machine.specs.Measures.{parts_of, open_left, later_left, txns_left, steps_left}
 
 -- ---- what a statement's turn may be
@@ -360,25 +359,3 @@ whole_more (suc fuel) setting state number e = elim (cases_Bool (is_moved (step_
 pub whole_first : (setting : Setting) (state : State) (number : ℕ)
     → whole_of setting state number ≡ cond (is_moved (step_of setting state number).1) (whole_of setting (step_of setting state number).0 number) (step_of setting state number).0
 whole_first setting state number = whole_more (steps_left setting number (session_at state number)) setting state number refl
-
--- after a step of this answer
-pub whole_after : (setting : Setting) (state next : State) (number : ℕ) (stepped : Stepped) → (let step : Step = (next, stepped) in step ≡ step_of setting state number)
-    → whole_of setting state number ≡ cond (is_moved stepped) (whole_of setting next number) next
-whole_after setting state next number stepped e =
-    let choice : Step → State = λ step. cond (is_moved step.1) (whole_of setting step.0 number) step.0 in
-    whole_first setting state number ∙ ap choice (sym e)
-
-pub falls_after : (setting : Setting) (state next : State) (number : ℕ) (stepped : Stepped) → (let step : Step = (next, stepped) in step ≡ step_of setting state number) → is_moved stepped ≡ true
-    → steps_left setting number (session_at next number) < steps_left setting number (session_at state number)
-falls_after setting state next number stepped e m =
-    let P : Step → Type 0 = λ step. is_moved step.1 ≡ true → steps_left setting number (session_at step.0 number) < steps_left setting number (session_at state number) in
-    subst P (sym e) (step_falls setting state number) m
-
-pub smaller_after : (setting : Setting) (state next : State) (number : ℕ) (before stepped : Stepped) → is_moved before ≡ true → (let step : Step = (next, stepped) in step ≡ step_of setting state number)
-    → cond (is_moved stepped) (suc (steps_left setting number (session_at next number))) 0 < cond (is_moved before) (suc (steps_left setting number (session_at state number))) 0
-smaller_after setting state next number before stepped b e = elim (cases_Bool (is_moved stepped)) [
-  | inl t ↦
-      let f = falls_after setting state next number stepped e t in
-      rw (b, t) (omega arith)
-  | inr f ↦ rw (b, f) (omega arith)
-]

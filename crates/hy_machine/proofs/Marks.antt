@@ -18,7 +18,7 @@ use Rattle.hy_machine.specs.Validation.{committed_of, first_hit}
 use Rattle.hy_machine.specs.Visits.{visits_of}
 use Rattle.hy_machine.specs.Turns.{statement_turn, undo_turn, stamp_turn, validated_turn, commit_turn, closing_turn, working_turn, phase_turn, session_turn, unless_blocked, ending_of}
 use Rattle.hy_machine.specs.Steps.{after_turn, step_of, with_open, beginning, after_visit, after_answer, with_changed, with_ended}
-use Rattle.hy_machine.specs.Runs.{opening_of, after_steps, IsReached}
+use Rattle.hy_machine.specs.Runs.{opening_of, after_steps}
 use Rattle.hy_machine.proofs.Falls.{Advances, statement_advances}
 
 -- ---- the invariant
@@ -258,7 +258,3 @@ kept_opening setting = record {
   within = λ number. rw (all_fresh setting.programs number) (omega arith);
   marks = λ number. rw (all_fresh setting.programs number) refl;
 }
-
--- it holds of each state that the machine comes to from its opening
-pub kept_reached : (setting : Setting) (state : State) → IsReached setting state → IsKept setting state
-kept_reached setting state reached = rw reached.1 (kept_steps setting (opening_of setting) reached.0 (kept_opening setting))

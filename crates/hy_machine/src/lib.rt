@@ -1,4 +1,8 @@
-//! The snapshot machine: one obvious program for what the engine does, step by step.
+//! The snapshot machine: what a run comes to, step by step, as definitions that no program computes.
+//!
+//! A state is the commit order, a mark, and where each session stands (States). What a session does next is read
+//! off the state (Turns), and what that makes of the state is its step (Steps). A run is a list of steps (Runs), and
+//! what the last state comes to is its outcome (Outcomes).
 //!
 //! A transaction reads the tables as they were after the commits that stood before its BEGIN, overlaid by its
 //! own writes (snapshot isolation: Berenson et al., "A Critique of ANSI SQL Isolation Levels", SIGMOD 1995),

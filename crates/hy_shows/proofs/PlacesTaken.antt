@@ -33,8 +33,7 @@ use Rattle.hy_event.specs.Turns.{Takes, answer_turn, goes_on as goes_on_here, re
 use Rattle.hy_event.specs.Turns.{after_visit as visited_by, after_answer as answered_by, Visits as visits_here}
 use Rattle.hy_event.specs.Inserting.{PlaceVisit, Comes, place_turn as place_turn_here}
 use Rattle.hy_machine.specs.declared.Setting.{Setting}
-use Rattle.hy_machine.specs.States.{State, Open as Current, Phase as Stage}
-use Rattle.hy_machine.specs.States as cause
+use Rattle.hy_machine.specs.States.{State, Open as Current, Phase as Stage, Full}
 use Rattle.hy_machine.specs.States as stage
 use Rattle.hy_machine.specs.Turns.{Visits, Answers, place_turn, goes_on, refused, answers}
 use Rattle.hy_machine.specs.Writes.{Write}
@@ -158,13 +157,13 @@ module _ (laws : Laws) (setting : Setting) (state : State) (parts : List Part) (
       (subst (λ (n : ℕ). Takes session (cond (nat_lt (suc chunk) n) (goes_on_here visited) (refuses (ending.Full table))) progress after) same_chunks takes)
     where
       by_more : (more : Bool) → Takes session (cond more (goes_on_here visited) (refuses (ending.Full table))) progress after
-          → IsTaken setting state parts sessions number (cond more (goes_on visited) (refused (cause.Full table)))
+          → IsTaken setting state parts sessions number (cond more (goes_on visited) (refused (Full table)))
           (chunk_number setting table chunk) progress after (ChunkPart new)
       by_more true goes =
           none_taken (phase.Working (suc visited) 0) (stage.Working (suc visited) 0) (refl, refl) refl (λ visits time e. absurd cc)
           between new progress after chunk_is chunk_shows same_chunk goes
       by_more false goes =
-          none_taken (phase.Undoing 0 (ending.Full table)) (stage.Undoing 0 (cause.Full table)) (refl, refl) refl (λ visits time e. absurd cc)
+          none_taken (phase.Undoing 0 (ending.Full table)) (stage.Undoing 0 (Full table)) (refl, refl) refl (λ visits time e. absurd cc)
           between new progress after chunk_is chunk_shows same_chunk goes
 
   -- ---- a position is free

@@ -1,9 +1,12 @@
 -- A number or a text that is read is the one that was written, and what was written is read again.
 use Rattle.std.proofs.Common.{◌≡◌, ℕ, suc, ◌+◌, ◌^◌, ◌<◌, ◌≤◌, Bool, true, false, cond, ltb, leb, List, [], ◌∷◌, ◌++◌, length}
 use Rattle.std.proofs.Common.{get_or, take, drop, Option, Some, None, All, refl, sym, ap, subst, ◌∙◌, append_assoc, arith, inl, inr}
+use Rattle.std.specs.Prelude.{◌&&◌, is_ok, MatchResult, Result, Ok, Err}
 use Rattle.std.specs.Int.{Width, w32, w64, from_be_bytes, to_be_bytes}
 use Rattle.std.specs.List.{AllPass, list_all}
+use Rattle.std.specs.Str.{IsUtf8, is_utf8}
 use Rattle.std.proofs.lemmas.Bool.{cases_lt, ltb-false, le-ltb, leb-true, le-leb, and_parts, and_from}
+use Rattle.std.proofs.lemmas.Str.{IsUtf8-from_is_utf8, is_utf8-from_IsUtf8}
 use Rattle.std.proofs.lemmas.List.Sums.{AllPass-from_list_all, list_all-from_AllPass}
 use Rattle.std.proofs.lemmas.List.{take_at, drop_at, take-append-drop, length-append, length-take, get_or-drop, get_or-take, get_or_past}
 use Rattle.std.proofs.lemmas.Nat.{be_bytes_4, be_bytes_8, from_be_bytes-to_be_bytes_4, from_be_bytes-to_be_bytes_8}
@@ -140,23 +143,48 @@ test_from_text text t =
     and_from (leb (length text) 255) (list_all (λ b. leb 32 b) text) (le-leb _ _ t.short)
     (list_all-from_AllPass (λ b. leb 32 b) text (test_from_above text t.printable))
 
+-- a text that is UTF-8
+abbrev pub IsUtf8Text : List ℕ → Type 0
+IsUtf8Text text = IsText text × IsUtf8 text
+
+utf8_from_test : (text : List ℕ) → (is_text text && is_utf8 text) ≡ true → IsUtf8Text text
+utf8_from_test text e =
+    let p = and_parts (is_text text) (is_utf8 text) e in
+    (text_from_test text p.0, IsUtf8-from_is_utf8 text p.1)
+
+test_from_utf8 : (text : List ℕ) → IsUtf8Text text → (is_text text && is_utf8 text) ≡ true
+test_from_utf8 text t = and_from (is_text text) (is_utf8 text) (test_from_text text t.0) (is_utf8-from_IsUtf8 text t.1)
+
+-- what the standard library's test of UTF-8 tells is that test
+pub tells_utf8 : {T E : Type 0} (bytes : List ℕ) (r : Result T E) (told : Bool) (P : T → Type 0) (Q : E → Type 0)
+    → MatchResult r (λ t. P t × IsUtf8 bytes) (λ e. (IsUtf8 bytes → ⊥) × Q e) → told ≡ is_ok r → told ≡ is_utf8 bytes
+tells_utf8 bytes (Ok t) true P Q cases is = sym (is_utf8-from_IsUtf8 bytes cases.1)
+tells_utf8 bytes (Ok t) false P Q cases is = absurd cc
+tells_utf8 bytes (Err e) true P Q cases is = absurd cc
+tells_utf8 bytes (Err e) false P Q cases is = by_test (is_utf8 bytes) refl
+  where
+    by_test : (test : Bool) → is_utf8 bytes ≡ test → false ≡ is_utf8 bytes
+    by_test true so = absurd (cases.0 (IsUtf8-from_is_utf8 bytes so))
+    by_test false so = sym so
+
 text_behind : (b : Bool) (count : ℕ) (bytes : List ℕ) (x : List ℕ × List ℕ) → IsBytes bytes → ltb (length bytes) count ≡ b
-    → cond b None (text_if (take count bytes) (drop count bytes)) ≡ Some x → Takes (count ∷ bytes) (length x.0 ∷ x.0) x.1 × IsText x.0
+    → cond b None (text_if (take count bytes) (drop count bytes)) ≡ Some x → Takes (count ∷ bytes) (length x.0 ∷ x.0) x.1 × IsUtf8Text x.0
 text_behind true count bytes x fits short e = absurd cc
 text_behind false count bytes x fits long e =
-    let g = kept_some (is_text (take count bytes)) (take count bytes, drop count bytes) x e in
-    let len : length (take count bytes) ≡ count = omega (arith, length-take count bytes, ltb-false _ _ long) in
-    let first : Takes (count ∷ bytes) (count ∷ take count bytes) (drop count bytes) =
+    let text : List ℕ = take count bytes in
+    let g = kept_some (is_text text && is_utf8 text) (text, drop count bytes) x e in
+    let len : length text ≡ count = omega (arith, length-take count bytes, ltb-false _ _ long) in
+    let first : Takes (count ∷ bytes) (count ∷ text) (drop count bytes) =
     record { parts = ap (λ (t : List ℕ). count ∷ t) (sym (take-append-drop count bytes)); rest_fits = IsBytes-drop count bytes fits } in
-    let whole : Takes (count ∷ bytes) (length (take count bytes) ∷ take count bytes) (drop count bytes) =
-    subst (λ (k : ℕ). Takes (count ∷ bytes) (k ∷ take count bytes) (drop count bytes)) (sym len) first in
-    subst (λ (p : List ℕ × List ℕ). Takes (count ∷ bytes) (length p.0 ∷ p.0) p.1 × IsText p.0) g.1 (whole, text_from_test _ g.0)
+    let whole : Takes (count ∷ bytes) (length text ∷ text) (drop count bytes) =
+    subst (λ (k : ℕ). Takes (count ∷ bytes) (k ∷ text) (drop count bytes)) (sym len) first in
+    subst (λ (p : List ℕ × List ℕ). Takes (count ∷ bytes) (length p.0 ∷ p.0) p.1 × IsUtf8Text p.0) g.1 (whole, utf8_from_test text g.0)
 
-pub text_takes : (bytes : List ℕ) (x : List ℕ × List ℕ) → IsBytes bytes → text_at bytes ≡ Some x → Takes bytes (length x.0 ∷ x.0) x.1 × IsText x.0
+pub text_takes : (bytes : List ℕ) (x : List ℕ × List ℕ) → IsBytes bytes → text_at bytes ≡ Some x → Takes bytes (length x.0 ∷ x.0) x.1 × IsUtf8Text x.0
 text_takes [] x fits e = absurd cc
 text_takes (count ∷ bytes) x fits e = text_behind (ltb (length bytes) count) count bytes x (IsBytes-rest count bytes fits) refl e
 
-pub text_again : (text rest : List ℕ) → IsText text → text_at (length text ∷ (text ++ rest)) ≡ Some (text, rest)
+pub text_again : (text rest : List ℕ) → IsUtf8Text text → text_at (length text ∷ (text ++ rest)) ≡ Some (text, rest)
 text_again text rest t =
     let long : ltb (length (text ++ rest)) (length text) ≡ false = le-ltb _ _ (omega (arith, length-append text rest)) in
-    rw (long, take_at text rest (length text) refl, drop_at text rest (length text) refl, test_from_text text t) refl
+    rw (long, take_at text rest (length text) refl, drop_at text rest (length text) refl, test_from_utf8 text t) refl

@@ -58,8 +58,8 @@ words_take kind.Str bytes x fits e =
     let made : Value × List ℕ = (Text b.0.0, b.0.1) in
     subst (Took value_bytes HasValueBytes (IsOfKind kind.Str) (2 ∷ bytes)) (some_is made x b.2) (record {
       takes = Takes-head 2 bytes (length b.0.0 ∷ b.0.0) b.0.1 t.0;
-      has = t.1;
-      of = tt;
+      has = t.1.0;
+      of = t.1.1;
     })
 
 value_takes : (column : Kind) (bytes : List ℕ) (x : Value × List ℕ) → IsBytes bytes → value_at column bytes ≡ Some x
@@ -80,7 +80,7 @@ value_again kind.Int (Int n) rest has of =
     rw (u64_again (cast_unsigned w64 n) rest (Fits-of_z has).fits, to_z-of_z w64 n has) refl
 value_again kind.Str (Int n) rest has of = absurd of
 value_again kind.Int (Text t) rest has of = absurd of
-value_again kind.Str (Text t) rest has of = rw (text_again t rest has) refl
+value_again kind.Str (Text t) rest has of = rw (text_again t rest (has, of)) refl
 
 -- ---- rows
 

@@ -2,6 +2,7 @@
 use Rattle.std.specs.Prelude.{◌≡◌, ℕ, List, [], ◌∷◌, None, Some, slice_get}
 use Rattle.std.specs.List.{AllByRecursion}
 use Rattle.std.specs.Option.{IsSomeAnd}
+use Rattle.std.specs.Str.{IsUtf8}
 use Rattle.hy_value.specs.declared.Kind.{Kind}
 use Rattle.hy_value.specs.declared.Kind.TheVariants as kind
 use Rattle.hy_value.specs.declared.Value.{Value}
@@ -12,14 +13,14 @@ use Rattle.hy_journal.specs.declared.Entry.{Entry}
 use Rattle.hy_body.specs.declared.HeldTable.{HeldTable}
 use Rattle.hy_body.specs.Bytes.{net_of, body_of, HasBytes}
 
--- a value is of a column's type, or NULL
+-- a value is of a column's type, a text in UTF-8, or NULL
 abbrev pub IsOfKind : Kind → Value → Type 0
 IsOfKind kind.Int value.Null = Unit {0}
 IsOfKind kind.Int (value.Int number) = Unit {0}
 IsOfKind kind.Int (value.Text text) = ⊥
 IsOfKind kind.Str value.Null = Unit {0}
 IsOfKind kind.Str (value.Int number) = ⊥
-IsOfKind kind.Str (value.Text text) = Unit {0}
+IsOfKind kind.Str (value.Text text) = IsUtf8 text
 
 -- values of these columns: one for each, of its type
 abbrev pub AreOfKinds : List Kind → List Value → Type 0

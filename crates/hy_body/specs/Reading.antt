@@ -1,6 +1,7 @@
 -- Reading from the front: what was read and the bytes behind it, or nothing where the bytes begin with none.
 use Rattle.std.specs.Prelude.{◌≡◌, ℕ, zero, suc, List, [], ◌∷◌, length, take, drop, Option, Some}
-use Rattle.std.specs.Prelude.{None, Result, Ok, Err, nat_lt, ◌==◌, slice_get, if◌then◌else◌}
+use Rattle.std.specs.Prelude.{None, Result, Ok, Err, nat_lt, ◌&&◌, ◌==◌, slice_get, if◌then◌else◌}
+use Rattle.std.specs.Str.{is_utf8}
 use Rattle.std.specs.Int.{w32, w64, from_be_bytes, cast_signed}
 use Rattle.hy_value.specs.declared.Kind.{Kind}
 use Rattle.hy_value.specs.declared.Kind.TheVariants as kind
@@ -34,9 +35,9 @@ u32_at bytes = if nat_lt (length bytes) 4 then None else Some (from_be_bytes w32
 abbrev pub u64_at : List ℕ → Option (ℕ × List ℕ)
 u64_at bytes = if nat_lt (length bytes) 8 then None else Some (from_be_bytes w64 (take 8 bytes), drop 8 bytes)
 
--- so many bytes, which are a text
+-- so many bytes, which are a text in UTF-8
 abbrev pub text_if : List ℕ → List ℕ → Option (List ℕ × List ℕ)
-text_if text rest = if is_text text then Some (text, rest) else None
+text_if text rest = if is_text text && is_utf8 text then Some (text, rest) else None
 
 abbrev pub text_at : List ℕ → Option (List ℕ × List ℕ)
 text_at [] = None

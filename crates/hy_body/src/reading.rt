@@ -1,6 +1,7 @@
 //! An entry from the bytes of its body.
 
 ghost use Rattle.std.specs.Prelude.{◌≡◌, ℕ, ◌<◌, ◌^◌, ◌++◌, List, length, IfOk, IsErrOf, IfSome, IfNone, MatchOption};
+ghost use Rattle.std.specs.Str.{is_utf8};
 ghost use Rattle.hy_body.specs.Bytes.{be64};
 ghost use Rattle.hy_journal.specs.declared.Entry.{Entry};
 ghost use Rattle.hy_body.specs.Bodies.{IsBody};
@@ -49,7 +50,14 @@ fn read_u64(bytes: &[u8]) -> Result<(u64, &[u8]), BodyError>
     }
 }
 
-/// A text and its length before it.
+/// Whether bytes are UTF-8.
+fn is_utf8(bytes: &[u8]) -> bool
+    ensures { result ≡ is_utf8 bytes.now }
+{
+    str::from_utf8(bytes).is_ok()
+}
+
+/// A text in UTF-8 and its length before it.
 fn read_text(alloc: Global, bytes: &[u8]) -> Result<(Text, &[u8]), BodyError>
     ensures { Gives (λ x. (x.0, x.1.now)) result (text_at bytes.now) }
 {
@@ -61,6 +69,9 @@ fn read_text(alloc: Global, bytes: &[u8]) -> Result<(Text, &[u8]), BodyError>
         return Err(BodyError::Malformed);
     }
     let (text, rest) = rest.split_at(count);
+    if !is_utf8(text) {
+        return Err(BodyError::Malformed);
+    }
     match Text::from_bytes(alloc, text) {
         Ok(text) => Ok((text, rest)),
         Err(_) => Err(BodyError::Malformed),

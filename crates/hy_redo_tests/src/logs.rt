@@ -1,4 +1,5 @@
-//! One transaction that changes the row at position 0 of the one table from 1 to 5. The bytes come from outside.
+//! One transaction that changes the row at position 0 of the one table: from 1 to 5, or from a text to another. The bytes come
+//! from outside.
 
 use hy_body::{HeldTable, HeldTables};
 use hy_change::Change;
@@ -6,7 +7,7 @@ use hy_disk::MemDisk;
 use hy_journal::Entry;
 use hy_redo::{RecoverError, append, create, recover};
 use hy_stamp::Label;
-use hy_value::{Kind, Row, Seq, Value};
+use hy_value::{Kind, Row, Seq, Text, Value};
 use std::alloc::{AllocError, Global};
 use std::test::*;
 
@@ -17,24 +18,49 @@ pub(crate) const LOG: [u8; 74] = [
     0, 1, 1, 1, 0, 0, 0, 0, 0, 0, 0, 5, 0,
 ];
 
-/// A row of one number.
-fn row(alloc: Global, number: i64) -> Result<Row, AllocError> {
+/// The log of a transaction that changes `a` to `é`.
+const TEXT_LOG: [u8; 63] = [
+    72, 89, 82, 69, 68, 79, 49, 10, 1, 0, 0, 0, 0, 0, 0, 0, 45, 0, 0, 0, 0, 0, 0, 0, 1, 0, 0, 0, 0,
+    0, 0, 0, 2, 0, 0, 0, 0, 0, 0, 0, 3, 0, 0, 0, 1, 0, 0, 0, 0, 0, 0, 0, 0, 1, 2, 1, 97, 1, 2, 2,
+    195, 169, 0,
+];
+
+/// A row of one value.
+fn row_of(alloc: Global, value: Value) -> Result<Row, AllocError> {
     let mut values = Vec::new(alloc);
-    values.push(Value::Int(number))?;
+    values.push(value)?;
     Ok(Seq::from_vec(values))
 }
 
-/// A table of one column, with one row of this number and a position that has none.
-pub(crate) fn tables(alloc: Global, number: i64) -> Result<HeldTables, AllocError> {
+/// A row of one number.
+fn row(alloc: Global, number: i64) -> Result<Row, AllocError> {
+    row_of(alloc, Value::Int(number))
+}
+
+/// A table of one column, with this row and a position that has none.
+fn table_of(alloc: Global, kind: Kind, row: Row) -> Result<HeldTables, AllocError> {
     let mut rows = Vec::new(alloc);
-    rows.push(Some(row(alloc, number)?))?;
+    rows.push(Some(row))?;
     rows.push(None)?;
     let mut tables = Vec::new(alloc);
     tables.push(HeldTable {
-        kinds: Seq::from_slice(alloc, &[Kind::Int])?,
+        kinds: Seq::from_slice(alloc, &[kind])?,
         rows: Seq::from_vec(rows),
     })?;
     Ok(Seq::from_vec(tables))
+}
+
+/// A table of numbers, with this one at position 0.
+pub(crate) fn tables(alloc: Global, number: i64) -> Result<HeldTables, AllocError> {
+    table_of(alloc, Kind::Int, row(alloc, number)?)
+}
+
+/// A table of texts, with `a` at position 0.
+fn text_tables(alloc: Global) -> Result<HeldTables, AllocError> {
+    let Ok(text) = Text::from_bytes(alloc, b"a") else {
+        return Err(AllocError);
+    };
+    table_of(alloc, Kind::Str, row_of(alloc, Value::Text(text))?)
 }
 
 /// The entry of the transaction: it noted a position too that had no row and has none.
@@ -99,6 +125,33 @@ fn refuses_a_log_that_is_cut(rt: HostRuntime) -> Result<(), Fail> {
 fn refuses_another_row_before(rt: HostRuntime) -> Result<(), Fail> {
     let mut disk = disk_of(rt.alloc(), &LOG)?;
     let found = recover(rt.alloc(), &mut disk, tables(rt.alloc(), 2)?);
+    assert!(rt; matches!(found, Err(RecoverError::Damaged { at: 8 })));
+    Ok(())
+}
+
+/// Whether the one table has this text at position 0, and no row at position 1.
+fn has_text(tables: &HeldTables, text: &[u8]) -> bool {
+    match tables.as_slice() {
+        [held] => match held.rows.as_slice() {
+            [Some(row), None] => match row.as_slice() {
+                [Value::Text(found)] => found.as_bytes() == text,
+                _ => false,
+            },
+            _ => false,
+        },
+        _ => false,
+    }
+}
+
+#[test]
+fn takes_texts_in_utf8_alone(rt: HostRuntime) -> Result<(), Fail> {
+    let mut disk = disk_of(rt.alloc(), &TEXT_LOG)?;
+    let found = recover(rt.alloc(), &mut disk, text_tables(rt.alloc())?)?;
+    assert!(rt; has_text(&found, "é".as_bytes()));
+    let mut broken = TEXT_LOG;
+    broken[61] = b'a';
+    let mut disk = disk_of(rt.alloc(), &broken)?;
+    let found = recover(rt.alloc(), &mut disk, text_tables(rt.alloc())?);
     assert!(rt; matches!(found, Err(RecoverError::Damaged { at: 8 })));
     Ok(())
 }

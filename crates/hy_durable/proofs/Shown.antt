@@ -20,7 +20,7 @@ use Rattle.hy_lawful.specs.Rows.{passes, RowsMeet, StandsOnTables, ReachedRowsMe
 use Rattle.hy_shows.specs.Numbers.{EntryShows}
 use Rattle.hy_shows.specs.CoreVisits.{EntriesTellChanges}
 use Rattle.hy_near.specs.Runnable.{IsShown}
-use Rattle.hy_near.specs.Typed.{AreTyped}
+use Rattle.hy_near.specs.Texts.{CanBeLogged}
 use Rattle.hy_durable.specs.Laws.{EntriesStand, EntriesLeaveTables}
 use Rattle.hy_durable.proofs.Places.{kept_rise}
 use Rattle.hy_durable.proofs.RowKinds.{has_kinds, cell_fits, begins_typed}
@@ -39,10 +39,10 @@ laid_full : (most : ℕ) (first : List (List (List Value))) → AllByRecursion (
 laid_full most [] = tt
 laid_full most (rows ∷ first) = (length-map-range_with_len (slice_get rows) 0 most, laid_full most first)
 
-opening_shaped : (setting : Setting) (kinds : List (List Kind)) → AreTyped kinds setting.shapes setting.first setting.programs
+opening_shaped : (setting : Setting) (kinds : List (List Kind)) → CanBeLogged kinds setting
     → AreShaped (capacity setting) kinds (opening_tables setting)
 opening_shaped setting kinds typed = record {
-  many = length-map setting.first (laid_out (capacity setting)) ∙ same_count kinds setting.first typed.rows;
+  many = length-map setting.first (laid_out (capacity setting)) ∙ same_count kinds setting.first typed.typed.rows;
   full = laid_full (capacity setting) setting.first;
 }
 
@@ -51,7 +51,7 @@ opening_shaped setting kinds typed = record {
 -- the journal of what is shown follows the commit order
 all_follow : ReachedRowsMeetDemands → ReachedEntriesStand → EntriesTellChanges → (setting : Setting) (kinds : List (List Kind)) (state : State)
     (parts : List Part) (sessions : List SessionData) (shown : IsShown setting state parts sessions)
-    → AreTyped kinds setting.shapes setting.first setting.programs
+    → CanBeLogged kinds setting
     → AllFollow (capacity setting) kinds (opening_tables setting) state.order shown.shows.core.entries
 all_follow stay stand tell setting kinds state parts sessions shown typed rank entered entry e f = record {
   net = tell entered entry shows;
@@ -73,7 +73,7 @@ all_follow stay stand tell setting kinds state parts sessions shown typed rank e
     shows = shown.shows.core_shows.entries_show.each rank entered entry e f
 
     few : length entered.cells ≤ length kinds
-    few = let most = stands.tables in let same : length setting.first ≡ length kinds = same_count kinds setting.first typed.rows in omega (arith, most, same)
+    few = let most = stands.tables in let same : length setting.first ≡ length kinds = same_count kinds setting.first typed.typed.rows in omega (arith, most, same)
 
 pub all_stand : ReachedRowsMeetDemands → ReachedEntriesStand → EntriesTellChanges → EntriesStand
 all_stand stay stand tell setting kinds state parts sessions shown typed =

@@ -1,4 +1,5 @@
 pub mod Typed
+pub mod Texts
 pub mod Runnable
 pub mod Steps
 pub mod Outcomes

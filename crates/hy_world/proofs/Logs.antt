@@ -22,7 +22,7 @@ use Rattle.hy_machine.specs.Validation.{committed_of}
 use Rattle.hy_shows.specs.CoreVisits.{EntriesTellChanges}
 use Rattle.hy_shows.specs.Numbers.{EntryShows, EntriesShow}
 use Rattle.hy_near.specs.Outcomes.{told_entry}
-use Rattle.hy_near.specs.Typed.{AreTyped}
+use Rattle.hy_near.specs.Texts.{CanBeLogged}
 use Rattle.hy_durable.specs.Laws.{LogsRecoverTables}
 use Rattle.hy_world.specs.Worlds.{WorldData, ShowsState, parts_of}
 use Rattle.hy_world.proofs.Parts.{core_is, how_many}
@@ -148,7 +148,7 @@ core_shown setting state world shows =
 
 -- the log of the first entries of a world recovers to the tables of the state that it shows, after as many entries
 recovers_after : LogsRecoverTables → (setting : Setting) (kinds : List (List Kind)) (state : State) (world : WorldData) → ShowsState setting state world
-    → AreTyped kinds setting.shapes setting.first setting.programs → (count gate : ℕ) (bytes : List ℕ) → IsLogOf (take count world.core.entries) gate bytes
+    → CanBeLogged kinds setting → (count gate : ℕ) (bytes : List ℕ) → IsLogOf (take count world.core.entries) gate bytes
     → RecoversAfter setting kinds state count bytes
 recovers_after law setting kinds state world shows typed count gate bytes log =
     law setting kinds state (parts_of world.chunks world.core) world.sessions shows.shown typed count gate bytes
@@ -167,7 +167,7 @@ first_taken first entries more = ap (take (length first)) more.behind ∙ take-a
 
 pub is_durable : {D : Type 0} (image : D → List ℕ → Type 0) (image_since : D → ℕ → List ℕ → Type 0) → LogsRecoverTables → (setting : Setting)
     (kinds : List (List Kind)) (state : State) (world : WorldData) (time : ℕ) (disk : D) → ShowsState setting state world
-    → AreTyped kinds setting.shapes setting.first setting.programs → IsKeptSince image image_since world.core.entries time disk
+    → CanBeLogged kinds setting → IsKeptSince image image_since world.core.entries time disk
     → IsDurable image image_since setting kinds state time disk
 is_durable image image_since law setting kinds state world time disk shows typed kept = record {
   now = λ bytes left. recovers_after law setting kinds state world shows typed (length state.order) kept.gate bytes
@@ -229,7 +229,7 @@ same_snapshot setting now state more count behind within =
     ap (history (opening_tables setting)) (sym (ap (take count) behind ∙ take-append-le count now.order more within))
 
 log_of_run : LogsRecoverTables → EntriesTellChanges → (setting : Setting) (kinds : List (List Kind)) (state : State) (world : WorldData)
-    → IsUnderWay setting state.order world → AreTyped kinds setting.shapes setting.first setting.programs → (bytes : List ℕ)
+    → IsUnderWay setting state.order world → CanBeLogged kinds setting → (bytes : List ℕ)
     → IsLogOfFirst world.core.entries bytes → IsLogOfRun setting kinds state bytes
 log_of_run law one setting kinds state world way typed bytes is =
     let count : ℕ = length is.first in
@@ -252,7 +252,7 @@ log_of_run law one setting kinds state world way typed bytes is =
 
 pub logs_run : {D : Type 0} (clock : D → ℕ) (image_since : D → ℕ → List ℕ → Type 0) → LogsRecoverTables → EntriesTellChanges
     → (setting : Setting) (kinds : List (List Kind)) (state : State) (old new : WorldData) (before after : D)
-    → IsUnderWay setting state.order new → AreTyped kinds setting.shapes setting.first setting.programs
+    → IsUnderWay setting state.order new → CanBeLogged kinds setting
     → Logs clock image_since old.core.entries new.core.entries before after → LogsRun clock image_since setting kinds state before after
 logs_run clock image_since law one setting kinds state old new before after way typed logs = record {
   later = logs.later;

@@ -7,7 +7,7 @@ ghost use Rattle.hy_journal.specs.declared.Entry.{Entry};
 ghost use Rattle.hy_machine.specs.declared.Setting.{Setting};
 ghost use Rattle.hy_machine.specs.Outcomes.{outcome_of};
 ghost use Rattle.hy_machine.specs.Runs.{opening_of, run_of};
-ghost use Rattle.hy_near.specs.Typed.{AreTyped};
+ghost use Rattle.hy_near.specs.Texts.{CanBeLogged};
 ghost use Rattle.hy_redo.specs.Crashes.{AreLogsOf};
 ghost use Rattle.hy_value.specs.declared.Kind.{Kind};
 ghost use Rattle.hy_world.specs.Logged.{IsKept, IsKeptButTheLast, Logs, HasLogged, IsDurable, LogsRun, with_next};
@@ -65,11 +65,11 @@ impl World {
             → outcome ≡ outcome_of setting (run_of setting schedule.now)) }
         ensures logged { IfOk result (λ outcome. HasLogged D.image D.image_since outcome.order (D.clock disk.old) disk.new) }
         ensures durable { IfOk result (λ _. (setting : Setting) (kinds : List (List Kind)) → ShowsState setting (opening_of setting) self
-            → AreTyped kinds setting.shapes setting.first setting.programs
+            → CanBeLogged kinds setting
             → IsDurable D.image D.image_since setting kinds (run_of setting schedule.now) (D.clock disk.old) disk.new) }
         // Where it breaks off too, a crash at any moment leaves the log of some first entries of the machine's order.
         ensures moments { (setting : Setting) (kinds : List (List Kind)) → ShowsState setting (opening_of setting) self
-            → AreTyped kinds setting.shapes setting.first setting.programs
+            → CanBeLogged kinds setting
             → LogsRun D.clock D.image_since setting kinds (run_of setting schedule.now) disk.old disk.new }
         ensures later { D.clock disk.old ≤ D.clock disk.new }
         ensures fault { IsErrOf result AppendError.DiskFault → Rose (D.faults disk.old) (D.faults disk.new) }

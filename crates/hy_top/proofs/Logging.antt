@@ -14,9 +14,8 @@ use Rattle.hy_typed.specs.Scripts.{catalog_kinds}
 use Rattle.hy_disk.specs.Bytes.{IsOwn}
 use Rattle.hy_disk.specs.Calls.{Syncs}
 use Rattle.hy_redo.specs.Crashes.{AreLogsOf, IsBegun, IsBegunAtMost}
-use Rattle.hy_near.specs.Typed.{AreTyped}
+use Rattle.hy_near.specs.Texts.{CanBeLogged}
 use Rattle.hy_schedule.specs.declared.Item.{Item}
-use Rattle.hy_typed.specs.Scripts.{IsTypedScript}
 use Rattle.hy_value.specs.declared.Kind.{Kind}
 use Rattle.hy_words.specs.declared.Command.{Command}
 use Rattle.hy_world.specs.Logged.{RecoversAfter, IsDurable, HasLogged, LogsRun}
@@ -80,15 +79,15 @@ keeps_so clock image_since script before after logs = record {
 
 pub keeps_run : {D : Type 0} (clock : D → ℕ) (image_since : D → ℕ → List ℕ → Type 0) (script : Script) (setting : Setting) (schedule : List Item)
     (world : WorldData) (before after : D) → setting ≡ setting_at script → schedule ≡ script.schedule → ShowsState setting (opening_of setting) world
-    → IsTypedScript script
-    → ((other : Setting) (kinds : List (List Kind)) → ShowsState other (opening_of other) world → AreTyped kinds other.shapes other.first other.programs
+    → CanBeLogged (catalog_kinds script.catalog) (setting_at script)
+    → ((other : Setting) (kinds : List (List Kind)) → ShowsState other (opening_of other) world → CanBeLogged kinds other
     → LogsRun clock image_since other kinds (run_of other schedule) before after)
     → KeepsLog clock image_since script before after
-keeps_run clock image_since script setting schedule world before after same items shows typed moments =
+keeps_run clock image_since script setting schedule world before after same items shows can moments =
     let own : Setting = setting_at script in
     keeps_so clock image_since script before after
     (subst (λ (other : List Item). LogsRun clock image_since own (catalog_kinds script.catalog) (run_of own other) before after) items
-    (moments own (catalog_kinds script.catalog) (subst (λ (s : Setting). ShowsState s (opening_of s) world) same shows) typed))
+    (moments own (catalog_kinds script.catalog) (subst (λ (s : Setting). ShowsState s (opening_of s) world) same shows) can))
 
 -- a log that was not touched
 pub keeps_still : {D : Type 0} (clock : D → ℕ) (image_since : D → ℕ → List ℕ → Type 0) (script : Script) (disk : D)

@@ -4,6 +4,7 @@ use Rattle.hy_bind.specs.Shapes.{catalog_shapes}
 use Rattle.hy_script.specs.declared.Script.{Script}
 use Rattle.hy_machine.specs.declared.Setting.{Setting}
 use Rattle.hy_near.specs.Runnable.{IsRunnable}
+use Rattle.hy_near.specs.Texts.{AreUtf8}
 use Rattle.hy_typed.specs.Scripts.{IsTypedScript}
 
 -- what of a script does not change while it runs
@@ -20,3 +21,7 @@ setting_at script = record {
 pub record CanRun (script : Script) : Type 0 where
   pub runnable : IsRunnable (setting_at script)
   pub typed : IsTypedScript script
+
+-- the texts that a script writes are UTF-8
+abbrev pub IsUtf8Script : Script → Type 0
+IsUtf8Script script = AreUtf8 script.rows (map (λ session. session.txns) script.sessions)

@@ -1,10 +1,12 @@
-//! What the tables and sessions of a script that is read are called, and what the text of its run tells.
+//! What the tables and sessions of a script that is read are called, that its texts are UTF-8, and what the text of its
+//! run tells.
 
 ghost use Rattle.std.specs.Prelude.{◌≡◌, ℕ, List, Ok};
 ghost use Rattle.hy_script.specs.declared.Options.{Options};
 ghost use Rattle.hy_script.specs.declared.Script.{Script};
 ghost use Rattle.hy_script.specs.Reading.{Reads};
 ghost use Rattle.hy_top.specs.Naming.{IsNamed};
+ghost use Rattle.hy_top.specs.Settings.{IsUtf8Script};
 ghost use Rattle.hy_top.specs.Telling.{TextsTellOutcomes};
 
 use hy_lawful::{ends_are_lawful, runs_are_lawful};
@@ -17,6 +19,14 @@ use hy_serial::what_an_outcome_mentions_has_a_name;
 /// sessions.
 pub fn what_is_read_is_named()
     ensures { (bytes : List ℕ) (options : Options) (script : Script) → Reads bytes options (Ok script) → IsNamed script }
+{
+    scripts_are_parsed();
+    sentences_are_accepted();
+}
+
+/// A law: the texts that a script writes, which is read, are UTF-8.
+pub fn what_is_read_is_utf8()
+    ensures { (bytes : List ℕ) (options : Options) (script : Script) → Reads bytes options (Ok script) → IsUtf8Script script }
 {
     scripts_are_parsed();
     sentences_are_accepted();

@@ -14,7 +14,7 @@ ghost use Rattle.hy_gen.specs.Made.{made};
 ghost use Rattle.hy_script.specs.declared.Script.{Script};
 ghost use Rattle.hy_top.specs.Lines.{usage_line, refusal_line_of, checked_line};
 ghost use Rattle.hy_top.specs.Program.{MayCome, bytes_left, keeps_log, options_by, made_by, names_at, uses_disk};
-ghost use Rattle.hy_top.specs.Settings.{CanRun};
+ghost use Rattle.hy_top.specs.Settings.{CanRun, IsUtf8Script};
 ghost use Rattle.hy_top.specs.Reports.{Writes, Answers, IsAnswered, Leaves, LeavesLog, Runs, Checks, Summarizes, GaveUp, Does, Makes};
 
 mod laws;
@@ -34,7 +34,7 @@ use hy_script::{Code, Options, ReadError, Refused, Script, read_once, what_is_re
 use hy_threads::Gate;
 use hy_typed::{what_is_made_is_typed, what_is_read_is_typed};
 use hy_words::{Command, WordsError};
-pub use laws::{one_text_is_of_one_outcome, what_is_read_is_named};
+pub use laws::{one_text_is_of_one_outcome, what_is_read_is_named, what_is_read_is_utf8};
 use lines::{checked, refusal_line};
 use logs::{recover_script, run_logged};
 use settings::{Given, given_of};
@@ -345,6 +345,7 @@ fn answer<T: Threads + Wait + Sync, W: Sink, G: Gate, D: Disk>(
     read_once();
     what_is_read_fits();
     what_is_read_is_typed();
+    what_is_read_is_utf8();
     runs_are_steps();
     ends_are_lawful();
     match hy_script::read(crew.alloc, bytes, &options_of(command)) {
@@ -362,7 +363,8 @@ fn perform<T: Threads + Wait + Sync, W: Sink, G: Gate, D: Disk>(
     sink: &mut W,
     disk: &mut D,
 ) -> Report
-    requires { CanRun script }
+    requires runs { CanRun script }
+    requires texts { IsUtf8Script script }
     ensures does { GaveUp result.status × (sink.new ≡ sink.old) × IsNone result.outcome
         ⊎ Does command script (D.held disk.old) result.status result.outcome (W.written sink.old) (W.written sink.new) }
     ensures write_fault { result.status ≡ 4 → Rose (W.faults sink.old) (W.faults sink.new) }

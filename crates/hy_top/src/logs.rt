@@ -12,7 +12,7 @@ ghost use Rattle.hy_recovery.specs.Recovered.{AreRecovered};
 ghost use Rattle.hy_top.specs.Lines.{damaged_line};
 ghost use Rattle.hy_top.specs.Program.{comes_to, names_at};
 ghost use Rattle.hy_top.specs.Reports.{Writes, Runs, RunsLogged, FindsALog, Restores, GaveUp, LeavesLog, KeepsLog, IsLoggedSince, tables_at};
-ghost use Rattle.hy_top.specs.Settings.{CanRun};
+ghost use Rattle.hy_top.specs.Settings.{CanRun, IsUtf8Script};
 
 use crate::lines::damaged;
 use crate::settings::{Given, given_of};
@@ -41,7 +41,8 @@ pub(crate) fn run_logged<W: Sink, D: Disk>(
     sink: &mut W,
     disk: &mut D,
 ) -> Report
-    requires { CanRun script }
+    requires runs { CanRun script }
+    requires texts { IsUtf8Script script }
     ensures run { GaveUp result.status × (sink.new ≡ sink.old) × IsNone result.outcome
         ⊎ (RunsLogged script (D.held disk.old) result.status result.outcome (W.written sink.old) (W.written sink.new)
         ⊎ FindsALog (D.held disk.old) result.status result.outcome (W.written sink.old) (W.written sink.new)) }
@@ -70,6 +71,7 @@ fn run_on_log<W: Sink, D: Disk>(
     disk: &mut D,
 ) -> Report
     requires runs { CanRun script }
+    requires texts { IsUtf8Script script }
     requires log { AreLogsOf (D.image disk.old) [] log }
     ensures run { GaveUp result.status × (sink.new ≡ sink.old) × IsNone result.outcome
         ⊎ Runs false script result.status result.outcome (W.written sink.old) (W.written sink.new) }
@@ -96,6 +98,7 @@ fn logged_text<D: Disk>(
     disk: &mut D,
 ) -> Result<(Outcome, Vec<u8>), AppendError>
     requires runs { CanRun script }
+    requires texts { IsUtf8Script script }
     requires log { AreLogsOf (D.image disk.old) [] log }
     ensures outcome { IfOk result (λ given. (given.0 ≡ comes_to script) × (given.1.items ≡ text (names_at script) given.0)) }
     ensures logged { IfOk result (λ given. IsLoggedSince D.image D.image_since script given.0 (D.clock disk.old) disk.new) }

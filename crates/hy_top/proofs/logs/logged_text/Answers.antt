@@ -22,7 +22,7 @@ returns-clause-logged g c =
     c.in_ok-outcome.ensures.logged
     (subst (λ (schedule : List Item). IsDurable d.image d.image_since setting (catalog_kinds c.args.script.catalog) (run_of setting schedule)
     (d.clock c.args.disk.now) c.run_logged.new.disk) items
-    (c.in_ok-outcome.ensures.durable setting (catalog_kinds c.args.script.catalog) shows c.requires.runs.typed))
+    (c.in_ok-outcome.ensures.durable setting (catalog_kinds c.args.script.catalog) shows (record { typed = c.requires.runs.typed; texts = c.requires.texts })))
 
 pub returns-in_err-setting-clause-keeps : goal.returns-in_err-setting-clause-keeps
 returns-in_err-setting-clause-keeps g c =
@@ -40,7 +40,7 @@ returns-in_err-outcome-clause-keeps g c =
     let same : c.in_ok-setting.field-0.setting ≡ setting_at c.args.script = c.in_ok-setting.ensures.setting in
     let items : c.as_slice-2.result.now ≡ c.args.script.schedule = first_of (cc, search (rules)) in
     keeps_run d.clock d.image_since c.args.script c.in_ok-setting.field-0.setting c.as_slice-2.result.now c.in_ok-world.world c.args.disk.now
-    c.run_logged.new.disk same items c.in_ok-world.ensures.shows c.requires.runs.typed c.run_logged.ensures.moments
+    c.run_logged.new.disk same items c.in_ok-world.ensures.shows (record { typed = c.requires.runs.typed; texts = c.requires.texts }) c.run_logged.ensures.moments
 
 pub returns-in_err-render-clause-keeps : goal.returns-in_err-render-clause-keeps
 returns-in_err-render-clause-keeps g c =
@@ -48,7 +48,7 @@ returns-in_err-render-clause-keeps g c =
     let same : c.in_ok-setting.field-0.setting ≡ setting_at c.args.script = c.in_ok-setting.ensures.setting in
     let items : c.as_slice-2.result.now ≡ c.args.script.schedule = first_of (cc, search (rules)) in
     keeps_run d.clock d.image_since c.args.script c.in_ok-setting.field-0.setting c.as_slice-2.result.now c.in_ok-world.world c.args.disk.now
-    c.run_logged.new.disk same items c.in_ok-world.ensures.shows c.requires.runs.typed c.run_logged.ensures.moments
+    c.run_logged.new.disk same items c.in_ok-world.ensures.shows (record { typed = c.requires.runs.typed; texts = c.requires.texts }) c.run_logged.ensures.moments
 
 pub returns-clause-keeps : goal.returns-clause-keeps
 returns-clause-keeps g c =
@@ -56,4 +56,4 @@ returns-clause-keeps g c =
     let same : c.in_ok-setting.field-0.setting ≡ setting_at c.args.script = c.in_ok-setting.ensures.setting in
     let items : c.as_slice-2.result.now ≡ c.args.script.schedule = first_of (cc, search (rules)) in
     keeps_run d.clock d.image_since c.args.script c.in_ok-setting.field-0.setting c.as_slice-2.result.now c.in_ok-world.world c.args.disk.now
-    c.run_logged.new.disk same items c.in_ok-world.ensures.shows c.requires.runs.typed c.run_logged.ensures.moments
+    c.run_logged.new.disk same items c.in_ok-world.ensures.shows (record { typed = c.requires.runs.typed; texts = c.requires.texts }) c.run_logged.ensures.moments

@@ -167,7 +167,7 @@ build() {
     if [ -e "$program" ]; then
         complain "the program isn't that of these sources and this toolchain: proving and building it anew (log: $log)"
     else
-        complain "proving and building the program; from nothing this can take half an hour (log: $log)"
+        complain "proving and building the program; from nothing this can take an hour (log: $log)"
     fi
     find_bench
     tick &

@@ -13,3 +13,10 @@ pub mod BagMeanings
 pub mod Gathered
 pub mod CellShows
 pub mod CellColumns
+mod Keys
+mod Spread
+mod AsRead
+mod Restricted
+mod LookedUp
+mod InTurn
+mod Ended

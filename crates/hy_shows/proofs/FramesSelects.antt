@@ -19,9 +19,9 @@ use Rattle.hy_meaning.specs.Statement.{Table, answer_of}
 use Rattle.hy_plan.specs.declared.PlanPart.{PlanPart}
 use Rattle.hy_plan.specs.Reads.{select_named, records_of}
 use Rattle.hy_join.specs.Answers.{spread_all}
-use Rattle.hy_lookups.specs.Lookups.{gathered_for, looked_up, LookedUpAnswers, LookedUpLogsTheSame}
-use Rattle.hy_lookups.specs.Turns.{columns_gathered, LookedUpAlone}
-use Rattle.hy_lookups.specs.Wanted.{ReadIsWanted}
+use Rattle.hy_laws.specs.Lookups.{gathered_for, looked_up, LookedUpAnswers, LookedUpLogsTheSame}
+use Rattle.hy_laws.specs.Turns.{columns_gathered, LookedUpAlone}
+use Rattle.hy_laws.specs.Wanted.{ReadIsWanted}
 use Rattle.hy_undo.specs.Chunks.{ChunkData, rows_seen}
 use Rattle.hy_event.specs.declared.SessionData.{SessionData}
 use Rattle.hy_event.specs.declared.Open.{Open}

@@ -13,9 +13,9 @@ use Rattle.hy_plan.specs.declared.Lookup.{Lookup}
 use Rattle.hy_plan.specs.declared.PlanPart.{PlanPart}
 use Rattle.hy_plan.specs.Reads.{is_read_of}
 use Rattle.hy_join.specs.Answers.{spread_all}
-use Rattle.hy_lookups.specs.Lookups.{is_wanted, is_gathered, gathered_for}
-use Rattle.hy_lookups.specs.Turns.{columns_gathered}
-use Rattle.hy_lookups.specs.Wanted.{ReadIsWanted}
+use Rattle.hy_laws.specs.Lookups.{is_wanted, is_gathered, gathered_for}
+use Rattle.hy_laws.specs.Turns.{columns_gathered}
+use Rattle.hy_laws.specs.Wanted.{ReadIsWanted}
 use Rattle.hy_undo.specs.Places.{Cell}
 use Rattle.hy_event.specs.Gathering.{joined_columns, conditions_by}
 use Rattle.hy_machine.specs.declared.Setting.{Setting}

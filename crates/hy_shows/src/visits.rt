@@ -62,10 +62,10 @@ pub fn selects_are_taken()
     ensures { SelectsAreTaken }
 {
     own_steps_show();
-    hy_lookups::tables_are_looked_up_in_turn();
-    hy_lookups::looked_up_rows_answer();
-    hy_lookups::looked_up_rows_log_the_same();
-    hy_lookups::wanted_rows_are_read_by_key();
+    hy_laws::tables_are_looked_up_in_turn();
+    hy_laws::looked_up_rows_answer();
+    hy_laws::looked_up_rows_log_the_same();
+    hy_laws::wanted_rows_are_read_by_key();
 }
 
 /// A visit of a SELECT with GROUP BY is the machine's.

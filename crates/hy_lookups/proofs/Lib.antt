@@ -1,7 +1,0 @@
-mod Keys
-mod Spread
-mod AsRead
-mod Restricted
-mod Again
-mod InTurn
-mod Ended

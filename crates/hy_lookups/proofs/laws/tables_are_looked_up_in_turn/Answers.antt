@@ -1,8 +1,0 @@
-use Rattle.hy_lookups.proofs.InTurn.{looked_up_in_turn, looked_up_alone}
-use Rattle.hy_lookups.proofs.laws.tables_are_looked_up_in_turn.Goals as goal
-
-pub returns-clause-each : goal.returns-clause-each
-returns-clause-each c = looked_up_in_turn
-
-pub returns-clause-alone : goal.returns-clause-alone
-returns-clause-alone c = looked_up_alone

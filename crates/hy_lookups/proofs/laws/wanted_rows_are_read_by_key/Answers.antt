@@ -1,5 +1,0 @@
-use Rattle.hy_lookups.proofs.Keys.{read_where_wanted}
-use Rattle.hy_lookups.proofs.laws.wanted_rows_are_read_by_key.Goals as goal
-
-pub returns : goal.returns
-returns c = read_where_wanted

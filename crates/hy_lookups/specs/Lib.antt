@@ -1,4 +1,0 @@
-pub mod Lookups
-pub mod Turns
-pub mod Ends
-pub mod Wanted

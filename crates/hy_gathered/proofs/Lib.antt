@@ -4,3 +4,6 @@ pub mod Summed
 mod Tallied
 mod Grouped
 mod RowGroups
+mod GroupsMade
+mod GroupsGathered
+mod GroupsRecorded

@@ -4,3 +4,5 @@ pub mod Sums
 pub mod Tally
 pub mod Groups
 pub mod Unasked
+pub mod GroupPlans
+pub mod GroupLaws

@@ -10,9 +10,9 @@ use Rattle.hy_bound.specs.Agreement.{FitTable}
 use Rattle.hy_bound.specs.Changes.{Change, Miss, FitChanges}
 use Rattle.hy_bound.specs.Condition.{Condition, Compare}
 use Rattle.hy_bound.specs.Records.{shape_of}
-use Rattle.hy_group.specs.declared.GroupPlan.{GroupPlan}
-use Rattle.hy_group.specs.Groups.{group_part, group_plan, groups_told}
-use Rattle.hy_group.specs.Laws.{gathered_from}
+use Rattle.hy_gathered.specs.declared.group_plans.GroupPlan.{GroupPlan}
+use Rattle.hy_gathered.specs.GroupPlans.{group_part, group_plan, groups_told}
+use Rattle.hy_gathered.specs.GroupLaws.{gathered_from}
 use Rattle.hy_meaning.specs.Statement.{Table, grouped}
 use Rattle.hy_plan.specs.ColumnSets.{named_columns}
 use Rattle.hy_neighbours.specs.Examples.{number, only}

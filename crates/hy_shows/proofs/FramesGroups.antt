@@ -19,7 +19,7 @@ use Rattle.hy_bound.specs.Records.{shape_of}
 use Rattle.hy_meaning.specs.Statement.{Table, grouped}
 use Rattle.hy_plan.specs.declared.PlanPart.{PlanPart}
 use Rattle.hy_plan.specs.Reads.{is_read_of}
-use Rattle.hy_group.specs.Laws.{gathered_from, GatheredGroups}
+use Rattle.hy_gathered.specs.GroupLaws.{gathered_from, GatheredGroups}
 use Rattle.hy_undo.specs.Places.{Cell}
 use Rattle.hy_undo.specs.Chunks.{ChunkData}
 use Rattle.hy_event.specs.declared.SessionData.{SessionData}

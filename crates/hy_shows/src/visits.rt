@@ -73,7 +73,7 @@ pub fn groups_are_taken()
     ensures { GroupsAreTaken }
 {
     own_steps_show();
-    hy_group::gathered_groups_answer();
+    hy_gathered::gathered_groups_answer();
 }
 
 /// A visit of an INSERT that looks for its key is the machine's.

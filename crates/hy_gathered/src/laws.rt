@@ -1,6 +1,6 @@
 //! What is gathered for a SELECT with GROUP BY is enough for its reply and for its records.
 
-ghost use Rattle.hy_group.specs.Laws.{GatheredGroups, GroupsAreRecorded, GatheredIsRecorded};
+ghost use Rattle.hy_gathered.specs.GroupLaws.{GatheredGroups, GroupsAreRecorded, GatheredIsRecorded};
 
 /// What is told of the rows gathered for the plan of a SELECT with GROUP BY is its reply over its table.
 pub fn gathered_groups_answer()

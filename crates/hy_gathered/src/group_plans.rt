@@ -1,18 +1,14 @@
 //! GROUP BY: what is gathered of the table for it, and its reply from the rows that were gathered.
-#![tactic(auto)]
 
 ghost use Rattle.std.specs.Prelude.{◌≡◌, ◌∷◌, ◌++◌, IfOk};
 ghost use Rattle.hy_bound.specs.Records.{columns_of, columns_summed, shape_of};
 ghost use Rattle.hy_plan.specs.ColumnSets.{named_columns};
-ghost use Rattle.hy_group.specs.Groups.{group_plan_for, groups_told};
+ghost use Rattle.hy_gathered.specs.GroupPlans.{group_plan_for, groups_told};
 
-mod laws;
-
+use crate::{Grouping, Tally};
 use hy_bound::{Aggregate, Bound, Pred, Reply, Shape, table_shape};
-use hy_gathered::{Grouping, Tally};
 use hy_plan::{Gathered, PlanPart, Read, reads};
 use hy_value::ColMask;
-pub use laws::{gathered_groups_answer, gathered_groups_read};
 use std::alloc::{AllocError, Global};
 
 /// How a SELECT with GROUP BY is run.

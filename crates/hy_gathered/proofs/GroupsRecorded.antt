@@ -8,7 +8,7 @@ use Rattle.hy_bound.specs.Agreement.{is_named}
 use Rattle.hy_bound.specs.Truths.{named_front}
 use Rattle.hy_plan.specs.ColumnSets.{named_columns}
 use Rattle.hy_plan.specs.Members.{has_named}
-use Rattle.hy_group.specs.Laws.{GatheredIsRecorded}
+use Rattle.hy_gathered.specs.GroupLaws.{GatheredIsRecorded}
 
 -- more columns are named by a longer list
 more_named : (width : ℕ) (xs ys : List ℕ) (column : ℕ) → has_column (named_columns 0 width xs) column ≡ true

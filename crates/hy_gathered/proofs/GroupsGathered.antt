@@ -14,8 +14,8 @@ use Rattle.hy_meaning.specs.Totals.{groups_of}
 use Rattle.hy_plan.specs.ColumnSets.{named_columns}
 use Rattle.hy_plan.specs.Kept.{named_kept}
 use Rattle.hy_gathered.specs.Unasked.{all_selected}
-use Rattle.hy_group.specs.Laws.{GatheredGroups}
-use Rattle.hy_group.proofs.Groups.{Row, each_kept, groups_made}
+use Rattle.hy_gathered.specs.GroupLaws.{GatheredGroups}
+use Rattle.hy_gathered.proofs.GroupsMade.{Row, each_kept, groups_made}
 
 -- a row of a table, as it is when its named columns are gathered and spread again
 abbrev spread_again : ℕ → List ℕ → Row → Row

@@ -11,7 +11,7 @@ use Rattle.hy_bound.specs.Records.{columns_of, columns_summed, shape_of}
 use Rattle.hy_meaning.specs.Statement.{Table, grouped}
 use Rattle.hy_plan.specs.ColumnSets.{named_columns}
 use Rattle.hy_plan.specs.declared.PlanPart.{PlanPart}
-use Rattle.hy_group.specs.declared.GroupPlan.{GroupPlan}
+use Rattle.hy_gathered.specs.declared.group_plans.GroupPlan.{GroupPlan}
 
 -- what is gathered of the table: of the rows of which WHERE is true, the grouped and the summed column
 abbrev pub group_part : Shape → ℕ → Condition → ℕ → Aggregate → PlanPart

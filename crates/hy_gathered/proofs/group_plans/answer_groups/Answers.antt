@@ -4,7 +4,7 @@ use Rattle.hy_bound.specs.Projection.{spread}
 use Rattle.hy_bound.specs.declared.Reply.TheVariants.{Groups}
 use Rattle.hy_gathered.specs.Tally.{Tallied}
 use Rattle.hy_gathered.specs.Unasked.{grouped_all}
-use Rattle.hy_group.proofs.answer_groups.Goals as goal
+use Rattle.hy_gathered.proofs.group_plans.answer_groups.Goals as goal
 
 pub returns : goal.returns
 returns c =

@@ -13,8 +13,8 @@ use Rattle.hy_bound.specs.Agreement.{FitTable}
 use Rattle.hy_meaning.specs.Statement.{Table, Database, gathered_by, grouped}
 use Rattle.hy_plan.specs.Reads.{records_of}
 use Rattle.hy_plan.specs.declared.PlanPart.{PlanPart}
-use Rattle.hy_group.specs.declared.GroupPlan.{GroupPlan}
-use Rattle.hy_group.specs.Groups.{group_plan, groups_told}
+use Rattle.hy_gathered.specs.declared.group_plans.GroupPlan.{GroupPlan}
+use Rattle.hy_gathered.specs.GroupPlans.{group_plan, groups_told}
 
 -- what is gathered of a table for a part: of each row of which the part's condition is true, the values in the
 -- part's columns

@@ -1,3 +1,0 @@
-mod Groups
-mod Gathered
-mod Recorded

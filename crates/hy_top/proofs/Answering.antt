@@ -35,7 +35,7 @@ use Rattle.hy_bank.specs.Endings.{EndInFourWays, EndingsAddUp, MadeEndInFourWays
 use Rattle.hy_render.specs.Summary.{balances}
 use Rattle.std.specs.List.{AllByRecursion}
 use Rattle.std.specs.Prelude.{pos, IfOk}
-use Rattle.hy_near.specs.Runnable.{IsRunnable}
+use Rattle.hy_stepping.specs.Runnable.{IsRunnable}
 use Rattle.hy_top.specs.Settings.{CanRun, setting_at}
 use Rattle.hy_top.specs.Reports.{IsRefused, Spells, IsRun, Writes, Answers, IsAnswered, Leaves, LeavesLog, IsLogged, HasRun, restored_status, Summarizes, GaveUp, Does, Makes}
 use Rattle.hy_limits.specs.declared.TheConstants.{MOST_BYTES}

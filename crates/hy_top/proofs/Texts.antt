@@ -33,7 +33,7 @@ use Rattle.hy_bind.specs.Literals.{text_of_span, unquoted, integer_of, integer_v
 use Rattle.hy_bind.specs.Scope.{Scope}
 use Rattle.hy_bind.specs.Expressions.{binary_bound, formula_bound}
 use Rattle.hy_bind.specs.Statements.{in_scope, numbers_of, numbers_or_none, tables_of, selection_bound, set_bound, bound_of}
-use Rattle.hy_near.specs.Texts.{IsUtf8Value, IsUtf8Row, HasUtf8Texts, WritesUtf8, AreUtf8}
+use Rattle.hy_stepping.specs.Texts.{IsUtf8Value, IsUtf8Row, HasUtf8Texts, WritesUtf8, AreUtf8}
 use Rattle.hy_script.specs.declared.Options.{Options}
 use Rattle.hy_script.specs.declared.NamedTxns.{NamedTxns}
 use Rattle.hy_script.specs.declared.Script.{Script}

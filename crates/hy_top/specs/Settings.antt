@@ -3,8 +3,8 @@ use Rattle.std.specs.Prelude.{map}
 use Rattle.hy_bind.specs.Shapes.{catalog_shapes}
 use Rattle.hy_script.specs.declared.Script.{Script}
 use Rattle.hy_machine.specs.declared.Setting.{Setting}
-use Rattle.hy_near.specs.Runnable.{IsRunnable}
-use Rattle.hy_near.specs.Texts.{AreUtf8}
+use Rattle.hy_stepping.specs.Runnable.{IsRunnable}
+use Rattle.hy_stepping.specs.Texts.{AreUtf8}
 use Rattle.hy_typed.specs.Scripts.{IsTypedScript}
 
 -- what of a script does not change while it runs

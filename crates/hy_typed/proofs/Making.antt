@@ -17,7 +17,7 @@ use Rattle.hy_gen.specs.Accounts.{account_table, int, first_row, first_rows, upd
 use Rattle.hy_gen.specs.Draws.{next_state}
 use Rattle.hy_gen.specs.Transactions.{audit, transfer, transfer_from, txn_from, is_audit, state_after_txn, state_after_txns, txns_from}
 use Rattle.hy_gen.specs.Made.{sessions_from, made}
-use Rattle.hy_near.specs.Typed.{IsTypedIn, IsTypedTxn}
+use Rattle.hy_stepping.specs.Typed.{IsTypedIn, IsTypedTxn}
 use Rattle.hy_script.specs.declared.NamedTxns.{NamedTxns}
 use Rattle.hy_typed.specs.Scripts.{catalog_kinds, IsTypedScript}
 use Rattle.hy_typed.proofs.Catalogs.{tables_typed}

@@ -9,7 +9,7 @@ use Rattle.hy_bound.specs.declared.Bound.{Bound}
 use Rattle.hy_bound.specs.declared.Txn.{Txn}
 use Rattle.hy_bind.specs.Shapes.{catalog_shapes}
 use Rattle.hy_chunk.specs.Sound.{FitsRow}
-use Rattle.hy_near.specs.Typed.{IsTypedIn, IsTypedTxn}
+use Rattle.hy_stepping.specs.Typed.{IsTypedIn, IsTypedTxn}
 use Rattle.hy_script.specs.declared.NamedTxns.{NamedTxns}
 use Rattle.hy_script.specs.declared.Script.{Script}
 use Rattle.hy_script.specs.Binding.{WasGiven, WereGiven, WasBound, WereBound, IsBound}

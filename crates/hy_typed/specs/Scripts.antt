@@ -9,7 +9,7 @@ use Rattle.hy_script.specs.declared.Options.{Options}
 use Rattle.hy_script.specs.declared.Script.{Script}
 use Rattle.hy_script.specs.Reading.{Reads}
 use Rattle.hy_gen.specs.Made.{made}
-use Rattle.hy_near.specs.Typed.{IsTypedIn, AreTyped}
+use Rattle.hy_stepping.specs.Typed.{IsTypedIn, AreTyped}
 
 -- the types of the columns of each table
 abbrev pub catalog_kinds : List TableDef → List (List Kind)

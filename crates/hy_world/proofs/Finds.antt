@@ -11,7 +11,7 @@ use Rattle.hy_machine.specs.declared.Setting.{Setting}
 use Rattle.hy_machine.specs.States.{State}
 use Rattle.hy_machine.specs.declared.Stepped.TheVariants.{Ended}
 use Rattle.hy_machine.specs.Steps.{Step, step_of}
-use Rattle.hy_near.specs.Steps.{NeededChunksAreThere, ChunksAreNear, EndedStayAsTheyAre}
+use Rattle.hy_stepping.specs.Steps.{NeededChunksAreThere, ChunksAreNear, EndedStayAsTheyAre}
 use Rattle.hy_session.specs.Near.{NearChunk}
 use Rattle.hy_world.specs.Asks.{need_in, need_at}
 use Rattle.hy_world.specs.Follows.{Steps}

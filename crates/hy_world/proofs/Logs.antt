@@ -21,9 +21,9 @@ use Rattle.hy_machine.specs.Sessions.{snapshot}
 use Rattle.hy_machine.specs.Validation.{committed_of}
 use Rattle.hy_shows.specs.CoreVisits.{EntriesTellChanges}
 use Rattle.hy_shows.specs.Numbers.{EntryShows, EntriesShow}
-use Rattle.hy_near.specs.Outcomes.{told_entry}
-use Rattle.hy_near.specs.Texts.{CanBeLogged}
-use Rattle.hy_durable.specs.Laws.{LogsRecoverTables}
+use Rattle.hy_stepping.specs.Outcomes.{told_entry}
+use Rattle.hy_stepping.specs.Texts.{CanBeLogged}
+use Rattle.hy_stepping.specs.Logs.{LogsRecoverTables}
 use Rattle.hy_world.specs.Worlds.{WorldData, ShowsState, parts_of}
 use Rattle.hy_world.proofs.Parts.{core_is, how_many}
 

@@ -11,8 +11,8 @@ use Rattle.hy_machine.specs.declared.Stepped.{Stepped}
 use Rattle.hy_machine.specs.Steps.{step_of}
 use Rattle.hy_machine.specs.Runs.{is_moved, moves, whole_of, item_of, items_of, round_from, round_of, all_ended_from, repeated, rounds_of}
 use Rattle.hy_lawful.specs.Kept.{ReachedAreKept}
-use Rattle.hy_near.specs.Bounds.{BoundsAreEnough, most_turns}
-use Rattle.hy_near.specs.Outcomes.{EndsAreTheMachines, are_done}
+use Rattle.hy_stepping.specs.Bounds.{BoundsAreEnough, most_turns}
+use Rattle.hy_stepping.specs.Outcomes.{EndsAreTheMachines, are_done}
 use Rattle.hy_world.specs.Follows.{Follows, Steps}
 use Rattle.hy_world.specs.Logged.{Extend, Approaches}
 use Rattle.hy_world.specs.Worlds.{WorldData, ShowsState, parts_of}

@@ -32,8 +32,8 @@ use Rattle.hy_session.specs.declared.Layout.{Layout}
 use Rattle.hy_shows.specs.Laws.{OpeningIsShown}
 use Rattle.hy_shows.specs.Parts.{ChunkIs, PartsAre, OfPlaces}
 use Rattle.hy_shows.specs.Shows.{IsFresh, IsLaidOut, IsOpening, blank_core}
-use Rattle.hy_near.specs.Runnable.{IsRunnable}
-use Rattle.hy_near.specs.Typed.{AreTyped, kinds_of}
+use Rattle.hy_stepping.specs.Runnable.{IsRunnable}
+use Rattle.hy_stepping.specs.Typed.{AreTyped, kinds_of}
 use Rattle.hy_world.specs.Openings.{places_with, first_rows, rows_in, laid_chunk, IsLaid, AreLaid, new_session, sessions_from, layout_of, IsOpened}
 use Rattle.hy_world.specs.declared.opening.Opened.{Opened}
 use Rattle.hy_world.specs.Worlds.{ShowsState, IsWorld, HaveTypes, parts_of, plain}

@@ -21,7 +21,7 @@ use Rattle.hy_undo.specs.Chunks.{rows_seen}
 use Rattle.hy_undo.specs.Places.{Cell}
 use Rattle.hy_chunk.specs.Gathering.{gathered_of}
 use Rattle.hy_chunk.specs.Views.{Whole}
-use Rattle.hy_near.specs.Outcomes.{chunk_rows, last_viewer, places_in}
+use Rattle.hy_stepping.specs.Outcomes.{chunk_rows, last_viewer, places_in}
 use Rattle.hy_world.specs.Finished.{every_column, places_of, gathered_at, gathered_in, read_back, table_back, tables_back}
 use Rattle.hy_world.specs.Worlds.{parts_of, plain}
 use Rattle.hy_world.proofs.Widths.{row_back}

@@ -7,7 +7,7 @@ use Rattle.hy_machine.specs.declared.Setting.{Setting}
 use Rattle.hy_machine.specs.States.{State}
 use Rattle.hy_machine.specs.Outcomes.{outcome_of}
 use Rattle.hy_machine.specs.Runs.{RunsEnd, opening_of, items_of, rounds_of, run_of}
-use Rattle.hy_near.specs.Outcomes.{EndsAreTheMachines, are_done}
+use Rattle.hy_stepping.specs.Outcomes.{EndsAreTheMachines, are_done}
 use Rattle.hy_world.specs.Follows.{Follows, Tells}
 use Rattle.hy_world.specs.Worlds.{WorldData, ShowsState, parts_of}
 

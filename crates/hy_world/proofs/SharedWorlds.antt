@@ -23,9 +23,9 @@ use Rattle.hy_machine.specs.declared.Setting.{Setting}
 use Rattle.hy_machine.specs.States.{State}
 use Rattle.hy_machine.specs.Runs.{opening_of}
 use Rattle.hy_session.specs.Near.{NearChunk}
-use Rattle.hy_near.specs.Outcomes.{EndsAreTheMachines, is_done, are_done}
-use Rattle.hy_near.specs.Runnable.{IsRunnable, IsShown}
-use Rattle.hy_near.specs.Typed.{AreTyped}
+use Rattle.hy_stepping.specs.Outcomes.{EndsAreTheMachines, is_done, are_done}
+use Rattle.hy_stepping.specs.Runnable.{IsRunnable, IsShown}
+use Rattle.hy_stepping.specs.Typed.{AreTyped}
 use Rattle.hy_world.specs.Shared.{SharedData, ChunkOf, CoreOf, AreParts, AreShared, HaveSharedTypes, IsChunk, Laws, MayVisit, chunk_shared}
 use Rattle.hy_world.specs.Shared.{part_of, parts_shared}
 use Rattle.hy_shows.specs.Laws.{OpeningIsShown}

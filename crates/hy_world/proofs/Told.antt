@@ -27,9 +27,9 @@ use Rattle.hy_lawful.specs.Views.{TablesAreFitted, ReachedTablesFit}
 use Rattle.hy_render.specs.declared.Committed.{Committed}
 use Rattle.hy_render.specs.declared.Outcome.{Outcome}
 use Rattle.hy_render.specs.declared.TxnOutcome.{TxnOutcome}
-use Rattle.hy_near.specs.Outcomes.{OutcomesAreTold, last_viewer, told, told_entry, told_rows}
-use Rattle.hy_near.specs.Runnable.{IsRunnable, IsShown}
-use Rattle.hy_near.specs.Typed.{kinds_of}
+use Rattle.hy_stepping.specs.Outcomes.{OutcomesAreTold, last_viewer, told, told_entry, told_rows}
+use Rattle.hy_stepping.specs.Runnable.{IsRunnable, IsShown}
+use Rattle.hy_stepping.specs.Typed.{kinds_of}
 use Rattle.hy_shows.specs.Parts.{PartsAre}
 use Rattle.hy_world.specs.Finished.{gathered_in, read_back, table_back, tables_back, HaveTheirWidths}
 use Rattle.hy_world.specs.Follows.{Tells}

@@ -22,9 +22,9 @@ use Rattle.hy_machine.specs.Steps.{step_of}
 use Rattle.hy_shows.specs.Sessions.{SessionIs}
 use Rattle.hy_shows.specs.Taken.{stepped_of}
 use Rattle.hy_session.specs.Near.{NearCore, NearChunk}
-use Rattle.hy_near.specs.Typed.{AreTyped}
-use Rattle.hy_near.specs.Runnable.{IsShown}
-use Rattle.hy_near.specs.Steps.{CoresAreNear, NeededChunksAreThere, ChunksAreNear, VisitsAreSteps}
+use Rattle.hy_stepping.specs.Typed.{AreTyped}
+use Rattle.hy_stepping.specs.Runnable.{IsShown}
+use Rattle.hy_stepping.specs.Steps.{CoresAreNear, NeededChunksAreThere, ChunksAreNear, VisitsAreSteps}
 use Rattle.hy_world.specs.Asks.{need_in, need_at}
 use Rattle.hy_world.specs.Follows.{IsStep}
 use Rattle.hy_world.specs.Worlds.{WorldData, ShowsState, HaveTypes, parts_of, plain}

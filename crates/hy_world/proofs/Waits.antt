@@ -21,7 +21,7 @@ use Rattle.hy_event.specs.declared.Progress.{Progress}
 use Rattle.hy_event.specs.declared.Progress.TheVariants.{Blocked}
 use Rattle.hy_session.specs.Entered.{has_entry}
 use Rattle.hy_session.specs.declared.Layout.{Layout}
-use Rattle.hy_near.specs.Runnable.{IsRunnable}
+use Rattle.hy_stepping.specs.Runnable.{IsRunnable}
 use Rattle.hy_world.specs.Asks.{entry_in, has_entry_at}
 use Rattle.hy_world.specs.Openings.{prunings, sessions_from}
 use Rattle.hy_world.specs.Worlds.{WorldData}

@@ -6,7 +6,7 @@ use Rattle.hy_machine.specs.States.{State}
 use Rattle.hy_machine.specs.declared.Stepped.{Stepped}
 use Rattle.hy_machine.specs.Outcomes.{outcome_of}
 use Rattle.hy_machine.specs.Steps.{step_of}
-use Rattle.hy_near.specs.Outcomes.{are_done}
+use Rattle.hy_stepping.specs.Outcomes.{are_done}
 use Rattle.hy_world.specs.Worlds.{WorldData, ShowsState}
 
 -- of each state that the world shows it shows afterwards what the machine makes of it

@@ -13,7 +13,7 @@ use Rattle.hy_redo.specs.Recovery.{Recovers}
 use Rattle.hy_recovery.specs.Recovered.{first_tables}
 use Rattle.hy_redo.specs.Crashes.{AreLogsOf}
 use Rattle.hy_render.specs.declared.Committed.{Committed}
-use Rattle.hy_near.specs.Outcomes.{told_entry}
+use Rattle.hy_stepping.specs.Outcomes.{told_entry}
 use Rattle.hy_world.specs.Worlds.{WorldData, ShowsState}
 
 -- these, and others behind them

@@ -22,9 +22,9 @@ use Rattle.hy_event.specs.Turns.{Waits}
 use Rattle.hy_machine.specs.declared.Setting.{Setting}
 use Rattle.hy_machine.specs.States.{State}
 use Rattle.hy_session.specs.Near.{NearCore, NearChunk}
-use Rattle.hy_near.specs.Typed.{AreTyped, kinds_of}
-use Rattle.hy_near.specs.Runnable.{IsShown}
-use Rattle.hy_near.specs.Steps.{CoresAreNear, NeededChunksAreThere, ChunksAreNear, VisitsAreSteps}
+use Rattle.hy_stepping.specs.Typed.{AreTyped, kinds_of}
+use Rattle.hy_stepping.specs.Runnable.{IsShown}
+use Rattle.hy_stepping.specs.Steps.{CoresAreNear, NeededChunksAreThere, ChunksAreNear, VisitsAreSteps}
 
 -- a chunk with the types of its columns, or the core
 pub data SharedData : Type 0 where

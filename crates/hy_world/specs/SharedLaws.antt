@@ -19,7 +19,7 @@ use Rattle.hy_event.specs.Needs.{need_of}
 use Rattle.hy_machine.specs.declared.Setting.{Setting}
 use Rattle.hy_machine.specs.Steps.{step_of}
 use Rattle.hy_session.specs.Near.{NearCore, NearChunk}
-use Rattle.hy_near.specs.Runnable.{IsShown}
+use Rattle.hy_stepping.specs.Runnable.{IsShown}
 use Rattle.hy_world.specs.Shared.{SharedData, ChunkOf, CoreOf, AreShared, HaveSharedTypes, IsNear, IsVisit, KeepsTypes, MayVisit, part_of}
 
 -- ---- lists

@@ -12,8 +12,8 @@ use Rattle.hy_event.specs.contracts.SessionData as session_data
 use Rattle.hy_event.specs.Events.{Part, ChunkPart, CorePart}
 use Rattle.hy_machine.specs.declared.Setting.{Setting}
 use Rattle.hy_machine.specs.States.{State}
-use Rattle.hy_near.specs.Typed.{AreTyped, kinds_of}
-use Rattle.hy_near.specs.Runnable.{IsShown}
+use Rattle.hy_stepping.specs.Typed.{AreTyped, kinds_of}
+use Rattle.hy_stepping.specs.Runnable.{IsShown}
 
 -- how many tables there are, how many chunks each has, the chunks by table, the core, and the sessions
 pub record WorldData : Type 0 where

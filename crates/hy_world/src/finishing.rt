@@ -5,7 +5,7 @@ ghost use Rattle.std.specs.List.{flat_map};
 ghost use Rattle.hy_bound.specs.Projection.{spread};
 ghost use Rattle.hy_chunk.specs.Views.{Whole};
 ghost use Rattle.hy_event.specs.declared.SessionData.{SessionData};
-ghost use Rattle.hy_near.specs.Outcomes.{told_entry};
+ghost use Rattle.hy_stepping.specs.Outcomes.{told_entry};
 ghost use Rattle.hy_world.specs.Finished.{every_column, gathered_at, gathered_in, read_back, tables_back};
 ghost use Rattle.hy_world.specs.Finished.{HasWidth, HaveWidth, HaveTheirWidths};
 ghost use Rattle.hy_world.specs.Follows.{Tells};
@@ -172,7 +172,7 @@ impl World {
         ensures tells { IfOk result (λ outcome. Tells self outcome) }
         ensures order { IfOk result (λ outcome. outcome.order ≡ map told_entry self.core.entries) }
     {
-        hy_near::outcomes_are_told();
+        hy_stepping::outcomes_are_told();
         hy_lawful::reached_tables_fit();
         let World {
             shapes,

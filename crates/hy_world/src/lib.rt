@@ -8,8 +8,8 @@
 ghost use Rattle.std.specs.Prelude.{◌≡◌, IfOk};
 ghost use Rattle.hy_machine.specs.Outcomes.{outcome_of};
 ghost use Rattle.hy_machine.specs.Runs.{run_of};
-ghost use Rattle.hy_near.specs.Runnable.{IsRunnable};
-ghost use Rattle.hy_near.specs.Typed.{AreTyped};
+ghost use Rattle.hy_stepping.specs.Runnable.{IsRunnable};
+ghost use Rattle.hy_stepping.specs.Typed.{AreTyped};
 
 mod finishing;
 mod logging;
@@ -45,7 +45,7 @@ pub fn run(
     requires typed { AreTyped kinds.now setting.shapes setting.first setting.programs }
     ensures { IfOk result (λ outcome. outcome ≡ outcome_of setting (run_of setting schedule.now)) }
 {
-    hy_near::ends_are_the_machines();
+    hy_stepping::ends_are_the_machines();
     hy_machine::runs_are_steps();
     let mut world = World::open(alloc, setting, kinds, prunes)?;
     match world.run(alloc, schedule, &mut None, &mut NoDisk) {

@@ -7,7 +7,7 @@ ghost use Rattle.hy_journal.specs.declared.Entry.{Entry};
 ghost use Rattle.hy_machine.specs.declared.Setting.{Setting};
 ghost use Rattle.hy_machine.specs.Outcomes.{outcome_of};
 ghost use Rattle.hy_machine.specs.Runs.{opening_of, run_of};
-ghost use Rattle.hy_near.specs.Texts.{CanBeLogged};
+ghost use Rattle.hy_stepping.specs.Texts.{CanBeLogged};
 ghost use Rattle.hy_redo.specs.Crashes.{AreLogsOf};
 ghost use Rattle.hy_value.specs.declared.Kind.{Kind};
 ghost use Rattle.hy_world.specs.Logged.{IsKept, IsKeptButTheLast, Logs, HasLogged, IsDurable, LogsRun, with_next};
@@ -75,9 +75,9 @@ impl World {
         ensures fault { IsErrOf result AppendError.DiskFault → Rose (D.faults disk.old) (D.faults disk.new) }
         ensures steady { ¬ IsErrOf result AppendError.DiskFault → D.faults disk.new ≡ D.faults disk.old }
     {
-        hy_near::ends_are_the_machines();
+        hy_stepping::ends_are_the_machines();
         hy_machine::runs_are_steps();
-        hy_durable::logs_recover_tables();
+        hy_stepping::logs_recover_tables();
         hy_shows::entries_tell_changes();
         let mut world = self;
         let mut log = Some(log);

@@ -8,8 +8,8 @@ ghost use Rattle.hy_chunk.specs.Sound.{FitsRow};
 ghost use Rattle.hy_chunk.specs.Views.{with_places};
 ghost use Rattle.hy_limits.specs.declared.TheConstants.{MOST_TABLES, MOST_TXNS};
 ghost use Rattle.hy_machine.specs.Runs.{opening_of};
-ghost use Rattle.hy_near.specs.Runnable.{IsRunnable};
-ghost use Rattle.hy_near.specs.Typed.{AreTyped, kinds_of};
+ghost use Rattle.hy_stepping.specs.Runnable.{IsRunnable};
+ghost use Rattle.hy_stepping.specs.Typed.{AreTyped, kinds_of};
 ghost use Rattle.hy_world.specs.Openings.{places_with, first_rows, IsLaid, AreLaid, sessions_from, IsOpened};
 ghost use Rattle.hy_world.specs.Worlds.{ShowsState};
 

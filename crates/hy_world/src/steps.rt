@@ -3,7 +3,7 @@
 
 ghost use Rattle.std.specs.Prelude.{◌≡◌, IfOk, OnOk, OnErr, IsErrOf, is_some, length};
 ghost use Rattle.hy_outside.specs.Faults.{Rose};
-ghost use Rattle.hy_near.specs.Outcomes.{is_done, are_done};
+ghost use Rattle.hy_stepping.specs.Outcomes.{is_done, are_done};
 ghost use Rattle.hy_machine.specs.Steps.{step_of};
 ghost use Rattle.hy_machine.specs.Runs.{is_moved, whole_of, item_of, items_of, round_of, rounds_of};
 ghost use Rattle.hy_world.specs.Follows.{Follows, Steps};
@@ -76,7 +76,7 @@ impl World {
         ensures fault { IsErrOf result AppendError.DiskFault → Rose (D.faults disk.old) (D.faults disk.new) }
         ensures steady { ¬ IsErrOf result AppendError.DiskFault → D.faults disk.new ≡ D.faults disk.old }
     {
-        hy_near::bounds_are_enough();
+        hy_stepping::bounds_are_enough();
         for _turn in 0..u64::MAX {
             let stepped = self.step_logged(alloc, number, log, disk)?;
             if !has_moved(stepped) {
@@ -195,8 +195,8 @@ impl World {
         ensures fault { IsErrOf result AppendError.DiskFault → Rose (D.faults disk.old) (D.faults disk.new) }
         ensures steady { ¬ IsErrOf result AppendError.DiskFault → D.faults disk.new ≡ D.faults disk.old }
     {
-        hy_near::bounds_are_enough();
-        hy_near::ends_are_the_machines();
+        hy_stepping::bounds_are_enough();
+        hy_stepping::ends_are_the_machines();
         for _round in 0..u64::MAX {
             if self.is_done() {
                 return Ok(());

@@ -6,8 +6,8 @@ ghost use Rattle.std.specs.List.{All};
 ghost use Rattle.hy_value.specs.declared.Kind.{Kind};
 ghost use Rattle.hy_machine.specs.declared.Setting.{Setting};
 ghost use Rattle.hy_machine.specs.States.{State};
-ghost use Rattle.hy_near.specs.Runnable.{IsRunnable};
-ghost use Rattle.hy_near.specs.Typed.{AreTyped};
+ghost use Rattle.hy_stepping.specs.Runnable.{IsRunnable};
+ghost use Rattle.hy_stepping.specs.Typed.{AreTyped};
 ghost use Rattle.hy_world.specs.Shared.{AreShared};
 ghost use Rattle.hy_world.specs.Points.{point_of, visited_of};
 ghost use Rattle.hy_world.specs.SomeRuns.{IsSomeRun};
@@ -188,11 +188,11 @@ fn run_case<K: Case + Send + Sync, T: Threads + Wait + Sync, G: Gate>(
     ensures { IfOk result (λ outcome. IsSomeRun setting outcome) }
 {
     hy_shows::the_opening_is_shown();
-    hy_near::cores_are_near();
-    hy_near::needed_chunks_are_there();
-    hy_near::chunks_are_near();
-    hy_near::visits_are_steps();
-    hy_near::ends_are_the_machines();
+    hy_stepping::cores_are_near();
+    hy_stepping::needed_chunks_are_there();
+    hy_stepping::chunks_are_near();
+    hy_stepping::visits_are_steps();
+    hy_stepping::ends_are_the_machines();
     let Opened {
         shapes,
         per_table,

@@ -56,8 +56,8 @@ impl World {
         ensures blocked { IfOk result (λ progress. (by : Label) → progress ≡ Progress.Blocked by → self.new ≡ self.old) }
         ensures prunes { prunings self.new.sessions ≡ prunings self.old.sessions }
     {
-        hy_near::cores_are_near();
-        hy_near::visits_are_steps();
+        hy_stepping::cores_are_near();
+        hy_stepping::visits_are_steps();
         let session = &mut self.sessions[number as usize];
         session.visit_core(alloc, &mut self.core)
     }
@@ -78,9 +78,9 @@ impl World {
         ensures blocked { IfOk result (λ progress. (by : Label) → progress ≡ Progress.Blocked by → self.new ≡ self.old) }
         ensures prunes { prunings self.new.sessions ≡ prunings self.old.sessions }
     {
-        hy_near::needed_chunks_are_there();
-        hy_near::chunks_are_near();
-        hy_near::visits_are_steps();
+        hy_stepping::needed_chunks_are_there();
+        hy_stepping::chunks_are_near();
+        hy_stepping::visits_are_steps();
         let place = place_of(self.per_table, table, chunk);
         let session = &mut self.sessions[number as usize];
         let part = &mut self.chunks[place];
@@ -98,7 +98,7 @@ impl World {
         ensures blocked { IfOk result (λ stepped. (by : Label) → stepped ≡ Stepped.Blocked by → self.new ≡ self.old) }
         ensures prunes { prunings self.new.sessions ≡ prunings self.old.sessions }
     {
-        hy_near::ended_stay_as_they_are();
+        hy_stepping::ended_stay_as_they_are();
         match self.needed(number) {
             Need::Core => Ok(told(self.visit_core(alloc, number)?)),
             Need::Chunk { table, chunk } => Ok(told(self.visit_chunk(

@@ -1,6 +1,6 @@
 use Rattle.std.proofs.Common.{inl, inr, subst}
 use Rattle.std.proofs.Math.Logic.{⊎_elim}
-use Rattle.hy_near.specs.Runnable.{IsRunnable}
+use Rattle.hy_stepping.specs.Runnable.{IsRunnable}
 use Rattle.hy_top.specs.Settings.{setting_at}
 use Rattle.hy_top.proofs.Answering.{made_answers}
 use Rattle.hy_top.proofs.run_made.Goals as goal

@@ -3,7 +3,7 @@ use Rattle.std.proofs.lemmas.List.{append-nil}
 use Rattle.hy_schema.specs.declared.TableDef.{TableDef}
 use Rattle.hy_bind.specs.Shapes.{catalog_shapes}
 use Rattle.hy_bind.specs.Statements.{bound_of}
-use Rattle.hy_near.specs.Typed.{IsTypedIn}
+use Rattle.hy_stepping.specs.Typed.{IsTypedIn}
 use Rattle.hy_typed.specs.Scripts.{catalog_kinds}
 use Rattle.hy_typed.proofs.Statements.{statement_typed}
 use Rattle.hy_typed.proofs.bound_statements_are_typed.Goals as goal

@@ -1,6 +1,6 @@
 use Rattle.std.proofs.Common.{◌≡◌, ℕ, List, length, map, subst, sym, ap, ◌∙◌}
 use Rattle.hy_bound.specs.declared.Shape.{Shape}
-use Rattle.hy_near.specs.Outcomes.{told_entry}
+use Rattle.hy_stepping.specs.Outcomes.{told_entry}
 use Rattle.hy_render.specs.declared.Outcome.{Outcome}
 use Rattle.hy_world.specs.Finished.{tables_back, HaveTheirWidths}
 use Rattle.hy_world.specs.Follows.{Tells}

@@ -1,6 +1,6 @@
 use Rattle.std.proofs.Common.{◌≡◌, ◌∙◌, true, false, rules, tests}
-use Rattle.hy_near.specs.Bounds.{most_turns}
-use Rattle.hy_near.specs.Outcomes.{are_done}
+use Rattle.hy_stepping.specs.Bounds.{most_turns}
+use Rattle.hy_stepping.specs.Outcomes.{are_done}
 use Rattle.hy_world.proofs.Logs.{logs_then, ok_is_no_error}
 use Rattle.hy_world.proofs.Ahead.{if_err}
 use Rattle.hy_world.proofs.Loops.{rounds_go_on, rounds_end, rounds_over, rounds_break_off}

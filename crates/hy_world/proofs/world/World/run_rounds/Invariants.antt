@@ -1,5 +1,5 @@
 use Rattle.std.proofs.Common.{◌≡◌, is_some}
-use Rattle.hy_near.specs.Bounds.{most_turns}
+use Rattle.hy_stepping.specs.Bounds.{most_turns}
 use Rattle.hy_world.specs.Logged.{IsKept, Logs}
 use Rattle.hy_world.proofs.Ahead.{Ahead}
 use Rattle.hy_world.proofs.Loops.{rounds_left, all_rounds}

@@ -1,5 +1,0 @@
-use Rattle.hy_near.proofs.CoresNear.{cores_near}
-use Rattle.hy_near.proofs.cores_are_near.Goals as goal
-
-pub returns : goal.returns
-returns c = cores_near c.reached_states_are_kept.ensures

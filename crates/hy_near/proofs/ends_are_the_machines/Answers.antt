@@ -1,5 +1,0 @@
-use Rattle.hy_near.proofs.OutcomesEnds.{ends_are}
-use Rattle.hy_near.proofs.ends_are_the_machines.Goals as goal
-
-pub returns : goal.returns
-returns c = ends_are c.reached_states_are_kept.ensures

@@ -1,5 +1,0 @@
-use Rattle.hy_near.proofs.OutcomesTold.{outcomes_are}
-use Rattle.hy_near.proofs.outcomes_are_told.Goals as goal
-
-pub returns : goal.returns
-returns c = outcomes_are c.reached_states_are_kept.ensures c.entries_tell_changes.ensures

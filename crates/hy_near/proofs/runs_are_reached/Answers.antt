@@ -1,5 +1,0 @@
-use Rattle.hy_near.proofs.Reaching.{step_reached, moves_reached, rounds_reached}
-use Rattle.hy_near.proofs.runs_are_reached.Goals as goal
-
-pub returns : goal.returns
-returns c = record { step = step_reached; moves = moves_reached; rounds = rounds_reached }

@@ -1,6 +1,0 @@
-pub mod Typed
-pub mod Texts
-pub mod Runnable
-pub mod Steps
-pub mod Outcomes
-pub mod Bounds

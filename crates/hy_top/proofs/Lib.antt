@@ -5,3 +5,9 @@ pub mod Named
 pub mod Quoted
 pub mod Texts
 pub mod Telling
+pub mod CatalogTypes
+pub mod ValueTypes
+pub mod FormulaTypes
+pub mod StatementTypes
+pub mod ReadTypes
+pub mod MadeTypes

@@ -4,3 +4,4 @@ pub mod Program
 pub mod Reports
 pub mod Naming
 pub mod Telling
+pub mod Typing

@@ -26,7 +26,7 @@ use Rattle.hy_redo.specs.Logs.{log_of}
 use Rattle.hy_redo.specs.Crashes.{AreLogsOf, IsBegun, IsAsItWas, IsBegunAtMost}
 use Rattle.hy_world.specs.Logged.{HasLogged, IsLogOfOrder}
 use Rattle.hy_recovery.specs.Recovered.{first_tables, AreRecovered}
-use Rattle.hy_typed.specs.Scripts.{catalog_kinds}
+use Rattle.hy_top.specs.Typing.{catalog_kinds}
 use Rattle.hy_machine.specs.Outcomes.{rows_sorted}
 use Rattle.hy_machine.specs.Runs.{run_of}
 use Rattle.hy_machine.specs.Sessions.{snapshot}

@@ -5,7 +5,7 @@ use Rattle.hy_script.specs.declared.Script.{Script}
 use Rattle.hy_machine.specs.declared.Setting.{Setting}
 use Rattle.hy_stepping.specs.Runnable.{IsRunnable}
 use Rattle.hy_stepping.specs.Texts.{AreUtf8}
-use Rattle.hy_typed.specs.Scripts.{IsTypedScript}
+use Rattle.hy_top.specs.Typing.{IsTypedScript}
 
 -- what of a script does not change while it runs
 abbrev pub setting_at : Script → Setting

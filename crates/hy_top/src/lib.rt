@@ -21,6 +21,7 @@ mod laws;
 mod lines;
 mod logs;
 mod settings;
+mod typing;
 
 use hy_bank::{made_outcomes_keep_the_money, made_scripts_fit, made_transactions_end_in_four_ways};
 use hy_disk::Disk;
@@ -32,7 +33,6 @@ use hy_outside::{ReadAllError, Sink, Source, read_all, write_all};
 use hy_render::{Names, Outcome, render, summarize};
 use hy_script::{Code, Options, ReadError, Refused, Script, read_once, what_is_read_fits};
 use hy_threads::Gate;
-use hy_typed::{what_is_made_is_typed, what_is_read_is_typed};
 use hy_words::{Command, WordsError};
 pub use laws::{one_text_is_of_one_outcome, what_is_read_is_named, what_is_read_is_utf8};
 use lines::{checked, refusal_line};
@@ -41,6 +41,7 @@ use settings::{Given, given_of};
 use std::alloc::{AllocError, Global};
 use std::sync::Wait;
 use std::thread::Threads;
+pub use typing::{bound_statements_are_typed, what_is_made_is_typed, what_is_read_is_typed};
 
 /// What a call of the program came to.
 #[derive(Drop)]

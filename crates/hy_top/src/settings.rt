@@ -3,7 +3,7 @@
 ghost use Rattle.std.specs.Prelude.{◌≡◌, ◌++◌, IfOk, map, drop};
 ghost use Rattle.hy_bind.specs.Shapes.{defined_shape, catalog_shapes};
 ghost use Rattle.hy_top.specs.Settings.{setting_at};
-ghost use Rattle.hy_typed.specs.Scripts.{catalog_kinds};
+ghost use Rattle.hy_top.specs.Typing.{catalog_kinds};
 ghost use Rattle.hy_top.specs.Program.{names_at};
 
 use hy_bound::{Shape, Shapes, Statements, Txn, Txns};

@@ -1,5 +1,5 @@
 use Rattle.std.proofs.Common.{◌≡◌, ◌++◌, drop}
-use Rattle.hy_typed.specs.Scripts.{catalog_kinds}
+use Rattle.hy_top.specs.Typing.{catalog_kinds}
 use Rattle.hy_top.proofs.settings.all_kinds.Given as goal
 
 -- the types of the tables so far, and of what is left

@@ -13,10 +13,10 @@ use Rattle.hy_stepping.specs.Typed.{IsTypedIn, IsTypedTxn}
 use Rattle.hy_script.specs.declared.NamedTxns.{NamedTxns}
 use Rattle.hy_script.specs.declared.Script.{Script}
 use Rattle.hy_script.specs.Binding.{WasGiven, WereGiven, WasBound, WereBound, IsBound}
-use Rattle.hy_typed.specs.Scripts.{catalog_kinds, IsTypedScript}
-use Rattle.hy_typed.proofs.Catalogs.{kinds_in, tables_typed}
-use Rattle.hy_typed.proofs.Statements.{statement_typed}
-use Rattle.hy_typed.proofs.Values.{row_typed}
+use Rattle.hy_top.specs.Typing.{catalog_kinds, IsTypedScript}
+use Rattle.hy_top.proofs.CatalogTypes.{kinds_in, tables_typed}
+use Rattle.hy_top.proofs.StatementTypes.{statement_typed}
+use Rattle.hy_top.proofs.ValueTypes.{row_typed}
 
 row_given : (script : List ℕ) (def : TableDef) (row : List Value) → WasGiven script def row → FitsRow (kinds_in def.columns) row
 row_given script def row was = subst (FitsRow (kinds_in def.columns)) (sym was.is) (row_typed script def.columns was.values was.accepted)

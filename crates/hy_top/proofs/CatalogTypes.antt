@@ -13,7 +13,7 @@ use Rattle.hy_bound.specs.Records.{shape_of}
 use Rattle.hy_bind.specs.Shapes.{catalog_shapes}
 use Rattle.hy_bind.specs.Statements.{columns_in, key_in}
 use Rattle.hy_stepping.specs.Typed.{kinds_of}
-use Rattle.hy_typed.specs.Scripts.{catalog_kinds}
+use Rattle.hy_top.specs.Typing.{catalog_kinds}
 
 abbrev pub kinds_in : List Column → List Kind
 kinds_in columns = map (λ (column : Column). column.kind) columns

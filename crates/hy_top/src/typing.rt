@@ -1,7 +1,6 @@
 //! Laws on the types of scripts: what a script writes in a table is of the types of the table's columns.
-#![tactic(auto)]
 
-ghost use Rattle.hy_typed.specs.Scripts.{BoundStatementsAreTyped, WhatIsReadIsTyped, WhatIsMadeIsTyped};
+ghost use Rattle.hy_top.specs.Typing.{BoundStatementsAreTyped, WhatIsReadIsTyped, WhatIsMadeIsTyped};
 
 use hy_script::what_is_read_is_bound;
 

@@ -29,10 +29,10 @@ use Rattle.hy_bind.specs.Shapes.{catalog_shapes}
 use Rattle.hy_bind.specs.Statements.{NamesTables, and_number, numbers_or_none, in_scope, columns_in, key_in, is_key, kind_at, set_fault, set_column}
 use Rattle.hy_bind.specs.Statements.{sets_fault, set_bound, fault_of_numbered, bound_in, bind_fault, bound_of}
 use Rattle.hy_stepping.specs.Typed.{kinds_of, IsTypedIn}
-use Rattle.hy_typed.specs.Scripts.{catalog_kinds}
-use Rattle.hy_typed.proofs.Catalogs.{kinds_in, kinds_there, key_there, number_within, ordinal_within, table_kept}
-use Rattle.hy_typed.proofs.Formulas.{ResultIs, formula_is}
-use Rattle.hy_typed.proofs.Values.{neither, so, not_so, IsOf, agrees, row_typed}
+use Rattle.hy_top.specs.Typing.{catalog_kinds}
+use Rattle.hy_top.proofs.CatalogTypes.{kinds_in, kinds_there, key_there, number_within, ordinal_within, table_kept}
+use Rattle.hy_top.proofs.FormulaTypes.{ResultIs, formula_is}
+use Rattle.hy_top.proofs.ValueTypes.{neither, so, not_so, IsOf, agrees, row_typed}
 
 -- ---- SET
 

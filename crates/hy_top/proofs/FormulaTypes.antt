@@ -31,8 +31,8 @@ use Rattle.hy_bind.specs.Refusals.{fault_if}
 use Rattle.hy_bind.specs.Scope.{may_mean, found_at, found_in, and_found, only, resolved, operand_fault, operand_kind}
 use Rattle.hy_bind.specs.Expressions.{formula_kind, formula_fault, operand_bound, binary_bound, formula_bound}
 use Rattle.hy_bind.specs.Statements.{columns_in, in_scope}
-use Rattle.hy_typed.proofs.Catalogs.{kinds_in}
-use Rattle.hy_typed.proofs.Values.{IsOf, literal_is}
+use Rattle.hy_top.proofs.CatalogTypes.{kinds_in}
+use Rattle.hy_top.proofs.ValueTypes.{IsOf, literal_is}
 
 -- ---- a column
 

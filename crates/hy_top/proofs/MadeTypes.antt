@@ -19,9 +19,9 @@ use Rattle.hy_gen.specs.Transactions.{audit, transfer, transfer_from, txn_from, 
 use Rattle.hy_gen.specs.Made.{sessions_from, made}
 use Rattle.hy_stepping.specs.Typed.{IsTypedIn, IsTypedTxn}
 use Rattle.hy_script.specs.declared.NamedTxns.{NamedTxns}
-use Rattle.hy_typed.specs.Scripts.{catalog_kinds, IsTypedScript}
-use Rattle.hy_typed.proofs.Catalogs.{tables_typed}
-use Rattle.hy_typed.proofs.Formulas.{ResultIs, sum_is, difference_is}
+use Rattle.hy_top.specs.Typing.{catalog_kinds, IsTypedScript}
+use Rattle.hy_top.proofs.CatalogTypes.{tables_typed}
+use Rattle.hy_top.proofs.FormulaTypes.{ResultIs, sum_is, difference_is}
 
 abbrev both : List Kind
 both = Int ∷ Int ∷ []

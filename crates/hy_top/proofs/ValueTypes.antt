@@ -14,7 +14,7 @@ use Rattle.hy_bind.specs.declared.refusals.BindFault.{BindFault}
 use Rattle.hy_bind.specs.Literals.{text_of_span, number_of, integer_of, integer_value, literal_kind, literal_fault, literal_value}
 use Rattle.hy_bind.specs.Refusals.{rank, first_of, fault_if, agree}
 use Rattle.hy_bind.specs.Statements.{value_fault, values_fault}
-use Rattle.hy_typed.proofs.Catalogs.{kinds_in}
+use Rattle.hy_top.proofs.CatalogTypes.{kinds_in}
 
 -- ---- refusals
 

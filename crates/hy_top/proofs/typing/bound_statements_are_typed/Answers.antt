@@ -4,9 +4,9 @@ use Rattle.hy_schema.specs.declared.TableDef.{TableDef}
 use Rattle.hy_bind.specs.Shapes.{catalog_shapes}
 use Rattle.hy_bind.specs.Statements.{bound_of}
 use Rattle.hy_stepping.specs.Typed.{IsTypedIn}
-use Rattle.hy_typed.specs.Scripts.{catalog_kinds}
-use Rattle.hy_typed.proofs.Statements.{statement_typed}
-use Rattle.hy_typed.proofs.bound_statements_are_typed.Goals as goal
+use Rattle.hy_top.specs.Typing.{catalog_kinds}
+use Rattle.hy_top.proofs.StatementTypes.{statement_typed}
+use Rattle.hy_top.proofs.typing.bound_statements_are_typed.Goals as goal
 
 pub returns : goal.returns
 returns c = λ script catalog statement names h.

@@ -1,0 +1,5 @@
+use Rattle.hy_top.proofs.MadeTypes.{made_typed}
+use Rattle.hy_top.proofs.typing.what_is_made_is_typed.Goals as goal
+
+pub returns : goal.returns
+returns c = λ seed sessions txns few short. made_typed seed sessions txns

@@ -20,7 +20,7 @@ use Rattle.hy_event.specs.Reading.{gathered_with, read_turn}
 use Rattle.hy_event.specs.Sessions.{viewer_of}
 use Rattle.hy_event.specs.Turns.{Turn, Answers, Visits, answer_turn, goes_on}
 use Rattle.hy_session.specs.declared.reading.ReadStep.TheVariants.{More, Answer}
-use Rattle.hy_select.specs.Readers.{IsPlanOf}
+use Rattle.hy_visit.specs.Readers.{IsPlanOf}
 use Rattle.hy_session.specs.Reading.{IsStep}
 
 -- the rows that are taken of positions for a part, by what was gathered before

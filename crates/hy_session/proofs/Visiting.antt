@@ -27,7 +27,7 @@ use Rattle.hy_event.specs.Turns.{Answers, Takes, Visits, after_turn, with_change
 use Rattle.hy_session.specs.declared.reading.ReadStep.{ReadStep}
 use Rattle.hy_session.specs.declared.reading.ReadStep.TheVariants.{More, Answer}
 use Rattle.hy_session.specs.Near.{present_statement}
-use Rattle.hy_select.specs.Readers.{IsPlanOf}
+use Rattle.hy_visit.specs.Readers.{IsPlanOf}
 use Rattle.hy_session.specs.Reading.{IsStep, IsStepOf, KeepsPiece, step_turn}
 
 -- a session of the limits has labels

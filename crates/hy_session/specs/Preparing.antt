@@ -15,7 +15,7 @@ use Rattle.hy_session.specs.declared.prepared.Prepared.{Prepared}
 use Rattle.hy_session.specs.declared.prepared.Way.{Way}
 use Rattle.hy_session.specs.declared.prepared.Way.TheVariants.{Read, Write}
 use Rattle.hy_session.specs.Near.{present_statement}
-use Rattle.hy_select.specs.Readers.{IsPlanOf, plan_by}
+use Rattle.hy_visit.specs.Readers.{IsPlanOf, plan_by}
 
 -- ---- a statement
 

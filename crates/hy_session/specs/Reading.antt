@@ -18,7 +18,7 @@ use Rattle.hy_event.specs.Turns.{Turn, Visits, Answers}
 use Rattle.hy_session.specs.declared.reading.ReadStep.{ReadStep}
 use Rattle.hy_session.specs.declared.reading.ReadStep.TheVariants.{More, Answer}
 use Rattle.hy_session.specs.Near.{HasVisitLeft, present_statement}
-use Rattle.hy_select.specs.Readers.{IsRead, IsPlanOf}
+use Rattle.hy_visit.specs.Readers.{IsRead, IsPlanOf}
 
 -- ---- before the visit
 

@@ -12,7 +12,7 @@ use crate::Session;
 use crate::copying::copy_sets;
 use hy_bound::{Bound, WriteKind};
 use hy_event::Phase;
-use hy_select::{Reader, reader_of};
+use hy_visit::{Reader, reader_of};
 use std::alloc::{AllocError, Global};
 
 /// How a statement is run.

@@ -12,8 +12,8 @@ ghost use Rattle.hy_event.specs.Reading.{with_gathered};
 ghost use Rattle.hy_event.specs.Sessions.{viewer_of};
 ghost use Rattle.hy_event.specs.Turns.{Answers, Visits, Takes, with_changed};
 ghost use Rattle.hy_session.specs.Near.{NearChunk};
-ghost use Rattle.hy_select.specs.Parts.{tables_found};
-ghost use Rattle.hy_select.specs.Readers.{IsPlanOf, plan_by, told_of};
+ghost use Rattle.hy_visit.specs.Parts.{tables_found};
+ghost use Rattle.hy_visit.specs.Readers.{IsPlanOf, plan_by, told_of};
 ghost use Rattle.hy_session.specs.declared.prepared.Way.TheVariants.{Read};
 ghost use Rattle.hy_session.specs.Preparing.{IsWayFor};
 ghost use Rattle.hy_session.specs.Reading.{IsNextFor, IsReading, IsStep, IsStepOf};
@@ -27,8 +27,8 @@ use hy_bound::{Bound, Records, Reply};
 use hy_chunk::Chunk;
 use hy_event::{Phase, Progress};
 use hy_plan::{Gathered, records};
-use hy_select::{Found, Reader, add_piece, found_with, gather_part, part_rows};
 use hy_stamp::Viewer;
+use hy_visit::{Found, Reader, add_piece, found_with, gather_part, part_rows};
 use std::alloc::{AllocError, Global};
 
 /// What comes of a visit of a SELECT.

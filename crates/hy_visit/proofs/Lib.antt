@@ -5,3 +5,9 @@ pub mod Noted
 pub mod Shortened
 pub mod Written
 pub mod Placed
+pub mod Counted
+pub mod Behind
+pub mod JoinedColumns
+pub mod Alike
+mod OnePart
+mod Plans

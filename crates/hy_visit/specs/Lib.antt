@@ -3,3 +3,6 @@ pub mod Laws
 pub mod Writing
 pub mod Placing
 pub mod Gathering
+pub mod Parts
+pub mod Readers
+pub mod PlanParts

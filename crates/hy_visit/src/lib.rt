@@ -1,14 +1,21 @@
 //! What a visit of one session does to a chunk, and to what its open transaction keeps: it reads, or it prunes and
-//! then writes, or it stamps or undoes what was written.
+//! then writes, or it stamps or undoes what was written. And how a SELECT is run: what its visits gather of chunks, and
+//! what is told of that.
 #![tactic(auto)]
 
 ghost use Rattle.hy_visit.specs.Laws.{PrunesAsTheSession};
 
+mod gathering;
+mod parts;
 mod pruning;
+mod reader;
 mod reading;
 mod writing;
 
+pub use gathering::{Found, Fresh, add_piece, found_with, gather_part, part_rows};
+pub use parts::PartRows;
 pub use pruning::{prune_first, stamp_visit, undo_visit};
+pub use reader::{Reader, Told, reader_of};
 pub use reading::gather_visit;
 pub use writing::{Writer, check_visit, place_visit, write_visit};
 

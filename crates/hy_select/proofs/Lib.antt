@@ -1,6 +1,0 @@
-pub mod Counted
-pub mod Behind
-pub mod JoinedColumns
-pub mod Alike
-mod OnePart
-mod Plans

@@ -18,7 +18,7 @@ use Rattle.hy_machine.specs.Sessions.{fresh, session_at, txn_at, blocker, entry_
 use Rattle.hy_machine.specs.Writes.{written_chunks}
 use Rattle.hy_machine.specs.Steps.{with_session, beginning, after_visit, after_answer, done_with, order_with, after_turn, step_of}
 use Rattle.hy_machine.specs.Runs.{opening_of, after_steps, IsReached}
-use Rattle.hy_kept.specs.Begun.{count_open, count_begun}
+use Rattle.hy_machine.specs.Begun.{count_open, count_begun}
 use Rattle.hy_lawful.proofs.Fits.{Fits}
 use Rattle.hy_lawful.proofs.FullTables.{sum_less}
 use Rattle.hy_lawful.proofs.Moves.{moved_to}

@@ -11,8 +11,8 @@ use Rattle.hy_machine.specs.Tables.{Entry, Pair, Cell, Tables, covered}
 use Rattle.hy_machine.specs.Positions.{item_at}
 use Rattle.hy_machine.specs.Sessions.{session_at, pair_of}
 use Rattle.hy_machine.specs.Runs.{IsReached}
-use Rattle.hy_kept.specs.Kept.{IsAtOrOpen, ended, at_work, IsRanked, committed, entered, EntriesAre, PositionsAreOwn, HoldersApart}
-use Rattle.hy_kept.specs.Kept as kept
+use Rattle.hy_machine.specs.Kept.{IsAtOrOpen, ended, at_work, IsRanked, committed, entered, EntriesAre, PositionsAreOwn, HoldersApart}
+use Rattle.hy_machine.specs.Kept as kept
 use Rattle.hy_lawful.specs.Outcomes.{committed_at}
 use Rattle.hy_lawful.proofs.Lists.{one_of}
 use Rattle.hy_lawful.proofs.Fits.{FitsTables, PhaseFits, Stamps, NowStamps}

@@ -6,8 +6,8 @@ use Rattle.hy_machine.specs.States.{State, Open, Begun, Phase, Working, Stamping
 use Rattle.hy_machine.specs.Sessions.{session_at, program_of, txn_at}
 use Rattle.hy_machine.specs.Outcomes.{statements_in}
 use Rattle.hy_machine.specs.Runs.{IsReached}
-use Rattle.hy_kept.specs.Kept.{IsNow}
-use Rattle.hy_kept.specs.Kept as kept
+use Rattle.hy_machine.specs.Kept.{IsNow}
+use Rattle.hy_machine.specs.Kept as kept
 use Rattle.hy_lawful.specs.Reached.{statements_at}
 use Rattle.hy_lawful.specs.Scripts.{ClosesWithCommit}
 use Rattle.hy_lawful.specs.Scripts as scripts

@@ -8,7 +8,7 @@ use Rattle.hy_machine.specs.States.{State, Open, Begun, Phase, Working, Stamping
 use Rattle.hy_machine.specs.Tables.{Entry}
 use Rattle.hy_machine.specs.Sessions.{session_at, label_of}
 use Rattle.hy_machine.specs.Runs.{IsReached}
-use Rattle.hy_kept.specs.Kept.{IsNow, IsRanked, committed, entered, is_stamping, Ranks}
+use Rattle.hy_machine.specs.Kept.{IsNow, IsRanked, committed, entered, is_stamping, Ranks}
 use Rattle.hy_lawful.proofs.Fits.{label_at, PhaseFits, Ranked, Stamps, NowStamps, Fits}
 use Rattle.hy_lawful.proofs.Fits as fit
 use Rattle.hy_lawful.proofs.Reached.{reached_fits}

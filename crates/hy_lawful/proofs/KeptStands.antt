@@ -28,7 +28,7 @@ use Rattle.hy_machine.specs.Validation.{committed_of, first_hit}
 use Rattle.hy_machine.specs.Visits.{swept, sees_key, free_position, checks_of}
 use Rattle.hy_machine.specs.Turns.{rows_seen, read_turn, write_turn, check_turn, place_turn, insert_turn, statement_turn, ending_of, unless_blocked}
 use Rattle.hy_machine.specs.Turns.{undo_turn, stamp_turn, validated_turn, commit_turn, closing_turn, working_turn, phase_turn}
-use Rattle.hy_kept.specs.Kept.{OwnFits, visits_in}
+use Rattle.hy_machine.specs.Kept.{OwnFits, visits_in}
 
 -- ---- what a transaction writes has a cell for each position of each table
 

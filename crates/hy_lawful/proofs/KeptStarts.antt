@@ -10,7 +10,7 @@ use Rattle.hy_machine.specs.Tables.{Entry}
 use Rattle.hy_machine.specs.Sessions.{session_at}
 use Rattle.hy_machine.specs.Outcomes.{txn_outcome_of}
 use Rattle.hy_machine.specs.Runs.{IsReached}
-use Rattle.hy_kept.specs.Kept.{IsNow, IsEnded, IsAtOrOpen, ended, at_work, Starts, LowsLieLow, NoneBeganSince}
+use Rattle.hy_machine.specs.Kept.{IsNow, IsEnded, IsAtOrOpen, ended, at_work, Starts, LowsLieLow, NoneBeganSince}
 use Rattle.hy_lawful.specs.Outcomes.{committed_at}
 use Rattle.hy_lawful.proofs.Lists.{one_of}
 use Rattle.hy_lawful.proofs.Fits.{Ends}

@@ -24,7 +24,7 @@ use Rattle.hy_machine.specs.Tables.{Cell, Tables}
 use Rattle.hy_machine.specs.Sessions.{snapshot, view}
 use Rattle.hy_machine.specs.Turns.{rows_seen}
 use Rattle.hy_machine.specs.Runs.{IsReached}
-use Rattle.hy_kept.specs.Kept.{IsNow}
+use Rattle.hy_machine.specs.Kept.{IsNow}
 use Rattle.hy_lawful.specs.Rows.{Demand, StatementMeets, SettingMeets}
 use Rattle.hy_lawful.specs.Views.{TablesAreFitted, SeenFits}
 use Rattle.hy_lawful.proofs.Tables.{got_of}

@@ -3,7 +3,7 @@ use Rattle.std.specs.Prelude.{◌≡◌, length}
 use Rattle.hy_machine.specs.declared.Setting.{Setting}
 use Rattle.hy_machine.specs.States.{State}
 use Rattle.hy_machine.specs.Runs.{IsReached}
-use Rattle.hy_kept.specs.Kept.{Kept}
+use Rattle.hy_machine.specs.Kept.{Kept}
 
 -- where each table has its columns and its first rows, as one of the sentences says
 abbrev pub ReachedAreKept : Type 0

@@ -13,7 +13,7 @@ use Rattle.hy_machine.specs.Tables.{Tables}
 use Rattle.hy_machine.specs.Sessions.{snapshot, view}
 use Rattle.hy_machine.specs.Turns.{rows_seen}
 use Rattle.hy_machine.specs.Runs.{IsReached}
-use Rattle.hy_kept.specs.Kept.{IsNow}
+use Rattle.hy_machine.specs.Kept.{IsNow}
 
 -- what is run fits its tables: each has first rows of its columns, and the statements are theirs
 pub record TablesAreFitted (setting : Setting) : Type 0 where

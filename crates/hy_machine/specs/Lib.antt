@@ -11,3 +11,5 @@ pub mod Steps
 pub mod Outcomes
 pub mod Measures
 pub mod Runs
+pub mod Kept
+pub mod Begun

@@ -28,7 +28,7 @@ use Rattle.hy_machine.specs.Positions.{item_at}
 use Rattle.hy_machine.specs.Tables.{Tables}
 use Rattle.hy_machine.specs.Sessions.{session_at, fresh, program_of, snapshot, view, pair_of, least_with, least_prefix, txn_at}
 use Rattle.hy_machine.specs.Outcomes.{outcomes_from}
-use Rattle.hy_kept.specs.Kept.{Fits, Starts}
+use Rattle.hy_machine.specs.Kept.{Fits, Starts}
 use Rattle.hy_shows.specs.Numbers.{noted}
 use Rattle.hy_shows.specs.Sessions.{CountsBelow, IsHeld, GatheredBy, tables_taken, statement_at, NowShows, OpenShows, SessionShows}
 use Rattle.hy_shows.specs.Frames.{went_on, sessions_on}

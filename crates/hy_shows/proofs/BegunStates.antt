@@ -21,8 +21,8 @@ use Rattle.hy_machine.specs.Writes.{blank_own, written_chunks, is_among}
 use Rattle.hy_machine.specs.Sessions.{session_at, fresh}
 use Rattle.hy_machine.specs.Holding.{holds, undone}
 use Rattle.hy_machine.specs.Steps.{beginning as beginning_there, with_session, with_open}
-use Rattle.hy_kept.specs.Kept.{Fits}
-use Rattle.hy_kept.specs.Begun.{count_open, count_begun}
+use Rattle.hy_machine.specs.Kept.{Fits}
+use Rattle.hy_machine.specs.Begun.{count_open, count_begun}
 use Rattle.hy_shows.specs.Transactions.{IsOpen}
 use Rattle.hy_shows.specs.Frames.{went_on, sessions_on}
 use Rattle.hy_shows.specs.Shows.{SessionsShow}

@@ -10,7 +10,7 @@ use Rattle.hy_machine.specs.Tables.{Entry, Cell}
 use Rattle.hy_machine.specs.Positions.{item_at}
 use Rattle.hy_machine.specs.Sessions.{snapshot, pair_of}
 use Rattle.hy_machine.specs.Holding.{has_pair, changes_row}
-use Rattle.hy_kept.specs.Kept.{Kept, IsNow, IsAtOrOpen, ended, at_work, IsRanked, committed, entered}
+use Rattle.hy_machine.specs.Kept.{Kept, IsNow, IsAtOrOpen, ended, at_work, IsRanked, committed, entered}
 use Rattle.hy_shows.proofs.Orders.{cell_stays}
 
 -- the transaction of an entry began before it

@@ -7,7 +7,7 @@ use Rattle.hy_machine.specs.declared.Setting.{Setting}
 use Rattle.hy_machine.specs.States.{State}
 use Rattle.hy_machine.specs.Tables.{Cell, capacity, laid_out, opening_tables}
 use Rattle.hy_shows.specs.Free.{HasPosition}
-use Rattle.hy_kept.specs.Kept.{Kept}
+use Rattle.hy_machine.specs.Kept.{Kept}
 
 product_below : (chunk chunks rows index : ℕ) → chunk < chunks → index < rows → chunk * rows + index < chunks * rows
 product_below chunk chunks rows index l m = grind arith

@@ -27,7 +27,7 @@ use Rattle.hy_machine.specs.Sessions.{session_at, label_of, blocker_of}
 use Rattle.hy_machine.specs.Steps.{after_turn}
 use Rattle.hy_shows.specs.Sessions.{PhaseShows, OpenShows}
 use Rattle.hy_shows.specs.Shows.{Shows}
-use Rattle.hy_kept.specs.Kept.{is_stamping}
+use Rattle.hy_machine.specs.Kept.{is_stamping}
 use Rattle.hy_shows.specs.Stamped.{is_unstamped, is_unstamped_by, entries_counted}
 use Rattle.hy_shows.specs.Taken.{AtOpen, stepped_of, core_number}
 use Rattle.hy_shows.specs.CoreVisits.{IsFreeToGo, ClosesAreTaken}

@@ -18,7 +18,7 @@ use Rattle.hy_machine.specs.Holding.{has_pair}
 use Rattle.hy_shows.specs.Stamped.{entries_counted}
 use Rattle.hy_shows.specs.Numbers.{EntriesShow}
 use Rattle.hy_shows.specs.Places.{emptied_at, death_of}
-use Rattle.hy_kept.specs.Kept.{Kept}
+use Rattle.hy_machine.specs.Kept.{Kept}
 use Rattle.hy_shows.specs.Rivals.{ShownAt}
 use Rattle.hy_shows.specs.Free.{HasPosition}
 use Rattle.hy_shows.proofs.Orders.{IsLastOf, last_or_none, last_some_at, last_some_none, cell_stays}

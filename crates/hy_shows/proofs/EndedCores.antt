@@ -24,12 +24,12 @@ use Rattle.hy_machine.specs.Writes.{written as written_there}
 use Rattle.hy_machine.specs.Sessions.{fresh, session_at, program_of, txn_at, view}
 use Rattle.hy_machine.specs.Steps.{with_ended, done_with}
 use Rattle.hy_machine.specs.Outcomes.{outcomes_from, txn_outcome_of}
-use Rattle.hy_kept.specs.Begun.{count_open, count_begun}
+use Rattle.hy_machine.specs.Begun.{count_open, count_begun}
 use Rattle.hy_shows.specs.Transactions.{IsOpen, OfOpen}
 use Rattle.hy_shows.specs.Numbers.{TimesApart, IsStart, ActiveIs, StampingShows, CoreShows}
 use Rattle.hy_shows.specs.Sessions.{OpenShows, NowShows, SessionShows, GatheredBy, statement_at}
 use Rattle.hy_shows.specs.Shows.{SessionsShow}
-use Rattle.hy_kept.specs.Kept.{Fits}
+use Rattle.hy_machine.specs.Kept.{Fits}
 use Rattle.hy_shows.proofs.Holders.{is_there, same_label, outcomes_length}
 use Rattle.hy_shows.proofs.RivalTops.{open_shown}
 use Rattle.hy_shows.proofs.EndedOutcomes.{outcome_is, one_more_outcome}

@@ -17,7 +17,7 @@ use Rattle.hy_machine.specs.States.{State, Finished, Open as Current}
 use Rattle.hy_machine.specs.Tables.{Entry}
 use Rattle.hy_machine.specs.Writes.{written as written_there}
 use Rattle.hy_machine.specs.Sessions.{snapshot, entry_of}
-use Rattle.hy_kept.specs.Kept.{Kept, is_stamping}
+use Rattle.hy_machine.specs.Kept.{Kept, is_stamping}
 use Rattle.hy_shows.specs.Transactions.{IsOpen}
 use Rattle.hy_shows.specs.Numbers.{EntryShows, EntriesShow, TimesRise, TimesApart, ActiveIs, StampingShows, MarkShows, CoreShows, noted}
 use Rattle.hy_shows.specs.Sessions.{NotesShow, OpenShows}

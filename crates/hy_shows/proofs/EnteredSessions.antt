@@ -18,7 +18,7 @@ use Rattle.hy_machine.specs.Positions.{item_at}
 use Rattle.hy_machine.specs.Tables.{Tables, over}
 use Rattle.hy_machine.specs.Sessions.{session_at, txn_at, view, pair_of}
 use Rattle.hy_machine.specs.Outcomes.{outcomes_from}
-use Rattle.hy_kept.specs.Kept.{Kept}
+use Rattle.hy_machine.specs.Kept.{Kept}
 use Rattle.hy_shows.specs.Transactions.{IsOpen}
 use Rattle.hy_shows.specs.Numbers.{CoreShows, noted}
 use Rattle.hy_shows.specs.Sessions.{CountsBelow, CoverHolds, OpenShows, NowShows, SessionShows, GatheredBy, statement_at}

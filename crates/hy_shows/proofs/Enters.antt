@@ -21,7 +21,7 @@ use Rattle.hy_machine.specs.Writes.{written as written_there}
 use Rattle.hy_machine.specs.Sessions.{session_at}
 use Rattle.hy_machine.specs.Holding.{undone}
 use Rattle.hy_machine.specs.Steps.{order_with, after_visit, after_turn}
-use Rattle.hy_kept.specs.Kept.{is_stamping}
+use Rattle.hy_machine.specs.Kept.{is_stamping}
 use Rattle.hy_shows.specs.Sessions.{PhaseShows}
 use Rattle.hy_shows.specs.Shows.{Shows}
 use Rattle.hy_shows.specs.Frames.{went_on, sessions_on}

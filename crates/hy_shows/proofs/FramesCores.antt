@@ -12,7 +12,7 @@ use Rattle.hy_event.specs.declared.Phase.TheVariants as phase
 use Rattle.hy_machine.specs.declared.Setting.{Setting}
 use Rattle.hy_machine.specs.States.{State, Session, Finished, Open as Current}
 use Rattle.hy_machine.specs.Sessions.{session_at, label_of}
-use Rattle.hy_kept.specs.Begun.{count_open, count_begun}
+use Rattle.hy_machine.specs.Begun.{count_open, count_begun}
 use Rattle.hy_shows.specs.Transactions.{IsOpen, OfOpen}
 use Rattle.hy_shows.specs.Numbers.{TimesApart, ActiveIs, IsStart, StampingShows, CoreShows}
 use Rattle.hy_shows.specs.Frames.{gone_on, went_on, sessions_on, KeepsStart, WentOn}

@@ -21,7 +21,7 @@ use Rattle.hy_machine.specs.Tables.{chunk_of, positions_in}
 use Rattle.hy_machine.specs.Writes.{written_chunks, is_among}
 use Rattle.hy_machine.specs.Sessions.{snapshot, view}
 use Rattle.hy_machine.specs.Holding.{holds, undone}
-use Rattle.hy_kept.specs.Kept.{OwnFits, is_stamping}
+use Rattle.hy_machine.specs.Kept.{OwnFits, is_stamping}
 use Rattle.hy_shows.specs.Sessions.{OpenShows, PhaseShows}
 use Rattle.hy_shows.specs.Places.{cell_held}
 use Rattle.hy_shows.specs.Taken.{AtChunk}

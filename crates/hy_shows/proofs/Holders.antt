@@ -19,7 +19,7 @@ use Rattle.hy_shows.specs.Stamped.{HasNotStamped, is_unstamped, entries_counted}
 use Rattle.hy_shows.specs.Transactions.{IsOpen}
 use Rattle.hy_shows.specs.Sessions.{NowShows, SessionShows}
 use Rattle.hy_shows.specs.Shows.{SessionsShow}
-use Rattle.hy_kept.specs.Kept.{Fits}
+use Rattle.hy_machine.specs.Kept.{Fits}
 
 -- ---- holders
 

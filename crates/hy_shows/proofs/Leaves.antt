@@ -33,7 +33,7 @@ use Rattle.hy_machine.specs.Writes.{written_chunks, is_among, written as written
 use Rattle.hy_machine.specs.Sessions.{snapshot}
 use Rattle.hy_machine.specs.Holding.{holds, has_pair, undone}
 use Rattle.hy_machine.specs.Steps.{after_turn}
-use Rattle.hy_kept.specs.Kept.{is_stamping}
+use Rattle.hy_machine.specs.Kept.{is_stamping}
 use Rattle.hy_shows.specs.Stamped.{HasNotStamped, is_unstamped, entries_counted}
 use Rattle.hy_shows.specs.Numbers.{StampingShows}
 use Rattle.hy_shows.specs.Sessions.{OpenShows}

@@ -25,7 +25,7 @@ use Rattle.hy_machine.specs.Writes.{place_at, written as written_there}
 use Rattle.hy_machine.specs.Sessions.{session_at, snapshot, pair_of}
 use Rattle.hy_shows.specs.Numbers.{noted}
 use Rattle.hy_shows.specs.Sessions.{PhaseShows, OpenShows}
-use Rattle.hy_kept.specs.Kept.{Kept, is_stamping}
+use Rattle.hy_machine.specs.Kept.{Kept, is_stamping}
 use Rattle.hy_shows.specs.Taken.{AtOpen}
 use Rattle.hy_shows.proofs.RivalTops.{open_shown}
 

@@ -20,7 +20,7 @@ use Rattle.hy_machine.specs.Sessions.{fresh, session_at}
 use Rattle.hy_machine.specs.Holding.{holds}
 use Rattle.hy_machine.specs.Outcomes.{outcomes_from}
 use Rattle.hy_machine.specs.Runs.{opening_of}
-use Rattle.hy_kept.specs.Begun.{count_open}
+use Rattle.hy_machine.specs.Begun.{count_open}
 use Rattle.hy_shows.specs.Transactions.{IsOpen}
 use Rattle.hy_shows.specs.Numbers.{CoreShows}
 use Rattle.hy_shows.specs.Sessions.{NowShows, SessionShows}

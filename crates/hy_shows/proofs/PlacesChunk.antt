@@ -19,7 +19,7 @@ use Rattle.hy_machine.specs.Writes.{Write, with_write}
 use Rattle.hy_machine.specs.Positions.{item_at}
 use Rattle.hy_machine.specs.Tables.{Own, capacity}
 use Rattle.hy_machine.specs.Holding.{undone, is_free}
-use Rattle.hy_kept.specs.Kept.{OwnFits}
+use Rattle.hy_machine.specs.Kept.{OwnFits}
 use Rattle.hy_shows.specs.Places.{PlaceShows}
 use Rattle.hy_shows.specs.Frames.{gone_on, sessions_on, KeepsStart, StandsElsewhere, ChunkShows, UnmovedPlacesShow}
 use Rattle.hy_shows.proofs.FramesLists.{got_set, got_other}

@@ -25,7 +25,7 @@ use Rattle.hy_machine.specs.Tables.{Entry as Entered, opening_tables}
 use Rattle.hy_machine.specs.Positions.{item_at, last_some}
 use Rattle.hy_machine.specs.Sessions.{session_at, snapshot, view}
 use Rattle.hy_machine.specs.Holding.{holds, is_held, has_pair}
-use Rattle.hy_kept.specs.Kept.{at_work}
+use Rattle.hy_machine.specs.Kept.{at_work}
 use Rattle.hy_shows.specs.Stamped.{is_unstamped, is_unstamped_by, entries_counted}
 use Rattle.hy_shows.specs.Transactions.{IsOpen}
 use Rattle.hy_shows.specs.Sessions.{OpenShows}

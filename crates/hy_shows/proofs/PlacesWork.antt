@@ -20,7 +20,7 @@ use Rattle.hy_machine.specs.States.{State, Open as Current, Phase as Stage}
 use Rattle.hy_machine.specs.States as stage
 use Rattle.hy_machine.specs.Tables.{Tables}
 use Rattle.hy_machine.specs.Holding.{undone}
-use Rattle.hy_kept.specs.Kept.{is_stamping}
+use Rattle.hy_machine.specs.Kept.{is_stamping}
 use Rattle.hy_shows.specs.Transactions.{IsOpen}
 use Rattle.hy_shows.specs.Sessions.{PhaseShows, GatheredBy, tables_taken}
 use Rattle.hy_shows.specs.Taken.{AtChunk}

@@ -26,7 +26,7 @@ use Rattle.hy_machine.specs.Holding.{holds, holder_from, has_pair, changer_at, u
 use Rattle.hy_shows.specs.Stamped.{HasNotStamped, is_unstamped, entries_counted, is_unstamped_by}
 use Rattle.hy_shows.specs.Transactions.{IsOpen}
 use Rattle.hy_shows.specs.Places.{IsOwnStamp}
-use Rattle.hy_kept.specs.Kept.{Kept, is_stamping, entered}
+use Rattle.hy_machine.specs.Kept.{Kept, is_stamping, entered}
 use Rattle.hy_shows.specs.Rivals.{ShownAt, RivalsAreOpponents}
 use Rattle.hy_shows.proofs.Written.{own_among}
 use Rattle.hy_shows.proofs.Orders.{IsLastOf, last_or_none, last_some_none, last_some_at, dropped_get, changes_none, changes_some}

@@ -28,7 +28,7 @@ use Rattle.hy_machine.specs.Positions.{item_at}
 use Rattle.hy_machine.specs.Writes.{written_chunks, is_among}
 use Rattle.hy_machine.specs.Sessions.{session_at, snapshot, view}
 use Rattle.hy_machine.specs.Holding.{holds, is_held, has_pair, undone}
-use Rattle.hy_kept.specs.Kept.{is_stamping}
+use Rattle.hy_machine.specs.Kept.{is_stamping}
 use Rattle.hy_shows.specs.Stamped.{is_unstamped, entries_counted}
 use Rattle.hy_shows.specs.Transactions.{IsOpen}
 use Rattle.hy_shows.specs.Numbers.{CoreShows, StampingShows}

@@ -28,7 +28,7 @@ use Rattle.hy_machine.specs.Writes.{written_chunks, wrote_nothing}
 use Rattle.hy_machine.specs.Sessions.{blocker}
 use Rattle.hy_machine.specs.Holding.{undone}
 use Rattle.hy_machine.specs.Validation.{first_hit, committed_of}
-use Rattle.hy_kept.specs.Kept.{is_stamping}
+use Rattle.hy_machine.specs.Kept.{is_stamping}
 use Rattle.hy_shows.specs.Taken.{AtOpen, AtStatement, IsTaken, core_number}
 use Rattle.hy_shows.proofs.StepLaws.{StepLaws}
 use Rattle.hy_shows.proofs.StepChunks.{nothing_held, undone_all}

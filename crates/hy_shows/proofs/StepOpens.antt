@@ -32,7 +32,7 @@ use Rattle.hy_machine.specs.States as stage
 use Rattle.hy_machine.specs.Writes.{written_chunks}
 use Rattle.hy_machine.specs.Sessions.{session_at, txn_at, blocker, view}
 use Rattle.hy_machine.specs.Holding.{undone}
-use Rattle.hy_kept.specs.Kept.{is_stamping, PhaseFits, visits_in}
+use Rattle.hy_machine.specs.Kept.{is_stamping, PhaseFits, visits_in}
 use Rattle.hy_shows.specs.Sessions.{PhaseShows, statement_at}
 use Rattle.hy_shows.specs.Steps.{ReadsFit}
 use Rattle.hy_shows.specs.Taken.{AtChunk, AtStatement, IsTaken, core_number, chunk_number}

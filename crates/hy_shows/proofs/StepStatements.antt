@@ -21,7 +21,7 @@ use Rattle.hy_machine.specs.States.{State, Open as Current}
 use Rattle.hy_machine.specs.Turns.{Turn, statement_turn, insert_turn, check_turn, place_turn}
 use Rattle.hy_machine.specs.Sessions.{view}
 use Rattle.hy_machine.specs.Visits.{checks_of, sees_key, free_position}
-use Rattle.hy_kept.specs.Kept.{visits_in}
+use Rattle.hy_machine.specs.Kept.{visits_in}
 use Rattle.hy_shows.specs.Steps.{ReadsFit}
 use Rattle.hy_shows.specs.Taken.{AtOpen, AtChunk, AtStatement, IsTaken, chunk_number}
 use Rattle.hy_shows.proofs.Needed.{chunk_part, some_chunks, same_chunk}

@@ -19,7 +19,7 @@ use Rattle.hy_machine.specs.declared.Setting.{Setting}
 use Rattle.hy_machine.specs.States.{State, Open as Current}
 use Rattle.hy_machine.specs.Turns.{Begins, turn, session_turn, unless_blocked}
 use Rattle.hy_machine.specs.Sessions.{session_at, txn_at, blocker, view}
-use Rattle.hy_kept.specs.Kept.{PhaseFits}
+use Rattle.hy_machine.specs.Kept.{PhaseFits}
 use Rattle.hy_shows.specs.Sessions.{SessionShows, NowShows, OpenShows, statement_at}
 use Rattle.hy_shows.specs.Steps.{ReadsFit, ViewsFit, EventsAreSteps}
 use Rattle.hy_shows.specs.Taken.{ShownState, AtOpen, IsTaken, core_number, chunk_number}

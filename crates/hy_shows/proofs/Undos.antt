@@ -28,7 +28,7 @@ use Rattle.hy_shows.specs.Stamped.{is_unstamped}
 use Rattle.hy_shows.specs.Sessions.{OpenShows}
 use Rattle.hy_shows.specs.Places.{PlaceShows}
 use Rattle.hy_shows.specs.Parts.{ChunkIs}
-use Rattle.hy_kept.specs.Kept.{is_stamping}
+use Rattle.hy_machine.specs.Kept.{is_stamping}
 use Rattle.hy_shows.specs.Taken.{AtChunk, chunk_number}
 use Rattle.hy_shows.specs.Frames.{gone_on, sessions_on, KeepsStart, WentOn, StandsElsewhere, ChunkShows, UnmovedPlacesShow, ChunkVisitsShow}
 use Rattle.hy_shows.specs.Frames.{VisitedChunksShow, GoingOnIsTaken}

@@ -31,7 +31,7 @@ use Rattle.hy_shows.specs.Places.{PlaceShows, cell_held}
 use Rattle.hy_shows.specs.Parts.{ChunkIs}
 use Rattle.hy_shows.specs.Pruned.{IsBelowIds}
 use Rattle.hy_shows.specs.Rivals.{RivalsAreOpponents}
-use Rattle.hy_kept.specs.Kept.{Kept, OwnFits}
+use Rattle.hy_machine.specs.Kept.{Kept, OwnFits}
 use Rattle.hy_shows.specs.Shows.{SessionsShow}
 use Rattle.hy_shows.specs.Frames.{gone_on, sessions_on, KeepsStart, StandsAsBefore, StandsElsewhere, ChunkShows, UnmovedPlacesShow}
 use Rattle.hy_shows.proofs.WritesOpen.{unstamped_on}

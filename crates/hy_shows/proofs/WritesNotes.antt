@@ -15,7 +15,7 @@ use Rattle.hy_machine.specs.Positions.{item_at}
 use Rattle.hy_machine.specs.Tables.{capacity}
 use Rattle.hy_machine.specs.Sessions.{view}
 use Rattle.hy_shows.specs.Sessions.{NotesShow}
-use Rattle.hy_kept.specs.Kept.{OwnFits}
+use Rattle.hy_machine.specs.Kept.{OwnFits}
 use Rattle.hy_shows.specs.Frames.{NotesFollowWrites, with_own}
 use Rattle.hy_shows.proofs.WritesOwn.{writes_from, write_fits, write_away}
 use Rattle.hy_shows.proofs.WritesViews.{views_alike}

@@ -15,7 +15,7 @@ use Rattle.hy_machine.specs.Positions.{item_at}
 use Rattle.hy_machine.specs.Tables.{Cell, Own, capacity, laid_out, opening_tables}
 use Rattle.hy_machine.specs.Visits.{write_of}
 use Rattle.hy_shows.specs.Free.{HasPosition}
-use Rattle.hy_kept.specs.Kept.{OwnFits}
+use Rattle.hy_machine.specs.Kept.{OwnFits}
 
 -- ---- lists
 

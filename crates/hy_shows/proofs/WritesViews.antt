@@ -13,7 +13,7 @@ use Rattle.hy_machine.specs.Writes.{written_chunks, is_among}
 use Rattle.hy_machine.specs.Sessions.{session_at, snapshot, view}
 use Rattle.hy_machine.specs.Holding.{holds, is_held, has_pair, undone}
 use Rattle.hy_shows.specs.Places.{cell_held, is_used}
-use Rattle.hy_kept.specs.Kept.{OwnFits, Kept}
+use Rattle.hy_machine.specs.Kept.{OwnFits, Kept}
 use Rattle.hy_shows.proofs.Written.{own_among}
 use Rattle.hy_shows.proofs.Orders.{tables_over, cell_stays}
 use Rattle.hy_shows.proofs.LastCells.{any_true, pair_over, stays_along}

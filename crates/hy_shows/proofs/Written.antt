@@ -11,7 +11,7 @@ use Rattle.hy_machine.specs.declared.Setting.{Setting}
 use Rattle.hy_machine.specs.Positions.{item_at}
 use Rattle.hy_machine.specs.Tables.{Cell, Own, capacity, chunk_of}
 use Rattle.hy_machine.specs.Writes.{has_written_in, chunks_in_table, chunks_from, written_chunks, is_among}
-use Rattle.hy_kept.specs.Kept.{OwnFits}
+use Rattle.hy_machine.specs.Kept.{OwnFits}
 
 pub any_in_range : (f : ℕ → Bool) (first n i : ℕ) → i < n → f (first + i) ≡ true → list_any f (range_with_len first n) ≡ true
 any_in_range f first zero i h e = absurd (omega (arith, h))

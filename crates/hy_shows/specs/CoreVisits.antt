@@ -27,7 +27,7 @@ use Rattle.hy_machine.specs.Holding.{holds}
 use Rattle.hy_machine.specs.Tables.{Entry as Entered}
 use Rattle.hy_machine.specs.Positions.{by_place}
 use Rattle.hy_machine.specs.Validation.{change_at, first_hit, committed_of}
-use Rattle.hy_kept.specs.Kept.{is_stamping}
+use Rattle.hy_machine.specs.Kept.{is_stamping}
 use Rattle.hy_shows.specs.Numbers.{EntryShows}
 use Rattle.hy_shows.specs.Shows.{Shows}
 use Rattle.hy_shows.specs.Taken.{ShownState, AtOpen, AtStatement, IsTaken, core_number}

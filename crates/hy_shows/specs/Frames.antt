@@ -34,7 +34,7 @@ use Rattle.hy_shows.specs.Parts.{ChunkIs}
 use Rattle.hy_shows.specs.Pruned.{IsBelowIds}
 use Rattle.hy_shows.specs.Shows.{Shows}
 use Rattle.hy_shows.specs.Taken.{AtOpen, AtChunk, IsTaken, chunk_number}
-use Rattle.hy_kept.specs.Kept.{OwnFits}
+use Rattle.hy_machine.specs.Kept.{OwnFits}
 
 -- ---- a transaction goes on
 

@@ -14,7 +14,7 @@ use Rattle.hy_machine.specs.Tables.{Entry as Entered, Pair}
 use Rattle.hy_machine.specs.Positions.{item_at}
 use Rattle.hy_machine.specs.Writes.{written}
 use Rattle.hy_machine.specs.Sessions.{session_at, label_of}
-use Rattle.hy_kept.specs.Begun.{count_begun}
+use Rattle.hy_machine.specs.Begun.{count_begun}
 use Rattle.hy_shows.specs.Transactions.{IsOpen, OfOpen}
 
 -- ---- entries

@@ -14,7 +14,7 @@ use Rattle.hy_shows.specs.Numbers.{CoreShows}
 use Rattle.hy_shows.specs.Shows.{SessionsShow}
 use Rattle.hy_shows.specs.Places.{PlaceShows}
 use Rattle.hy_shows.specs.Pruned.{IsBelowIds}
-use Rattle.hy_kept.specs.Kept.{Kept}
+use Rattle.hy_machine.specs.Kept.{Kept}
 
 -- the core, the sessions and a position show a state that is kept
 pub record ShownAt (setting : Setting) (state : State) (core : CoreData) (sessions : List SessionData) (table chunk pos : ℕ) (place : Place) : Type 0 where

@@ -16,7 +16,7 @@ use Rattle.hy_machine.specs.States.{State, Open as Current}
 use Rattle.hy_machine.specs.Tables.{Tables}
 use Rattle.hy_machine.specs.Sessions.{session_at, txn_at, view}
 use Rattle.hy_machine.specs.Turns.{turn, rows_seen}
-use Rattle.hy_kept.specs.Kept.{IsNow}
+use Rattle.hy_machine.specs.Kept.{IsNow}
 use Rattle.hy_shows.specs.Sessions.{statement_at}
 use Rattle.hy_shows.specs.Taken.{ShownState, IsTaken}
 

@@ -21,7 +21,7 @@ use Rattle.hy_shows.specs.Parts.{IsChunkPart}
 use Rattle.hy_shows.specs.Shows.{Shows}
 use Rattle.hy_shows.specs.Pruned.{IsBelowIds}
 use Rattle.hy_shows.specs.Labels.{HaveLabels}
-use Rattle.hy_kept.specs.Kept.{Kept}
+use Rattle.hy_machine.specs.Kept.{Kept}
 
 -- ---- before a visit
 

@@ -32,7 +32,7 @@ use Rattle.hy_machine.specs.Sessions.{view}
 use Rattle.hy_machine.specs.Holding.{undone}
 use Rattle.hy_machine.specs.Visits.{kind_of, swept, sees_key, free_position}
 use Rattle.hy_event.specs.Sessions.{written_chunks as chunks_written}
-use Rattle.hy_kept.specs.Kept.{is_stamping}
+use Rattle.hy_machine.specs.Kept.{is_stamping}
 use Rattle.hy_shows.specs.Taken.{AtOpen, AtChunk, AtStatement, IsTaken, chunk_number}
 
 -- ---- statements that read

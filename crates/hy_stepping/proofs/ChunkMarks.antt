@@ -22,7 +22,7 @@ use Rattle.hy_event.specs.Sessions.{label_of}
 use Rattle.hy_machine.specs.declared.Setting.{Setting}
 use Rattle.hy_machine.specs.States.{State, Open as Current, Phase as Stage}
 use Rattle.hy_machine.specs.States as stage
-use Rattle.hy_kept.specs.Kept.{is_stamping}
+use Rattle.hy_machine.specs.Kept.{is_stamping}
 use Rattle.hy_shows.specs.Stamped.{is_unstamped, entries_counted}
 use Rattle.hy_shows.specs.Transactions.{IsOpen}
 use Rattle.hy_shows.specs.Sessions.{PhaseShows}

@@ -22,7 +22,7 @@ use Rattle.hy_machine.specs.declared.Setting.{Setting}
 use Rattle.hy_machine.specs.States.{State, Phase as Stage}
 use Rattle.hy_machine.specs.States as stage
 use Rattle.hy_machine.specs.Sessions.{program_of}
-use Rattle.hy_kept.specs.Kept.{PhaseFits, visits_in}
+use Rattle.hy_machine.specs.Kept.{PhaseFits, visits_in}
 use Rattle.hy_session.specs.Near.{IsTyped, HasVisitLeft, present_statement}
 use Rattle.hy_shows.specs.Sessions.{PhaseShows}
 use Rattle.hy_stepping.specs.Typed.{IsTypedOf, IsTypedIn, IsTypedTxn, kinds_of}

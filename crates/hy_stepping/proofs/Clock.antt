@@ -9,8 +9,8 @@ use Rattle.hy_event.specs.declared.SessionData.{SessionData}
 use Rattle.hy_machine.specs.declared.Setting.{Setting}
 use Rattle.hy_machine.specs.States.{State, Session, Open as Current}
 use Rattle.hy_machine.specs.Sessions.{fresh, session_at, program_of}
-use Rattle.hy_kept.specs.Begun.{count_open, count_begun}
-use Rattle.hy_kept.specs.Kept.{Kept}
+use Rattle.hy_machine.specs.Begun.{count_open, count_begun}
+use Rattle.hy_machine.specs.Kept.{Kept}
 use Rattle.hy_shows.specs.Numbers.{CoreShows}
 use Rattle.hy_stepping.specs.Runnable.{IsRunnable}
 

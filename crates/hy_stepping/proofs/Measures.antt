@@ -16,7 +16,7 @@ use Rattle.hy_machine.specs.States.{State, Session, Open, Begun, Phase, Working,
 use Rattle.hy_machine.specs.Sessions.{fresh, session_at, program_of}
 use Rattle.hy_machine.specs.Visits.{visits_of}
 use Rattle.hy_machine.specs.Measures.{statements_left, open_left, txn_left, later_left, txns_left, steps_left, all_left, measure_of}
-use Rattle.hy_kept.specs.Kept.{Kept}
+use Rattle.hy_machine.specs.Kept.{Kept}
 use Rattle.hy_stepping.specs.Runnable.{IsRunnable}
 
 -- ---- statements

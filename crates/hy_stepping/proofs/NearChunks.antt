@@ -25,7 +25,7 @@ use Rattle.hy_event.specs.Events.{Part, ChunkPart}
 use Rattle.hy_machine.specs.declared.Setting.{Setting}
 use Rattle.hy_machine.specs.States.{State}
 use Rattle.hy_machine.specs.Sessions.{session_at}
-use Rattle.hy_kept.specs.Kept.{Kept}
+use Rattle.hy_machine.specs.Kept.{Kept}
 use Rattle.hy_lawful.specs.Kept.{ReachedAreKept}
 use Rattle.hy_shows.specs.Transactions.{IsOpen}
 use Rattle.hy_shows.specs.Sessions.{SessionShows}

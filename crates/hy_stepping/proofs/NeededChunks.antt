@@ -29,7 +29,7 @@ use Rattle.hy_machine.specs.States.{State, Phase as Stage}
 use Rattle.hy_machine.specs.States as stage
 use Rattle.hy_machine.specs.Sessions.{session_at}
 use Rattle.hy_machine.specs.Visits.{checks_of}
-use Rattle.hy_kept.specs.Kept.{Kept, PhaseFits, visits_in}
+use Rattle.hy_machine.specs.Kept.{Kept, PhaseFits, visits_in}
 use Rattle.hy_lawful.specs.Kept.{ReachedAreKept}
 use Rattle.hy_shows.specs.Sessions.{SessionShows, PhaseShows}
 use Rattle.hy_stepping.specs.Runnable.{IsRunnable}

@@ -18,7 +18,7 @@ use Rattle.hy_machine.specs.declared.Setting.{Setting}
 use Rattle.hy_machine.specs.States.{State, Finished, Open as Current}
 use Rattle.hy_machine.specs.Sessions.{session_at, program_of, txn_at}
 use Rattle.hy_machine.specs.Outcomes.{outcomes_from}
-use Rattle.hy_kept.specs.Kept.{Kept, IsNow, PhaseFits}
+use Rattle.hy_machine.specs.Kept.{Kept, IsNow, PhaseFits}
 use Rattle.hy_lawful.specs.Kept.{ReachedAreKept}
 use Rattle.hy_shows.specs.Sessions.{OpenShows, NowShows, SessionShows}
 use Rattle.hy_stepping.specs.Runnable.{IsRunnable, IsShown}

@@ -16,7 +16,7 @@ use Rattle.hy_machine.specs.declared.Setting.{Setting}
 use Rattle.hy_machine.specs.States.{State, Session, Open as Current}
 use Rattle.hy_machine.specs.Sessions.{fresh, session_at, program_of, txn_at, has_ended}
 use Rattle.hy_machine.specs.Runs.{all_ended_from}
-use Rattle.hy_kept.specs.Kept.{Fits, IsNow, PhaseFits}
+use Rattle.hy_machine.specs.Kept.{Fits, IsNow, PhaseFits}
 use Rattle.hy_lawful.specs.Kept.{ReachedAreKept}
 use Rattle.hy_shows.specs.Sessions.{SessionShows}
 use Rattle.hy_stepping.specs.Runnable.{IsShown}

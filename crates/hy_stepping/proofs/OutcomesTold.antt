@@ -16,7 +16,7 @@ use Rattle.hy_machine.specs.States.{State, Session, Open as Current}
 use Rattle.hy_machine.specs.Tables.{Entry as Entered}
 use Rattle.hy_machine.specs.Outcomes.{outcomes_from, all_outcomes_from, outcome_of}
 use Rattle.hy_machine.specs.Validation.{committed_of}
-use Rattle.hy_kept.specs.Kept.{Kept, IsNow}
+use Rattle.hy_machine.specs.Kept.{Kept, IsNow}
 use Rattle.hy_lawful.specs.Kept.{ReachedAreKept}
 use Rattle.hy_shows.specs.Numbers.{EntryShows}
 use Rattle.hy_shows.specs.Places.{IsNewcomer}

@@ -8,7 +8,7 @@ use Rattle.hy_event.specs.Events.{Part}
 use Rattle.hy_machine.specs.declared.Setting.{Setting}
 use Rattle.hy_machine.specs.States.{State}
 use Rattle.hy_machine.specs.Sessions.{program_of}
-use Rattle.hy_kept.specs.Kept.{Kept}
+use Rattle.hy_machine.specs.Kept.{Kept}
 use Rattle.hy_lawful.specs.Kept.{ReachedAreKept}
 use Rattle.hy_lawful.specs.Views.{ReachedViewsFit}
 use Rattle.hy_shows.specs.Labels.{HaveLabels}

@@ -5,7 +5,7 @@ use Rattle.hy_bound.specs.declared.Bound.{Bound}
 use Rattle.hy_bound.specs.declared.Bound.TheVariants.{Select, Group, Insert, Update, Delete}
 use Rattle.hy_bound.specs.Fits.{FitsStatement}
 use Rattle.hy_machine.specs.declared.Setting.{Setting}
-use Rattle.hy_kept.specs.Kept.{visits_in}
+use Rattle.hy_machine.specs.Kept.{visits_in}
 
 -- a statement has visits where a table has chunks
 some_visits : (setting : Setting) (statement : Bound) → 0 < setting.chunks → FitsStatement setting.shapes statement → 0 < visits_in setting statement

@@ -4,7 +4,7 @@ use Rattle.hy_machine.specs.States.{State}
 use Rattle.hy_machine.specs.Runs.{IsReached, StepsFall, RunsEnd}
 use Rattle.hy_machine.specs.Sessions.{session_at}
 use Rattle.hy_machine.specs.Measures.{steps_left, measure_of}
-use Rattle.hy_kept.specs.Kept.{Kept}
+use Rattle.hy_machine.specs.Kept.{Kept}
 use Rattle.hy_lawful.specs.Kept.{ReachedAreKept}
 use Rattle.hy_stepping.specs.Bounds.{BoundsAreEnough, most_turns}
 use Rattle.hy_stepping.specs.Runnable.{IsRunnable}

@@ -15,7 +15,7 @@ use Rattle.hy_machine.specs.Writes.{written_chunks}
 use Rattle.hy_machine.specs.Sessions.{session_at, program_of, txn_at, label_of, snapshot, pair_of}
 use Rattle.hy_machine.specs.Holding.{holds, has_pair}
 use Rattle.hy_machine.specs.Visits.{checks_of}
-use Rattle.hy_kept.specs.Begun.{count_begun}
+use Rattle.hy_machine.specs.Begun.{count_begun}
 
 -- ---- transactions that have begun
 

@@ -4,9 +4,8 @@ use hy_bound::{Pred, Record};
 use hy_change::Change;
 use hy_given::{compare, pair};
 use hy_journal::Entry;
-use hy_ptree::Tree;
 use hy_stamp::Label;
-use hy_validate::{Invalid, ValidateError, validate};
+use hy_validate::{Invalid, Tree, ValidateError, validate};
 use hy_value::{Cmp, ColMask, Row, Seq};
 use std::test::Fail;
 

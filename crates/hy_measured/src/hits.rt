@@ -2,7 +2,7 @@
 
 use hy_bound::{Pred, Record, Side, hits};
 use hy_change::Change;
-use hy_ptree::Tree;
+use hy_validate::Tree;
 use hy_value::{Cmp, ColMask, Row, Seq, Value};
 use std::alloc::{AllocError, Global};
 

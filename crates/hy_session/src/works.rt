@@ -16,10 +16,9 @@ use crate::{Running, Session};
 use hy_bound::{Record, Txn};
 use hy_core::Core;
 use hy_event::Phase;
-use hy_ptree::Tree;
 use hy_render::Ending;
 use hy_stamp::Label;
-use hy_validate::{Invalid, validate_with};
+use hy_validate::{Invalid, Tree, validate_with};
 use std::alloc::{AllocError, Global};
 
 /// What a session does at the core.

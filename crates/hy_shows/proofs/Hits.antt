@@ -11,7 +11,7 @@ use Rattle.hy_render.specs.declared.Ending.TheVariants as ending
 use Rattle.hy_stamp.specs.declared.Label.{Label}
 use Rattle.hy_notes.specs.Notes.{is_change}
 use Rattle.hy_notes.specs.Telling.{TellingIsOne}
-use Rattle.hy_ptree.specs.Hits.{first_hit_of}
+use Rattle.hy_validate.specs.TreeHits.{first_hit_of}
 use Rattle.hy_journal.specs.declared.CoreData.{CoreData}
 use Rattle.hy_journal.specs.declared.Entry.{Entry}
 use Rattle.hy_validate.specs.declared.Invalid.{Invalid}

@@ -9,7 +9,7 @@ use Rattle.hy_value.specs.declared.Value.{Value}
 use Rattle.hy_bound.specs.declared.Record.{Record}
 use Rattle.hy_change.specs.declared.Change.{Change}
 use Rattle.hy_stamp.specs.declared.Label.{Label}
-use Rattle.hy_ptree.specs.Hits.{is_hit_by, first_hit_of}
+use Rattle.hy_validate.specs.TreeHits.{is_hit_by, first_hit_of}
 use Rattle.hy_validate.specs.declared.Invalid.{Invalid}
 use Rattle.hy_validate.specs.Hits.{invalid_by, change_hit, hit_among}
 use Rattle.hy_notes.specs.Notes.{is_change}

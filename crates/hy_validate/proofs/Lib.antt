@@ -1,1 +1,6 @@
 pub mod FirstStatements
+pub mod FirstOnes
+pub mod Least
+pub mod Earliness
+pub mod Replaced
+pub mod Filing

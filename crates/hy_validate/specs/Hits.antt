@@ -4,7 +4,7 @@ use Rattle.std.specs.Option.{option_or, option_map}
 use Rattle.hy_bound.specs.declared.Record.{Record}
 use Rattle.hy_change.specs.declared.Change.{Change}
 use Rattle.hy_journal.specs.declared.Entry.{Entry}
-use Rattle.hy_ptree.specs.Hits.{first_hit_of}
+use Rattle.hy_validate.specs.TreeHits.{first_hit_of}
 use Rattle.hy_stamp.specs.declared.Label.{Label}
 use Rattle.hy_validate.specs.declared.Invalid.{Invalid}
 

@@ -3,7 +3,7 @@ use Rattle.std.specs.Prelude.{ℕ, List, [], ◌∷◌, Option, None, Some, slic
 use Rattle.std.specs.Option.{option_map_or}
 use Rattle.hy_bound.specs.declared.Record.{Record}
 use Rattle.hy_change.specs.declared.Change.{Change}
-use Rattle.hy_ptree.specs.Hits.{is_hit_by}
+use Rattle.hy_validate.specs.TreeHits.{is_hit_by}
 
 -- the statement of the record of a number
 abbrev pub statement_at : List Record → ℕ → ℕ

@@ -6,7 +6,7 @@ ghost use Rattle.hy_bound.specs.declared.Record.{Record};
 ghost use Rattle.hy_change.specs.declared.Change.{Change};
 ghost use Rattle.hy_notes.specs.Notes.{is_change};
 ghost use Rattle.hy_stamp.specs.declared.Label.{Label};
-ghost use Rattle.hy_ptree.specs.Hits.{first_hit_of};
+ghost use Rattle.hy_validate.specs.TreeHits.{first_hit_of};
 ghost use Rattle.hy_validate.specs.Hits.{hit_among};
 ghost use Rattle.hy_validate.specs.Statements.{statement_at, statement_hit};
 

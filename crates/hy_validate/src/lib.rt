@@ -8,15 +8,18 @@ ghost use Rattle.std.specs.Result.{result_err};
 ghost use Rattle.hy_validate.specs.Hits.{hit_among, first_invalid};
 ghost use Rattle.hy_validate.specs.declared.ValidateError.{ValidateError};
 
+mod conditions;
+mod groups;
 mod laws;
+mod tree;
 
 use hy_bound::Record;
 use hy_change::Change;
 use hy_journal::Entry;
-use hy_ptree::Tree;
 use hy_stamp::Label;
 pub use laws::hits_are_of_statements_and_rows;
 use std::alloc::{AllocError, Global};
+pub use tree::Tree;
 
 /// A change that hits what a transaction read.
 #[derive(Clone, Copy, Debug, PartialEq, Eq)]

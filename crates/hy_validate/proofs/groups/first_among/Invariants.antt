@@ -1,7 +1,7 @@
 use Rattle.std.proofs.Common.{◌≡◌, true}
-use Rattle.hy_ptree.specs.Hits.{is_hit_number, IsLeast}
-use Rattle.hy_ptree.proofs.Earliness.{InFirst}
-use Rattle.hy_ptree.proofs.groups.first_among.Given as goal
+use Rattle.hy_validate.specs.TreeHits.{is_hit_number, IsLeast}
+use Rattle.hy_validate.proofs.Earliness.{InFirst}
+use Rattle.hy_validate.proofs.groups.first_among.Given as goal
 
 -- the first record of the groups so far that the change hits
 abbrev pub invariant-loop-group : goal.invariant-loop-group

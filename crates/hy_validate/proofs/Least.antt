@@ -6,7 +6,7 @@ use Rattle.std.specs.List.{position, position_or_len}
 use Rattle.std.proofs.lemmas.Bool.{cases_lt}
 use Rattle.std.proofs.lemmas.List.Sums.{position_or_len_is}
 use Rattle.std.proofs.lemmas.Option.{slice_get-get_or, slice_get_within}
-use Rattle.hy_ptree.specs.Hits.{IsLeast, earlier_of}
+use Rattle.hy_validate.specs.TreeHits.{IsLeast, earlier_of}
 
 -- the less of two least numbers is the least of both kinds
 pub least_of_both : (P Q R : ℕ → Type 0) (a b : Option ℕ) → IsLeast P a → IsLeast Q b → ((n : ℕ) → P n → R n) → ((n : ℕ) → Q n → R n)

@@ -1,14 +1,10 @@
 //! The predicate tree: against it a change is tested in a validation by precision locking (Neumann, Mühlbauer,
 //! Kemper, "Fast Serializable Multi-Version Concurrency Control for Main-Memory Database Systems", SIGMOD 2015).
-#![tactic(auto)]
 
 ghost use Rattle.std.specs.Prelude.{◌≡◌, IfOk};
-ghost use Rattle.hy_ptree.specs.Hits.{first_hit_of};
+ghost use Rattle.hy_validate.specs.TreeHits.{first_hit_of};
 
-mod conditions;
-mod groups;
-
-use groups::{Group, file, first_among};
+use crate::groups::{Group, file, first_among};
 use hy_bound::Record;
 use hy_change::Change;
 use std::alloc::{AllocError, Global};
@@ -33,7 +29,7 @@ impl<'a> Model for Tree<'a> {
 
     ghost coded = { coded_list logged.the_row.coded };
 
-    ghost use Rattle.hy_ptree.specs.Groups.{IsGrouped};
+    ghost use Rattle.hy_validate.specs.Groups.{IsGrouped};
 
     ghost view = { λ a. a.records.now };
 

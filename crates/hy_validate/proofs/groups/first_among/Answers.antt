@@ -1,8 +1,8 @@
 use Rattle.std.proofs.Common.{rules, ◌≡◌, ℕ, ◌+◌, Option, true, length, sym, arith, subst}
-use Rattle.hy_ptree.specs.Groups.{IsFiled}
-use Rattle.hy_ptree.specs.Hits.{is_hit_number, IsLeast, earlier_of}
-use Rattle.hy_ptree.proofs.Earliness.{InFirst, one_group_more, first_of_all}
-use Rattle.hy_ptree.proofs.groups.first_among.Goals as goal
+use Rattle.hy_validate.specs.Groups.{IsFiled}
+use Rattle.hy_validate.specs.TreeHits.{is_hit_number, IsLeast, earlier_of}
+use Rattle.hy_validate.proofs.Earliness.{InFirst, one_group_more, first_of_all}
+use Rattle.hy_validate.proofs.groups.first_among.Goals as goal
 
 pub first_in-requires : goal.first_in-requires
 first_in-requires c =

@@ -1,9 +1,9 @@
 use Rattle.std.proofs.Common.{rules, ◌≡◌, ℕ, ◌<◌, List, true, false, length, get_or, sym, arith, subst}
 use Rattle.std.specs.Prelude.{Some, Contains}
 use Rattle.std.specs.List.Sorted.{IsStrictlyIncreasing}
-use Rattle.hy_ptree.specs.Hits.{is_hit_number, is_asked, IsLeast}
-use Rattle.hy_ptree.proofs.Earliness.{group_missed, none_has, first_is_least}
-use Rattle.hy_ptree.proofs.groups.first_in.Goals as goal
+use Rattle.hy_validate.specs.TreeHits.{is_hit_number, is_asked, IsLeast}
+use Rattle.hy_validate.proofs.Earliness.{group_missed, none_has, first_is_least}
+use Rattle.hy_validate.proofs.groups.first_in.Goals as goal
 
 pub returns-then-not-may_be_hit : goal.returns-then-not-may_be_hit
 returns-then-not-may_be_hit c =

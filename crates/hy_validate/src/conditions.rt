@@ -3,7 +3,7 @@
 ghost use Rattle.std.specs.Prelude.{◌≡◌, ◌↔◌, IsTrue};
 ghost use Rattle.hy_bound.specs.Condition.{True};
 ghost use Rattle.hy_bound.specs.PredView.{viewed_side};
-ghost use Rattle.hy_ptree.specs.FirstConditions.{first_condition_of};
+ghost use Rattle.hy_validate.specs.FirstConditions.{first_condition_of};
 
 use hy_bound::{Pred, Root, SideView};
 

@@ -12,12 +12,12 @@ use Rattle.hy_bound.specs.declared.Record.{Record}
 use Rattle.hy_bound.specs.Condition.{Condition}
 use Rattle.hy_bound.specs.Predicate.{truth_at, changes_on}
 use Rattle.hy_change.specs.declared.Change.{Change}
-use Rattle.hy_ptree.specs.declared.groups.Group.{Group}
-use Rattle.hy_ptree.specs.FirstConditions.{first_condition_of}
-use Rattle.hy_ptree.specs.Groups.{IsFiled, IsGrouped}
-use Rattle.hy_ptree.specs.Hits.{is_hit_by, is_hit_number, first_hit_of, is_asked, IsLeast, earlier_of}
-use Rattle.hy_ptree.proofs.FirstOnes.{first_decides}
-use Rattle.hy_ptree.proofs.Least.{least_of_both, least_is_position}
+use Rattle.hy_validate.specs.declared.groups.Group.{Group}
+use Rattle.hy_validate.specs.FirstConditions.{first_condition_of}
+use Rattle.hy_validate.specs.Groups.{IsFiled, IsGrouped}
+use Rattle.hy_validate.specs.TreeHits.{is_hit_by, is_hit_number, first_hit_of, is_asked, IsLeast, earlier_of}
+use Rattle.hy_validate.proofs.FirstOnes.{first_decides}
+use Rattle.hy_validate.proofs.Least.{least_of_both, least_is_position}
 
 -- a number of one of the first so many groups
 pub record InFirst (groups : List Group) (many number : ℕ) : Type 0 where

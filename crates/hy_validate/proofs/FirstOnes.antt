@@ -7,7 +7,7 @@ use Rattle.hy_bound.specs.Condition.{Condition, True, Compare, IsNull, Not, And,
 use Rattle.hy_bound.specs.Predicate.{truth_of, truth_at}
 use Rattle.hy_bound.specs.Records.{conjuncts}
 use Rattle.hy_bound.specs.Truths.{conjuncts_truth}
-use Rattle.hy_ptree.specs.FirstConditions.{first_condition_of}
+use Rattle.hy_validate.specs.FirstConditions.{first_condition_of}
 
 -- of two lists none has a condition if their first is none
 neither : (xs ys : List Condition) → (slice_index_or xs 0 True ≡ True → xs ≡ []) → (slice_index_or ys 0 True ≡ True → ys ≡ [])

@@ -1,11 +1,11 @@
 use Rattle.std.proofs.Common.{rules, ◌≡◌, ℕ, ◌+◌, ◌<◌, ◌∷◌, [], ◌++◌, List, length, get_or, sym, ap, ◌∙◌, arith, subst}
 use Rattle.std.specs.Prelude.{All}
 use Rattle.hy_bound.specs.Condition.{Condition}
-use Rattle.hy_ptree.specs.declared.groups.Group.{Group}
-use Rattle.hy_ptree.specs.FirstConditions.{first_condition_of}
-use Rattle.hy_ptree.specs.Groups.{IsOf, IsGrouped}
-use Rattle.hy_ptree.proofs.Filing.{one_in_its_group, one_in_a_new_group}
-use Rattle.hy_ptree.proofs.groups.file.Goals as goal
+use Rattle.hy_validate.specs.declared.groups.Group.{Group}
+use Rattle.hy_validate.specs.FirstConditions.{first_condition_of}
+use Rattle.hy_validate.specs.Groups.{IsOf, IsGrouped}
+use Rattle.hy_validate.proofs.Filing.{one_in_its_group, one_in_a_new_group}
+use Rattle.hy_validate.proofs.groups.file.Goals as goal
 
 pub returns-in_ok-add-in-Some : goal.returns-in_ok-add-in-Some
 returns-in_ok-add-in-Some c =

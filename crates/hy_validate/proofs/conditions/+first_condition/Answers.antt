@@ -1,8 +1,8 @@
 use Rattle.std.proofs.Common.{rules, ◌≡◌, ◌∙◌, ap}
 use Rattle.hy_bound.specs.Condition.{And, True}
-use Rattle.hy_ptree.specs.FirstConditions.{first_condition_of}
-use Rattle.hy_ptree.proofs.FirstOnes.{first_of_right}
-use Rattle.hy_ptree.proofs.conditions.+first_condition.Goals as goal
+use Rattle.hy_validate.specs.FirstConditions.{first_condition_of}
+use Rattle.hy_validate.proofs.FirstOnes.{first_of_right}
+use Rattle.hy_validate.proofs.conditions.+first_condition.Goals as goal
 
 pub returns-then-is_always : goal.returns-then-is_always
 returns-then-is_always t c =

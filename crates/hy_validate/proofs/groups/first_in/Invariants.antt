@@ -1,6 +1,6 @@
 use Rattle.std.proofs.Common.{◌≡◌, ℕ, ◌<◌, false, get_or}
-use Rattle.hy_ptree.specs.Hits.{is_hit_number}
-use Rattle.hy_ptree.proofs.groups.first_in.Given as goal
+use Rattle.hy_validate.specs.TreeHits.{is_hit_number}
+use Rattle.hy_validate.proofs.groups.first_in.Given as goal
 
 -- the change hits no record so far
 abbrev pub invariant-loop-number : goal.invariant-loop-number

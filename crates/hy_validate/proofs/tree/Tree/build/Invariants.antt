@@ -1,5 +1,5 @@
-use Rattle.hy_ptree.specs.Groups.{IsGrouped}
-use Rattle.hy_ptree.proofs.Tree.build.Given as goal
+use Rattle.hy_validate.specs.Groups.{IsGrouped}
+use Rattle.hy_validate.proofs.tree.Tree.build.Given as goal
 
 -- the records so far are in groups
 abbrev pub invariant-loop-number : goal.invariant-loop-number

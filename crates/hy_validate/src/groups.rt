@@ -3,8 +3,8 @@
 ghost use Rattle.std.specs.Prelude.{◌≡◌, true, ◌+◌, ◌<◌, [], ◌∷◌, ◌++◌, IfOk, OnOk, IfSome, IfNone, All, Contains, length, slice_index_or};
 ghost use Rattle.std.specs.Option.{option_copied};
 ghost use Rattle.hy_bound.specs.Predicate.{truth_at};
-ghost use Rattle.hy_ptree.specs.Groups.{IsGrouped, IsFiled, IsOf};
-ghost use Rattle.hy_ptree.specs.Hits.{is_hit_by, is_hit_number, first_hit_of, is_asked, IsLeast, earlier_of};
+ghost use Rattle.hy_validate.specs.Groups.{IsGrouped, IsFiled, IsOf};
+ghost use Rattle.hy_validate.specs.TreeHits.{is_hit_by, is_hit_number, first_hit_of, is_asked, IsLeast, earlier_of};
 
 use crate::conditions::{first_condition, is_same};
 use hy_bound::{Pred, Record, hits, truth};

@@ -9,10 +9,10 @@ use Rattle.std.proofs.lemmas.List.Elements.{All-set, Contains-append_left, Conta
 use Rattle.std.proofs.Math.Seq.{get_or-append_seam}
 use Rattle.hy_bound.specs.declared.Record.{Record}
 use Rattle.hy_bound.specs.Condition.{Condition}
-use Rattle.hy_ptree.specs.declared.groups.Group.{Group}
-use Rattle.hy_ptree.specs.FirstConditions.{first_condition_of}
-use Rattle.hy_ptree.specs.Groups.{IsOf, IsFiled, IsGrouped}
-use Rattle.hy_ptree.proofs.Replaced.{all_and_last, pairs_with, any_and_last, any_with}
+use Rattle.hy_validate.specs.declared.groups.Group.{Group}
+use Rattle.hy_validate.specs.FirstConditions.{first_condition_of}
+use Rattle.hy_validate.specs.Groups.{IsOf, IsFiled, IsGrouped}
+use Rattle.hy_validate.proofs.Replaced.{all_and_last, pairs_with, any_and_last, any_with}
 
 -- numbers ascend when a higher one comes behind them
 ascends_further : (numbers : List ℕ) (n : ℕ) → All (λ k. k < n) numbers → IsStrictlyIncreasing numbers → IsStrictlyIncreasing (numbers ++ n ∷ [])

@@ -3,8 +3,8 @@ use Rattle.std.specs.Prelude.{◌≡◌, ℕ, ◌<◌, List, All, Any, AllPairs,
 use Rattle.std.specs.List.Sorted.{IsStrictlyIncreasing}
 use Rattle.hy_bound.specs.declared.Record.{Record}
 use Rattle.hy_bound.specs.Condition.{Condition}
-use Rattle.hy_ptree.specs.declared.groups.Group.{Group}
-use Rattle.hy_ptree.specs.FirstConditions.{first_condition_of}
+use Rattle.hy_validate.specs.declared.groups.Group.{Group}
+use Rattle.hy_validate.specs.FirstConditions.{first_condition_of}
 
 -- a group is of a table and a first condition
 abbrev pub IsOf : ℕ → Condition → Group → Type 0

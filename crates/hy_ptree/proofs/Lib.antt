@@ -1,5 +1,0 @@
-pub mod FirstOnes
-pub mod Least
-pub mod Earliness
-pub mod Replaced
-pub mod Filing

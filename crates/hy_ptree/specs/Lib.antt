@@ -1,3 +1,0 @@
-pub mod FirstConditions
-pub mod Groups
-pub mod Hits

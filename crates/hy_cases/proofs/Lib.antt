@@ -13,3 +13,14 @@ pub mod Writes
 pub mod Explored
 pub mod NeverSerial
 pub mod Never
+pub mod Unseen
+pub mod Shown
+pub mod Runs
+pub mod Visits
+pub mod Bags
+pub mod Columns
+pub mod Plans
+pub mod Groups
+pub mod Readings
+pub mod Positions
+pub mod Followed

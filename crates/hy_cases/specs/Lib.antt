@@ -4,3 +4,15 @@ pub mod Scripts
 pub mod Right
 pub mod Wrong
 pub mod Never
+pub mod Examples
+pub mod Unseen
+pub mod Shown
+pub mod Runs
+pub mod Visits
+pub mod Bags
+pub mod Columns
+pub mod Plans
+pub mod Groups
+pub mod Readings
+pub mod Positions
+pub mod Followed

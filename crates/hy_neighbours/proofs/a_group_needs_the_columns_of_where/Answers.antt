@@ -1,5 +1,0 @@
-use Rattle.hy_neighbours.proofs.Groups.{gathered_columns_fail}
-use Rattle.hy_neighbours.proofs.a_group_needs_the_columns_of_where.Goals as goal
-
-pub returns : goal.returns
-returns c = gathered_columns_fail

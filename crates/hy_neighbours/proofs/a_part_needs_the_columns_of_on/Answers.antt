@@ -1,5 +1,0 @@
-use Rattle.hy_neighbours.proofs.Plans.{shown_columns_fail}
-use Rattle.hy_neighbours.proofs.a_part_needs_the_columns_of_on.Goals as goal
-
-pub returns : goal.returns
-returns c = shown_columns_fail

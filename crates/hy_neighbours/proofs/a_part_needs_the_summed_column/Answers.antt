@@ -1,5 +1,0 @@
-use Rattle.hy_neighbours.proofs.Groups.{grouped_column_fails}
-use Rattle.hy_neighbours.proofs.a_part_needs_the_summed_column.Goals as goal
-
-pub returns : goal.returns
-returns c = grouped_column_fails

@@ -1,8 +1,0 @@
-use Rattle.hy_neighbours.proofs.Shown.{columns_fail, replies_fail}
-use Rattle.hy_neighbours.proofs.a_record_needs_the_columns_of_where.Goals as goal
-
-pub returns-clause-shown : goal.returns-clause-shown
-returns-clause-shown c = columns_fail
-
-pub returns-clause-replies : goal.returns-clause-replies
-returns-clause-replies c = replies_fail

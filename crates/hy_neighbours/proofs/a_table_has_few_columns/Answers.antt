@@ -1,5 +1,0 @@
-use Rattle.hy_neighbours.proofs.Unseen.{many_columns_fail}
-use Rattle.hy_neighbours.proofs.a_table_has_few_columns.Goals as goal
-
-pub returns : goal.returns
-returns c = many_columns_fail

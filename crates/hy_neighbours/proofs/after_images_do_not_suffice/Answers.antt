@@ -1,5 +1,0 @@
-use Rattle.hy_neighbours.proofs.Unseen.{after_images_fail}
-use Rattle.hy_neighbours.proofs.after_images_do_not_suffice.Goals as goal
-
-pub returns : goal.returns
-returns c = after_images_fail

@@ -1,5 +1,0 @@
-use Rattle.hy_neighbours.proofs.Columns.{all_but_one_fail}
-use Rattle.hy_neighbours.proofs.every_named_column_matters.Goals as goal
-
-pub returns : goal.returns
-returns c = all_but_one_fail

@@ -1,5 +1,0 @@
-use Rattle.hy_neighbours.proofs.Readings.{any_keys_fail}
-use Rattle.hy_neighbours.proofs.keys_are_columns.Goals as goal
-
-pub returns : goal.returns
-returns c = any_keys_fail

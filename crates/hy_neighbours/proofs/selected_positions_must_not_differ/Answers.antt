@@ -1,5 +1,0 @@
-use Rattle.hy_neighbours.proofs.Positions.{selected_positions_fail}
-use Rattle.hy_neighbours.proofs.selected_positions_must_not_differ.Goals as goal
-
-pub returns : goal.returns
-returns c = selected_positions_fail

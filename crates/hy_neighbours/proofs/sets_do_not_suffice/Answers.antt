@@ -1,5 +1,0 @@
-use Rattle.hy_neighbours.proofs.Bags.{sets_fail}
-use Rattle.hy_neighbours.proofs.sets_do_not_suffice.Goals as goal
-
-pub returns : goal.returns
-returns c = sets_fail

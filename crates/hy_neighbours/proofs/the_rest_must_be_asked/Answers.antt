@@ -1,5 +1,0 @@
-use Rattle.hy_neighbours.proofs.Plans.{restrictions_fail}
-use Rattle.hy_neighbours.proofs.the_rest_must_be_asked.Goals as goal
-
-pub returns : goal.returns
-returns c = restrictions_fail

@@ -2,7 +2,7 @@
 use Rattle.std.proofs.Common.{◌≡◌, ℕ, ◌<◌, Bool, true, false, List, [], ◌∷◌, ◌++◌, refl, ap, ◌∙◌, cond, arith}
 use Rattle.std.specs.Prelude.{◌==◌}
 use Rattle.std.proofs.lemmas.Bool.{eq-eqb}
-use Rattle.hy_active.specs.OpenStarts.{without}
+use Rattle.hy_prune.specs.OpenStarts.{without}
 use Rattle.hy_core.specs.Sound.{AreGiven}
 
 pub given_without : (next start : ℕ) (starts : List ℕ) → AreGiven next starts → AreGiven next (without start starts)

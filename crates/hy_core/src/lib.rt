@@ -6,10 +6,9 @@
 ghost use Rattle.std.specs.Prelude.{◌≡◌, ◌^◌, ◌+◌, ◌++◌, ◌∷◌, ◌<◌, ◌≤◌, [], None, Contains, IfOk, OnOk, OnErr, length, drop};
 ghost use Rattle.hy_journal.specs.Core.{blocked_by, core_begun, core_entered, core_left, core_closed};
 
-use hy_active::Active;
 use hy_journal::{Entry, Journal};
 use hy_notes::Changes;
-use hy_prune::Cover;
+use hy_prune::{Active, Cover};
 use hy_stamp::{Clock, Label};
 use std::alloc::{AllocError, Global};
 use std::marker::Model;

@@ -2,11 +2,10 @@
 
 ghost use Rattle.std.specs.Prelude.{◌≡◌, ◌<◌, length};
 
-use hy_active::Active;
 use hy_chain::Chains;
 use hy_given::pair;
 use hy_journal::{Entry, Journal};
-use hy_prune::{Cover, Fate, Starts, plan, watermark};
+use hy_prune::{Active, Cover, Fate, Starts, plan, watermark};
 use hy_range::Versioned;
 use hy_stamp::{Label, Stamp, Viewer};
 use hy_undo::{Delta, Version};

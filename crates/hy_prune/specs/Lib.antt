@@ -1,3 +1,4 @@
 pub mod Fates
 pub mod Groups
 pub mod Cases
+pub mod OpenStarts

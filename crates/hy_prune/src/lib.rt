@@ -9,8 +9,10 @@
 ghost use Rattle.std.specs.Prelude.{◌≡◌, ℕ, length};
 ghost use Rattle.hy_prune.specs.Fates.{group, fate_of, fates_of, watermark_of};
 
+mod active;
 mod starts;
 
+pub use active::Active;
 pub use starts::Starts;
 
 /// The starts that were open when a transaction had begun, its own among them, and the time that the

@@ -11,7 +11,7 @@ use Rattle.hy_bound.specs.declared.Bound.{Bound}
 use Rattle.hy_bound.specs.declared.Bound.TheVariants.{Select, Group, Insert, Update, Delete}
 use Rattle.hy_prune.specs.declared.Cover.{Cover}
 use Rattle.hy_prune.specs.Fates.{watermark_of}
-use Rattle.hy_active.specs.OpenStarts.{Rise}
+use Rattle.hy_prune.specs.OpenStarts.{Rise}
 use Rattle.hy_plan.specs.declared.PlanPart.{PlanPart}
 use Rattle.hy_journal.specs.declared.CoreData.{CoreData}
 use Rattle.hy_journal.specs.declared.Entry.{Entry}

@@ -7,7 +7,7 @@ use Rattle.std.proofs.lemmas.Bool.{cases_eq, ne_eqb}
 use Rattle.std.proofs.lemmas.Option.{slice_get_within}
 use Rattle.hy_journal.specs.declared.CoreData.{CoreData}
 use Rattle.hy_stamp.specs.declared.Label.{Label}
-use Rattle.hy_active.specs.OpenStarts.{without}
+use Rattle.hy_prune.specs.OpenStarts.{without}
 use Rattle.hy_journal.specs.Core.{core_closed, core_left}
 use Rattle.hy_event.specs.declared.SessionData.{SessionData}
 use Rattle.hy_event.specs.declared.Open.{Open}

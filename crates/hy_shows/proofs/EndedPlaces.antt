@@ -33,7 +33,7 @@ use Rattle.hy_shows.specs.Places.{IsNewcomer, PlaceShows, is_used}
 use Rattle.hy_shows.specs.Rivals.{ShownAt}
 use Rattle.hy_shows.proofs.Stamps.{first_newest, empty_or, here_or, nothing, apart_all}
 use Rattle.hy_shows.proofs.Holders.{is_there}
-use Rattle.hy_active.specs.OpenStarts.{without}
+use Rattle.hy_prune.specs.OpenStarts.{without}
 use Rattle.hy_shows.proofs.UnwrittenPlaces.{StoodSo, shows_still}
 use Rattle.hy_shows.proofs.FramesLists.{any_set}
 use Rattle.hy_shows.proofs.EndedOpens.{ended, sessions_ended, of_open_ended, still_open}

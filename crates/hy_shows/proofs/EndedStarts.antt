@@ -3,7 +3,7 @@ use Rattle.std.proofs.Common.{◌≡◌, ℕ, ◌<◌, List, [], ◌∷◌, Cont
 use Rattle.std.specs.Prelude.{◌==◌}
 use Rattle.std.specs.List.{AllByRecursion}
 use Rattle.std.proofs.lemmas.Bool.{eqb-true, eqb-false}
-use Rattle.hy_active.specs.OpenStarts.{Rise, without}
+use Rattle.hy_prune.specs.OpenStarts.{Rise, without}
 use Rattle.hy_shows.proofs.Stamps.{behind, first_of, here_or, nothing}
 
 below_without : (first start : ℕ) (starts : List ℕ) → AllByRecursion (λ later. first < later) starts

@@ -1,7 +1,7 @@
 -- What the core shows: the entries of its journal, its times, its mark.
 use Rattle.std.specs.Prelude.{◌≡◌, ℕ, ◌+◌, ◌-◌, ◌<◌, List, Option, None, Some, Contains, slice_get, length}
 use Rattle.std.specs.Option.{option_map}
-use Rattle.hy_active.specs.OpenStarts.{Rise}
+use Rattle.hy_prune.specs.OpenStarts.{Rise}
 use Rattle.hy_stamp.specs.declared.Label.{Label}
 use Rattle.hy_notes.specs.Notes.{Cell, Ascends, note_at}
 use Rattle.hy_journal.specs.declared.CoreData.{CoreData}

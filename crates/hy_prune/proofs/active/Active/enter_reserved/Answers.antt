@@ -1,8 +1,8 @@
 use Rattle.std.proofs.Common.{sym, subst}
 use Rattle.std.specs.Prelude.{All, ◌<◌, is_ok}
-use Rattle.hy_active.specs.OpenStarts.{OpenStarts, Rise}
-use Rattle.hy_active.proofs.Leaving.{rise_either}
-use Rattle.hy_active.proofs.Active.enter_reserved.Goals as goal
+use Rattle.hy_prune.specs.OpenStarts.{OpenStarts, Rise}
+use Rattle.hy_prune.proofs.Leaving.{rise_either}
+use Rattle.hy_prune.proofs.active.Active.enter_reserved.Goals as goal
 
 pub invariant_of-self : goal.invariant_of-self
 invariant_of-self c =

@@ -4,7 +4,7 @@ use Rattle.std.specs.Prelude.{◌==◌, position, not, All, Contains, if◌then�
 use Rattle.std.specs.List.{AllByRecursion, remove, position_or_len}
 use Rattle.std.proofs.lemmas.Bool.{eq-eqb, lt-ltb}
 use Rattle.std.proofs.lemmas.List.Quantifiers.{position-Some}
-use Rattle.hy_active.specs.OpenStarts.{Rise, without}
+use Rattle.hy_prune.specs.OpenStarts.{Rise, without}
 
 first_out : (start : ℕ) (starts : List ℕ) (i : ℕ) → i < length starts → (get_or starts i start == start) ≡ true
     → ((k : ℕ) → k < i → (get_or starts k start == start) ≡ false) → take i starts ++ drop (suc i) starts ≡ without start starts

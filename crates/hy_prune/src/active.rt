@@ -1,9 +1,8 @@
 //! The start times of the open transactions.
-#![tactic(auto)]
 
 ghost use Rattle.std.specs.Prelude.{◌≡◌, ◌+◌, ◌<◌, ◌≤◌, ◌==◌, [], ◌∷◌, ◌++◌, All, Contains, IfOk, OnOk, OnErr, position};
 
-use hy_prune::{Cover, Starts};
+use crate::{Cover, Starts};
 use std::alloc::{AllocError, Global};
 use std::marker::Model;
 
@@ -23,7 +22,7 @@ pub struct Active {
 
 impl Model for Active {
     ghost use Rattle.std.specs.Prelude.{◌-◌, vec_len, vec_capacity};
-    ghost use Rattle.hy_active.specs.OpenStarts.{OpenStarts, open_starts_code, Rise};
+    ghost use Rattle.hy_prune.specs.OpenStarts.{OpenStarts, open_starts_code, Rise};
 
     ghost Value = { OpenStarts };
 
@@ -35,7 +34,7 @@ impl Model for Active {
 }
 
 impl Active {
-    ghost use Rattle.hy_active.specs.OpenStarts.{Rise, without};
+    ghost use Rattle.hy_prune.specs.OpenStarts.{Rise, without};
 
     /// No open transactions. It takes no memory.
     pub fn new(alloc: Global) -> Active

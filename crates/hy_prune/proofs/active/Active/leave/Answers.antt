@@ -1,8 +1,8 @@
 use Rattle.std.proofs.Common.{ap, sym, subst, ◌∙◌}
 use Rattle.std.specs.Prelude.{position, ◌==◌, Contains}
-use Rattle.hy_active.specs.OpenStarts.{OpenStarts, Rise, without}
-use Rattle.hy_active.proofs.Leaving.{removed, rise_without, has_place}
-use Rattle.hy_active.proofs.Active.leave.Goals as goal
+use Rattle.hy_prune.specs.OpenStarts.{OpenStarts, Rise, without}
+use Rattle.hy_prune.proofs.Leaving.{removed, rise_without, has_place}
+use Rattle.hy_prune.proofs.active.Active.leave.Goals as goal
 
 pub invariant_of-self : goal.invariant_of-self
 invariant_of-self c =

@@ -13,3 +13,4 @@ pub mod Changes
 pub mod Fits
 pub mod Truths
 pub mod Masks
+pub mod Schedules

@@ -11,6 +11,7 @@ mod laws;
 mod predicate;
 mod projection;
 mod records;
+mod schedule;
 
 pub use conjuncts::conditions;
 pub use expression::{ExprRoot, SetExpr, set_row, value};
@@ -19,6 +20,7 @@ pub use laws::{only_named_columns_matter, projections_are_spread};
 pub use predicate::{Pred, Root, Side, SideView, cell, column_value, compare, is_null, truth};
 pub use projection::{mask_row, project_row};
 pub use records::hits;
+pub use schedule::{Item, Schedule};
 use std::alloc::{AllocError, Global};
 
 /// Column or table numbers.

@@ -1,7 +1,7 @@
 -- That the machine gives the right outcomes, each by its schedule.
 use Rattle.std.proofs.Common.{◌≡◌, refl}
 use Rattle.std.specs.Prelude.{List, [], ◌∷◌}
-use Rattle.hy_schedule.specs.declared.Item.{Item}
+use Rattle.hy_bound.specs.declared.schedule.Item.{Item}
 use Rattle.hy_machine.specs.Runs.{run_of}
 use Rattle.hy_machine.specs.Outcomes.{outcome_of}
 use Rattle.hy_cases.proofs.Computed.{computed}

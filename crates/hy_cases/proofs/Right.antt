@@ -1,7 +1,7 @@
 -- That the right outcomes are lawful and serializable: the machine gives them, and gives no others.
 use Rattle.std.proofs.Common.{refl, sym, subst, ◌<◌, arith}
 use Rattle.std.specs.Prelude.{List, IsTrue}
-use Rattle.hy_schedule.specs.declared.Item.{Item}
+use Rattle.hy_bound.specs.declared.schedule.Item.{Item}
 use Rattle.hy_machine.specs.declared.Setting.{Setting}
 use Rattle.hy_machine.specs.Runs.{run_of}
 use Rattle.hy_machine.specs.Outcomes.{outcome_of}

@@ -8,7 +8,7 @@ use Rattle.hy_value.specs.declared.Value.{Value}
 use Rattle.hy_bound.specs.declared.Txn.{Txn}
 use Rattle.hy_script.specs.declared.NamedTxns.{NamedTxns}
 use Rattle.hy_schema.specs.declared.TableDef.{TableDef}
-use Rattle.hy_schedule.specs.declared.Item.{Item}
+use Rattle.hy_bound.specs.declared.schedule.Item.{Item}
 use Rattle.hy_gen.specs.Draws.{next_state}
 use Rattle.hy_gen.specs.Transactions.{audit, transfer, transfer_from, is_audit, txn_from, state_after_txn, txns_from, state_after_txns}
 use Rattle.hy_gen.specs.Accounts.{account_table, first_row, first_rows}

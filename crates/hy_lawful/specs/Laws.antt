@@ -3,7 +3,7 @@ use Rattle.std.specs.Prelude.{◌≡◌, List, ◌*◌, ◌<◌, true}
 use Rattle.hy_bound.specs.Fits.{Fits}
 use Rattle.hy_machine.specs.declared.Setting.{Setting}
 use Rattle.hy_machine.specs.States.{State}
-use Rattle.hy_schedule.specs.declared.Item.{Item}
+use Rattle.hy_bound.specs.declared.schedule.Item.{Item}
 use Rattle.hy_machine.specs.Runs.{IsReached, all_ended_from, run_of}
 use Rattle.hy_machine.specs.Outcomes.{outcome_of}
 use Rattle.hy_lawful.specs.Serial.{IsSerial}

@@ -4,7 +4,7 @@
 ghost use Rattle.std.specs.Prelude.{◌≡◌, List, true};
 ghost use Rattle.hy_machine.specs.declared.Setting.{Setting};
 ghost use Rattle.hy_machine.specs.States.{State};
-ghost use Rattle.hy_schedule.specs.declared.Item.{Item};
+ghost use Rattle.hy_bound.specs.declared.schedule.Item.{Item};
 ghost use Rattle.hy_machine.specs.Runs.{all_ended_from, run_of, IsReached};
 ghost use Rattle.hy_machine.specs.Outcomes.{outcome_of};
 ghost use Rattle.hy_lawful.specs.Laws.{SerialEnds, SerialRuns};

@@ -1,7 +1,7 @@
 -- Runs are lists of steps.
 use Rattle.std.proofs.Common.{◌≡◌, ℕ, List, [], ◌∷◌, ◌++◌, refl, ap, sym, ◌∙◌, zero, suc, inl, inr, length}
 use Rattle.std.proofs.lemmas.Bool.{cases_Bool}
-use Rattle.hy_schedule.specs.declared.Item.{Item}
+use Rattle.hy_bound.specs.declared.schedule.Item.{Item}
 use Rattle.hy_machine.specs.declared.Setting.{Setting}
 use Rattle.hy_machine.specs.States.{State}
 use Rattle.hy_machine.specs.Steps.{step_of}

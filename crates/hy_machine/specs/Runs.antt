@@ -1,6 +1,6 @@
 -- Runs: lists of steps, the items of a schedule, and the rounds after it.
 use Rattle.std.specs.Prelude.{◌≡◌, ℕ, zero, suc, ◌<◌, List, [], ◌∷◌, length, None, Bool, true, false, ◌&&◌, if◌then◌else◌, map}
-use Rattle.hy_schedule.specs.declared.Item.{Item}
+use Rattle.hy_bound.specs.declared.schedule.Item.{Item}
 use Rattle.hy_machine.specs.declared.Setting.{Setting}
 use Rattle.hy_machine.specs.States.{State, Session}
 use Rattle.hy_machine.specs.declared.Stepped.{Stepped}

@@ -19,11 +19,11 @@ use Rattle.hy_ast.specs.Trees as tree
 use Rattle.hy_parse.specs.Grammar.{IsGrouped, HasItem}
 use Rattle.hy_parse.specs.Parsing.{parsed, Parses}
 use Rattle.hy_bound.specs.declared.Shape.{Shape}
-use Rattle.hy_schedule.specs.declared.Item.{Item}
+use Rattle.hy_bound.specs.declared.schedule.Item.{Item}
 use Rattle.hy_bound.specs.Agreement.{HasItsKey}
 use Rattle.hy_bound.specs.Records.{no_shape, shape_of}
 use Rattle.hy_bound.specs.Fits.{FitsShape, FitsRows, FitsInsert, FitsStatement, FitsSession, Fits}
-use Rattle.hy_schedule.specs.Fitting.{FitsSchedule}
+use Rattle.hy_bound.specs.Schedules.{FitsSchedule}
 use Rattle.hy_bind.specs.Literals.{text_of_span, literal_value}
 use Rattle.hy_bind.specs.Shapes.{defined_shape, catalog_shapes}
 use Rattle.hy_bind.specs.Statements.{NamesTables, and_number, numbers_or_none, in_scope, fault_of_numbered, bound_in, bind_fault, bound_of}

@@ -10,8 +10,8 @@ use Rattle.std.specs.Str.{bytes_eq}
 use Rattle.hy_schema.specs.Names.{number_of}
 use Rattle.hy_ast.specs.declared.Turn.{Turn}
 use Rattle.hy_bind.specs.Literals.{text_of_span}
-use Rattle.hy_schedule.specs.declared.Item.{Item}
-use Rattle.hy_schedule.specs.Fitting.{FitsSchedule}
+use Rattle.hy_bound.specs.declared.schedule.Item.{Item}
+use Rattle.hy_bound.specs.Schedules.{FitsSchedule}
 use Rattle.hy_script.specs.Growing.{item_at}
 use Rattle.hy_script.specs.Refusals.{is_unknown_in, any_unknown_in}
 use Rattle.hy_limits.specs.declared.TheConstants.{MOST_ITEMS}

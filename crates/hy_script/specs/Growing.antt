@@ -5,7 +5,7 @@ use Rattle.std.specs.Option.{option_map_or}
 use Rattle.hy_schema.specs.declared.Column.{Column}
 use Rattle.hy_schema.specs.declared.TableDef.{TableDef}
 use Rattle.hy_schema.specs.Names.{number_of, table_number}
-use Rattle.hy_schedule.specs.declared.Item.{Item}
+use Rattle.hy_bound.specs.declared.schedule.Item.{Item}
 use Rattle.hy_ast.specs.declared.ColumnDef.{ColumnDef}
 use Rattle.hy_ast.specs.declared.Turn.{Turn}
 use Rattle.hy_ast.specs.declared.Literal.{Literal}

@@ -2,7 +2,7 @@
 
 ghost use Rattle.std.specs.Prelude.{◌≡◌, ℕ, ◌*◌, List, Ok, length, map};
 ghost use Rattle.hy_bound.specs.Fits.{Fits};
-ghost use Rattle.hy_schedule.specs.Fitting.{FitsSchedule};
+ghost use Rattle.hy_bound.specs.Schedules.{FitsSchedule};
 ghost use Rattle.hy_bind.specs.Shapes.{catalog_shapes};
 ghost use Rattle.hy_script.specs.declared.Options.{Options};
 ghost use Rattle.hy_script.specs.declared.Script.{Script};

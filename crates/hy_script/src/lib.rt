@@ -9,9 +9,8 @@ ghost use Rattle.hy_script.specs.declared.Script.{Script};
 ghost use Rattle.hy_script.specs.declared.Refused.{Refused};
 ghost use Rattle.hy_script.specs.Reading.{Reads, Answers, Says, error_of_halt};
 
-use hy_bound::{Rows, Txns};
+use hy_bound::{Rows, Schedule, Txns};
 use hy_limits::MOST_BYTES;
-use hy_schedule::Schedule;
 use hy_schema::Catalog;
 use hy_value::{Seq, Text};
 use std::alloc::{AllocError, Global};

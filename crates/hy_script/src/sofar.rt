@@ -10,8 +10,7 @@ mod tables;
 
 use crate::stocks::Stock;
 use crate::{NamedTxns, Options, Script};
-use hy_bound::Statements;
-use hy_schedule::Schedule;
+use hy_bound::{Schedule, Statements};
 use hy_schema::{Catalog, Names};
 use hy_value::Seq;
 use rows::rows_of;

@@ -15,7 +15,7 @@ use Rattle.hy_disk.specs.Bytes.{IsOwn}
 use Rattle.hy_disk.specs.Calls.{Syncs}
 use Rattle.hy_redo.specs.Crashes.{AreLogsOf, IsBegun, IsBegunAtMost}
 use Rattle.hy_stepping.specs.Texts.{CanBeLogged}
-use Rattle.hy_schedule.specs.declared.Item.{Item}
+use Rattle.hy_bound.specs.declared.schedule.Item.{Item}
 use Rattle.hy_value.specs.declared.Kind.{Kind}
 use Rattle.hy_words.specs.declared.Command.{Command}
 use Rattle.hy_world.specs.Logged.{RecoversAfter, IsDurable, HasLogged, LogsRun}

@@ -14,7 +14,7 @@ use Rattle.hy_script.specs.declared.Options.{Options}
 use Rattle.hy_script.specs.declared.Script.{Script}
 use Rattle.hy_top.specs.Naming.{IsWord, IsNamed}
 use Rattle.hy_script.specs.Reading.{Reads}
-use Rattle.hy_schedule.specs.declared.Item.{Item}
+use Rattle.hy_bound.specs.declared.schedule.Item.{Item}
 use Rattle.hy_render.specs.declared.Outcome.{Outcome}
 use Rattle.hy_render.specs.Named.{Differ, IsTableName, IsSessionName, AreTelling}
 use Rattle.hy_render.specs.Telling.{TextTells}

@@ -6,10 +6,9 @@ ghost use Rattle.hy_top.specs.Settings.{setting_at};
 ghost use Rattle.hy_top.specs.Typing.{catalog_kinds};
 ghost use Rattle.hy_top.specs.Program.{names_at};
 
-use hy_bound::{Shape, Shapes, Statements, Txn, Txns};
+use hy_bound::{Schedule, Shape, Shapes, Statements, Txn, Txns};
 use hy_machine::Setting;
 use hy_render::{Names, Texts};
-use hy_schedule::Schedule;
 use hy_schema::{Column, TableDef};
 use hy_script::{NamedTxns, Script};
 use hy_value::Seq;

@@ -20,10 +20,10 @@ mod threads;
 mod visiting;
 mod world;
 
+use hy_bound::Item;
 use hy_disk::NoDisk;
 use hy_machine::Setting;
 use hy_render::Outcome;
-use hy_schedule::Item;
 use hy_value::{Kind, Seq};
 use std::alloc::{AllocError, Global};
 pub use threads::run_threads;

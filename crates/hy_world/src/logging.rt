@@ -14,11 +14,11 @@ ghost use Rattle.hy_world.specs.Logged.{IsKept, IsKeptButTheLast, Logs, HasLogge
 ghost use Rattle.hy_world.specs.Worlds.{ShowsState};
 
 use crate::World;
+use hy_bound::Item;
 use hy_disk::Disk;
 use hy_journal::Entry;
 use hy_redo::{AppendError, Log, append};
 use hy_render::Outcome;
-use hy_schedule::Item;
 use std::alloc::Global;
 
 /// Appends an entry, where there is one and a log is kept.

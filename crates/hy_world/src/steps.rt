@@ -11,11 +11,11 @@ ghost use Rattle.hy_world.specs.Logged.{IsKept, IsKeptButTheLast, Logs, Approach
 
 use crate::World;
 use crate::logging::keep;
+use hy_bound::Item;
 use hy_disk::Disk;
 use hy_event::Need;
 use hy_machine::Stepped;
 use hy_redo::{AppendError, Log};
-use hy_schedule::Item;
 use std::alloc::Global;
 
 /// Whether a session went on without an answer.

@@ -1,5 +1,5 @@
 use Rattle.std.proofs.Common.{◌∙◌, false}
-use Rattle.hy_schedule.specs.declared.Item.{Item}
+use Rattle.hy_bound.specs.declared.schedule.Item.{Item}
 use Rattle.hy_world.proofs.Ahead.{if_err}
 use Rattle.hy_world.proofs.Loops.{items_go_on, items_break_off}
 use Rattle.hy_world.proofs.Logs.{logs_then, ok_is_no_error}

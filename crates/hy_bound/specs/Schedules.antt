@@ -2,7 +2,7 @@
 use Rattle.std.specs.Prelude.{ℕ, ◌<◌, ◌≤◌, List, length}
 use Rattle.std.specs.List.{All}
 use Rattle.hy_limits.specs.declared.TheConstants.{MOST_ITEMS}
-use Rattle.hy_schedule.specs.declared.Item.{Item}
+use Rattle.hy_bound.specs.declared.schedule.Item.{Item}
 
 -- a schedule has at most so many items, each of one of these many sessions
 pub record FitsSchedule (sessions : ℕ) (schedule : List Item) : Type 0 where

@@ -1,5 +1,4 @@
 //! Schedules: whose turn it is.
-#![tactic(auto)]
 
 use hy_value::Seq;
 

@@ -5,7 +5,7 @@ use Rattle.std.specs.Prelude.{filter, IfOk, IsErrOf}
 use Rattle.std.specs.List.{flat_map, AllByRecursion}
 use Rattle.std.proofs.lemmas.Bool.{eqb-true}
 use Rattle.std.proofs.lemmas.List.{append-nil, nil_from_length}
-use Rattle.hy_change.specs.declared.Change.{Change}
+use Rattle.hy_value.specs.declared.change.Change.{Change}
 use Rattle.hy_notes.specs.Notes.{is_change}
 use Rattle.hy_journal.specs.declared.Entry.{Entry}
 use Rattle.hy_body.specs.declared.HeldTable.{HeldTable}

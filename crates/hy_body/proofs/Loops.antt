@@ -4,7 +4,7 @@ use Rattle.std.proofs.Common.{drop, Option, Some, None, refl, sym, ap, ◌∙◌
 use Rattle.std.proofs.lemmas.List.{append-nil, drop_more, drop_all}
 use Rattle.hy_value.specs.declared.Kind.{Kind}
 use Rattle.hy_value.specs.declared.Value.{Value}
-use Rattle.hy_change.specs.declared.Change.{Change}
+use Rattle.hy_value.specs.declared.change.Change.{Change}
 use Rattle.hy_body.specs.declared.HeldTable.{HeldTable}
 use Rattle.hy_body.specs.declared.BodyError.{BodyError}
 use Rattle.hy_body.specs.declared.BodyError.TheVariants.{Malformed, OutOfMemory}

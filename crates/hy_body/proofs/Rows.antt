@@ -11,7 +11,7 @@ use Rattle.hy_value.specs.declared.Kind.{Kind}
 use Rattle.hy_value.specs.declared.Kind.TheVariants as kind
 use Rattle.hy_value.specs.declared.Value.{Value}
 use Rattle.hy_value.specs.declared.Value.TheVariants.{Null, Int, Text}
-use Rattle.hy_change.specs.declared.Change.{Change}
+use Rattle.hy_value.specs.declared.change.Change.{Change}
 use Rattle.hy_notes.specs.Notes.{Cell, is_change}
 use Rattle.hy_body.specs.declared.HeldTable.{HeldTable}
 use Rattle.hy_body.specs.Bytes.{be32, be64, value_bytes, row_bytes, change_bytes, HasValueBytes, HasRowBytes, HasChangeBytes}

@@ -7,7 +7,7 @@ use Rattle.hy_value.specs.declared.Kind.{Kind}
 use Rattle.hy_value.specs.declared.Kind.TheVariants as kind
 use Rattle.hy_value.specs.declared.Value.{Value}
 use Rattle.hy_value.specs.declared.Value.TheVariants as value
-use Rattle.hy_change.specs.declared.Change.{Change}
+use Rattle.hy_value.specs.declared.change.Change.{Change}
 use Rattle.hy_notes.specs.Notes.{Cell}
 use Rattle.hy_journal.specs.declared.Entry.{Entry}
 use Rattle.hy_body.specs.declared.HeldTable.{HeldTable}

@@ -6,7 +6,7 @@ use Rattle.std.specs.Int.RustNames.{FitsSigned}
 use Rattle.hy_value.specs.declared.Value.{Value}
 use Rattle.hy_value.specs.declared.Value.TheVariants.{Null, Int, Text}
 use Rattle.hy_value.specs.TextBytes.{IsText}
-use Rattle.hy_change.specs.declared.Change.{Change}
+use Rattle.hy_value.specs.declared.change.Change.{Change}
 use Rattle.hy_notes.specs.Notes.{Cell, is_change}
 use Rattle.hy_journal.specs.declared.Entry.{Entry}
 

@@ -10,10 +10,9 @@ ghost use Rattle.hy_body.specs.Reading.{Gives, u32_at, u64_at, text_at, number_v
 ghost use Rattle.hy_body.specs.Reading.{value_at, values_at, row_at, change_at, changes_at, entry_at, record_at};
 
 use crate::{BodyError, HeldTable};
-use hy_change::{Change, Changes};
 use hy_journal::Entry;
 use hy_stamp::Label;
-use hy_value::{Kind, Row, Seq, Text, Value};
+use hy_value::{Change, Changes, Kind, Row, Seq, Text, Value};
 use std::alloc::Global;
 
 fn read_u32(bytes: &[u8]) -> Result<(u32, &[u8]), BodyError>

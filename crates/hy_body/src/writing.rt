@@ -6,9 +6,8 @@ ghost use Rattle.hy_notes.specs.Notes.{is_change};
 ghost use Rattle.hy_body.specs.Bytes.{be32, be64, value_bytes, row_bytes, change_bytes, changes_bytes, body_of, record_of};
 ghost use Rattle.hy_body.specs.Bytes.{HasValueBytes, HasRowBytes, HasChangeBytes, HasBytes};
 
-use hy_change::Change;
 use hy_journal::Entry;
-use hy_value::{Row, Value};
+use hy_value::{Change, Row, Value};
 use std::alloc::{AllocError, Global};
 
 #[tactic(auto, unfolding(crate::specs::Bytes::be32))]

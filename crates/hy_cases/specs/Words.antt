@@ -17,7 +17,7 @@ use Rattle.hy_bound.specs.Condition.{Condition, True, Compare}
 use Rattle.hy_bound.specs.Expression.{Literal, Column, Add}
 use Rattle.hy_stamp.specs.declared.Label.{Label}
 use Rattle.hy_bound.specs.declared.schedule.Item.{Item}
-use Rattle.hy_change.specs.declared.Change.{Change}
+use Rattle.hy_value.specs.declared.change.Change.{Change}
 use Rattle.hy_render.specs.declared.Committed.{Committed as Entry}
 use Rattle.hy_render.specs.declared.Ending.{Ending}
 use Rattle.hy_render.specs.declared.Place.{Place}

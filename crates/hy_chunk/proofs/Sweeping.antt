@@ -11,7 +11,7 @@ use Rattle.hy_stamp.specs.declared.Viewer.{Viewer}
 use Rattle.hy_bound.specs.Condition.{Condition}
 use Rattle.hy_bound.specs.declared.Assign.{Assign}
 use Rattle.hy_bound.specs.Predicate.{truth_at, truth_of}
-use Rattle.hy_change.specs.declared.Change.{Change}
+use Rattle.hy_value.specs.declared.change.Change.{Change}
 use Rattle.hy_chain.specs.Chains.{Undo, rival, seen, stops}
 use Rattle.hy_undo.specs.declared.refusal.Refusal.{Refusal}
 use Rattle.hy_undo.specs.declared.version.Version.{Version}

@@ -10,7 +10,7 @@ use Rattle.hy_bound.specs.declared.Range.{Range}
 use Rattle.hy_bound.specs.declared.WriteKind.{WriteKind}
 use Rattle.hy_bound.specs.declared.WriteKind.TheVariants.{Set, Delete}
 use Rattle.hy_bound.specs.Assignment.{value_of}
-use Rattle.hy_change.specs.declared.Change.{Change}
+use Rattle.hy_value.specs.declared.change.Change.{Change}
 use Rattle.hy_column.specs.Cells.{FitsKind}
 use Rattle.hy_notes.specs.Notes.{with_note}
 use Rattle.hy_undo.specs.declared.refusal.Refusal.{Refusal}

@@ -12,7 +12,7 @@ use Rattle.hy_prune.specs.declared.Cover.{Cover}
 use Rattle.hy_bound.specs.Condition.{Condition}
 use Rattle.hy_bound.specs.Predicate.{truth_of}
 use Rattle.hy_bound.specs.declared.Assign.{Assign}
-use Rattle.hy_change.specs.declared.Change.{Change}
+use Rattle.hy_value.specs.declared.change.Change.{Change}
 use Rattle.hy_chain.specs.Chains.{Undo, Falls, newest, rival}
 use Rattle.hy_chain.specs.Pruning.{pruned, stamps_of, KeepsStamps, Shrinks}
 use Rattle.hy_undo.specs.declared.refusal.Refusal.{Refusal}

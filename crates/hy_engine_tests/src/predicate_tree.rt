@@ -1,12 +1,11 @@
 //! The predicate tree, and validation by it. Column 0 is `id` and column 1 is `bal`.
 
 use hy_bound::{Pred, Record};
-use hy_change::Change;
 use hy_given::{compare, pair};
 use hy_journal::Entry;
 use hy_stamp::Label;
 use hy_validate::{Invalid, Tree, ValidateError, validate};
-use hy_value::{Cmp, ColMask, Row, Seq};
+use hy_value::{Change, Cmp, ColMask, Row, Seq};
 use std::test::Fail;
 
 /// A record of table 0 by the first statement.

@@ -1,6 +1,6 @@
 -- How a visit changes a chunk: its positions alone, first of all by pruning.
 use Rattle.std.specs.Prelude.{◌≡◌, ℕ, suc, List, [], ◌∷◌, ◌++◌, true, false, Option, None, Some, slice_get, slice_set}
-use Rattle.hy_change.specs.declared.Change.{Change}
+use Rattle.hy_value.specs.declared.change.Change.{Change}
 use Rattle.hy_prune.specs.declared.Cover.{Cover}
 use Rattle.hy_stamp.specs.declared.Viewer.{Viewer}
 use Rattle.hy_undo.specs.Places.{Place, Cell, sees}

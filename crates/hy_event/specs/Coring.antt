@@ -3,7 +3,7 @@ use Rattle.std.specs.Prelude.{◌≡◌, ℕ, suc, ◌-◌, List, [], ◌∷◌,
 use Rattle.hy_bound.specs.declared.Bound.{Bound}
 use Rattle.hy_bound.specs.declared.Record.{Record}
 use Rattle.hy_bound.specs.declared.Txn.{Txn}
-use Rattle.hy_change.specs.declared.Change.{Change}
+use Rattle.hy_value.specs.declared.change.Change.{Change}
 use Rattle.hy_journal.specs.declared.CoreData.{CoreData}
 use Rattle.hy_journal.specs.Core.{blocked_by, core_begun, core_entered, core_left, core_closed}
 use Rattle.hy_render.specs.declared.Ending.{Ending}

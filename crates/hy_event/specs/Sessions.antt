@@ -3,7 +3,7 @@ use Rattle.std.specs.Prelude.{ℕ, suc, ◌+◌, ◌*◌, List, [], ◌∷◌, �
 use Rattle.std.specs.List.{list_any, range_with_len}
 use Rattle.hy_bound.specs.declared.Shape.{Shape}
 use Rattle.hy_bound.specs.declared.Txn.{Txn}
-use Rattle.hy_change.specs.declared.Change.{Change}
+use Rattle.hy_value.specs.declared.change.Change.{Change}
 use Rattle.hy_render.specs.declared.Place.{Place}
 use Rattle.hy_stamp.specs.declared.Label.{Label}
 use Rattle.hy_stamp.specs.declared.Viewer.{Viewer}

@@ -8,11 +8,10 @@
 mod rows;
 
 use hy_bound::{Records, Replies, Rows, Shapes, Txns};
-use hy_change::Changes;
 use hy_prune::Cover;
 use hy_render::{Ending, Places, TxnOutcome};
 use hy_stamp::Label;
-use hy_value::Seq;
+use hy_value::{Changes, Seq};
 pub use rows::{
     a_begin_waits, a_commit_enters_the_journal, a_commit_of_nothing_written_ends,
     a_count_gathers_and_answers, a_delete_takes_the_row_away, a_hit_refuses_a_commit,

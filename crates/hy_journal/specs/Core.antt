@@ -1,7 +1,7 @@
 -- The core: what a BEGIN, the entry of a commit and an end make of the data that all transactions share.
 use Rattle.std.specs.Prelude.{ℕ, suc, List, [], ◌∷◌, ◌++◌, ◌&&◌, ◌==◌, Option, None, Some, if◌then◌else◌}
 use Rattle.hy_prune.specs.OpenStarts.{without}
-use Rattle.hy_change.specs.declared.Change.{Change}
+use Rattle.hy_value.specs.declared.change.Change.{Change}
 use Rattle.hy_stamp.specs.declared.Label.{Label}
 use Rattle.hy_journal.specs.declared.CoreData.{CoreData}
 use Rattle.hy_journal.specs.declared.Entry.{Entry}

@@ -5,9 +5,8 @@
 
 ghost use Rattle.std.specs.Prelude.{◌≡◌, ◌+◌, ◌<◌, ◌≤◌, [], ◌∷◌, ◌++◌, ◌↔◌, IsTrue, OnOk, OnErr, length, drop};
 
-use hy_change::Changes;
 use hy_stamp::Label;
-use hy_value::Seq;
+use hy_value::{Changes, Seq};
 use std::alloc::{AllocError, Global};
 use std::marker::Model;
 

@@ -7,7 +7,7 @@ use Rattle.std.specs.Option.{option_or, option_map}
 use Rattle.std.proofs.lemmas.Bool.{cases_Bool, or_parts}
 use Rattle.std.proofs.lemmas.Option.{same_Some}
 use Rattle.hy_bound.specs.declared.Record.{Record}
-use Rattle.hy_change.specs.declared.Change.{Change}
+use Rattle.hy_value.specs.declared.change.Change.{Change}
 use Rattle.hy_stamp.specs.declared.Label.{Label}
 use Rattle.hy_machine.specs.States.{Cause}
 use Rattle.hy_machine.specs.Tables.{Entry, Pair, Cell}

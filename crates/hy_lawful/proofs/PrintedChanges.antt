@@ -7,7 +7,7 @@ use Rattle.std.specs.List.{AllByRecursion, list_any}
 use Rattle.std.proofs.lemmas.Bool.{and_left, and_right, and_from, or_left, or_right, eq-eqb, ne_eqb}
 use Rattle.std.proofs.lemmas.List.Folds.{list_any-append}
 use Rattle.std.proofs.lemmas.Option.{same_Some}
-use Rattle.hy_change.specs.declared.Change.{Change}
+use Rattle.hy_value.specs.declared.change.Change.{Change}
 use Rattle.hy_machine.specs.Tables.{Pair, Cell, covered}
 use Rattle.hy_machine.specs.Positions.{item_at, by_position, by_table, by_place}
 use Rattle.hy_machine.specs.Validation.{change_between, change_at}

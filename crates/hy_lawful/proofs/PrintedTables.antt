@@ -10,7 +10,7 @@ use Rattle.hy_value.specs.Sorted.{sorted}
 use Rattle.hy_bound.specs.declared.Shape.{Shape}
 use Rattle.hy_bound.specs.Changes.{present}
 use Rattle.hy_bound.specs.Fits.{FitsRows}
-use Rattle.hy_change.specs.declared.Change.{Change}
+use Rattle.hy_value.specs.declared.change.Change.{Change}
 use Rattle.hy_render.specs.declared.Committed.{Committed as Committing}
 use Rattle.hy_machine.specs.declared.Setting.{Setting}
 use Rattle.hy_machine.specs.Tables.{Entry, Pair, Cell, Tables, capacity, laid_out, opening_tables, history, after_entry}

@@ -4,7 +4,7 @@ use Rattle.std.specs.Prelude.{length, take, slice_index_or, slice_get, map, flat
 use Rattle.std.specs.List.{range_with_len}
 use Rattle.hy_value.specs.Sorted.{sorted}
 use Rattle.hy_bound.specs.Changes.{present}
-use Rattle.hy_change.specs.declared.Change.{Change}
+use Rattle.hy_value.specs.declared.change.Change.{Change}
 use Rattle.hy_render.specs.declared.Committed.{Committed as Entry}
 use Rattle.hy_meaning.specs.Statement.{Table, Database}
 use Rattle.hy_machine.specs.declared.Setting.{Setting}

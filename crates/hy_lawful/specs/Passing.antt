@@ -2,7 +2,7 @@
 use Rattle.std.specs.Prelude.{◌≡◌, ℕ, List, Bool, ◌&&◌, ◌==◌, IsTrue, IsFalse, None}
 use Rattle.std.specs.List.{AllByRecursion, list_any}
 use Rattle.hy_bound.specs.declared.Record.{Record}
-use Rattle.hy_change.specs.declared.Change.{Change}
+use Rattle.hy_value.specs.declared.change.Change.{Change}
 use Rattle.hy_render.specs.declared.Place.{Place}
 use Rattle.hy_render.specs.declared.Committed.{Committed as Entry}
 use Rattle.hy_machine.specs.Validation.{record_hit}

@@ -1,7 +1,7 @@
 -- Positions of a script's tables, in order.
 use Rattle.std.specs.Prelude.{◌==◌, ◌*◌, List, [], ◌∷◌, Bool, true, ◌&&◌, ◌||◌, nat_lt, IsTrue, length, map}
 use Rattle.std.specs.List.{list_all}
-use Rattle.hy_change.specs.declared.Change.{Change}
+use Rattle.hy_value.specs.declared.change.Change.{Change}
 use Rattle.hy_render.specs.declared.Place.{Place}
 use Rattle.hy_machine.specs.declared.Setting.{Setting}
 

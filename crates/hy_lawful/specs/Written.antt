@@ -9,7 +9,7 @@ use Rattle.hy_bound.specs.declared.Reply.{Reply}
 use Rattle.hy_bound.specs.declared.Reply.TheVariants as reply
 use Rattle.hy_bound.specs.Predicate.{truth_at}
 use Rattle.hy_bound.specs.Assignment.{assigned}
-use Rattle.hy_change.specs.declared.Change.{Change}
+use Rattle.hy_value.specs.declared.change.Change.{Change}
 use Rattle.hy_render.specs.declared.Ending.{Ending}
 use Rattle.hy_render.specs.declared.Ending.TheVariants.{Committed, Read, RolledBack, Conflict, Invalid, Range, Full}
 use Rattle.hy_render.specs.declared.Place.{Place}

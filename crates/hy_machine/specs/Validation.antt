@@ -3,7 +3,7 @@ use Rattle.std.specs.Prelude.{ℕ, List, [], ◌∷◌, ◌&&◌, ◌==◌, Opti
 use Rattle.std.specs.Option.{option_or, option_map}
 use Rattle.hy_bound.specs.declared.Record.{Record}
 use Rattle.hy_bound.specs.Records.{is_hit}
-use Rattle.hy_change.specs.declared.Change.{Change}
+use Rattle.hy_value.specs.declared.change.Change.{Change}
 use Rattle.hy_render.specs.declared.Committed.{Committed}
 use Rattle.hy_stamp.specs.declared.Label.{Label}
 use Rattle.hy_machine.specs.States.{Cause, Invalid}

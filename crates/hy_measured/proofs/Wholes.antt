@@ -11,7 +11,7 @@ use Rattle.hy_prune.specs.declared.Cover.{Cover}
 use Rattle.hy_bound.specs.Condition.{Condition}
 use Rattle.hy_bound.specs.declared.Assign.{Assign}
 use Rattle.hy_bound.specs.declared.WriteKind.{WriteKind}
-use Rattle.hy_change.specs.declared.Change.{Change}
+use Rattle.hy_value.specs.declared.change.Change.{Change}
 use Rattle.hy_chain.specs.Pruning.{KeepsStamps, Shrinks}
 use Rattle.hy_undo.specs.Images.{both}
 use Rattle.hy_undo.specs.Places.{Place}

@@ -1,9 +1,8 @@
 //! The predicate tree beside a plain list of records.
 
 use hy_bound::{Pred, Record, Side, hits};
-use hy_change::Change;
 use hy_validate::Tree;
-use hy_value::{Cmp, ColMask, Row, Seq, Value};
+use hy_value::{Change, Cmp, ColMask, Row, Seq, Value};
 use std::alloc::{AllocError, Global};
 
 /// How many records there are.

@@ -6,7 +6,7 @@ use Rattle.std.specs.Ordering.{ordering_reverse}
 use Rattle.std.specs.declared.cmp.Ordering.{Ordering}
 use Rattle.std.specs.declared.cmp.Ordering.TheVariants.{Less, Equal, Greater}
 use Rattle.std.proofs.lemmas.Bool.{cases_Bool}
-use Rattle.hy_change.specs.declared.Change.{Change}
+use Rattle.hy_value.specs.declared.change.Change.{Change}
 use Rattle.hy_notes.specs.Notes.{Cell, order_of, Ascends, with_after, with_note, note_at}
 use Rattle.hy_notes.specs.Telling.{before_or, NotesTell, TellingIsOne}
 use Rattle.hy_notes.proofs.Orders.{note_cmp, notes_total, same_place, at, at_place, apart_less}

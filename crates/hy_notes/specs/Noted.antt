@@ -1,8 +1,8 @@
 -- What contracts see of a transaction's notes.
 use Rattle.std.specs.Prelude.{ℕ, List, refl}
 use Rattle.std.specs.Coded.{Coded, code_by, coded×, coded_list, coded_ℕ}
-use Rattle.hy_change.specs.declared.Change.{Change}
-use Rattle.hy_change.specs.contracts.Change as change
+use Rattle.hy_value.specs.declared.change.Change.{Change}
+use Rattle.hy_value.specs.contracts.change.Change as change
 
 -- the notes, for how many more there is room, and for rows of how many values
 pub record Noted : Type 0 where

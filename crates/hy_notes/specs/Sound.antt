@@ -2,7 +2,7 @@
 use Rattle.std.specs.Prelude.{ℕ, List}
 use Rattle.std.specs.Global.{Vec}
 use Rattle.hy_value.specs.declared.Value.{Value}
-use Rattle.hy_change.specs.declared.Change.{Change}
+use Rattle.hy_value.specs.declared.change.Change.{Change}
 use Rattle.hy_notes.specs.Notes.{Ascends}
 use Rattle.hy_notes.specs.Spares.{AreSpare}
 

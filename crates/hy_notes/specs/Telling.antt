@@ -1,6 +1,6 @@
 -- What notes tell.
 use Rattle.std.specs.Prelude.{◌≡◌, ℕ, List, ◌&&◌, ◌==◌, Option, None, Some, if◌then◌else◌}
-use Rattle.hy_change.specs.declared.Change.{Change}
+use Rattle.hy_value.specs.declared.change.Change.{Change}
 use Rattle.hy_notes.specs.Notes.{Cell, Ascends, with_note, note_at}
 
 -- the row before that stands noted, or this one

@@ -4,15 +4,14 @@ ghost use Rattle.std.specs.Prelude.{◌≡◌, ◌⊎◌, ◌+◌, ◌<◌, ◌�
 ghost use Rattle.std.specs.Prelude.{false, length, map, slice_index_or, slice_set, vec_len, vec_capacity};
 ghost use Rattle.std.specs.List.{prefix_len, insert};
 ghost use Rattle.std.specs.Ordering.{is_eq};
-ghost use Rattle.hy_change.specs.declared.Change.{Change};
+ghost use Rattle.hy_value.specs.declared.change.Change.{Change};
 ghost use Rattle.std.specs.Option.{option_copied};
 ghost use Rattle.hy_notes.specs.Notes.{Ascends, order_of, below, with_after, with_note, place_of};
 ghost use Rattle.hy_notes.specs.Spares.{AreSpare, cell_width};
 
 use crate::NotedPlace;
 use crate::rows::kept;
-use hy_change::{Change, Changes as ChangeList};
-use hy_value::{Row, Seq, Value};
+use hy_value::{Change, Changes as ChangeList, Row, Seq, Value};
 use std::alloc::{AllocError, Global};
 use std::cmp::Ordering;
 use std::marker::Model;

@@ -11,8 +11,7 @@ mod changes;
 mod rows;
 
 pub use changes::Changes;
-use hy_change::{Change, Changes as ChangeList};
-use hy_value::Seq;
+use hy_value::{Change, Changes as ChangeList, Seq};
 
 /// A position of a table.
 #[derive(Clone, Copy, Debug, PartialEq, Eq)]

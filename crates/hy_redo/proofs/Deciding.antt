@@ -10,7 +10,7 @@ use Rattle.std.proofs.lemmas.Cmp.{tied_itself}
 use Rattle.hy_value.specs.declared.Value.{Value}
 use Rattle.hy_value.specs.Order.{row_cmp}
 use Rattle.hy_value.specs.TotalOrder.{rows_total, rows_tie}
-use Rattle.hy_change.specs.declared.Change.{Change}
+use Rattle.hy_value.specs.declared.change.Change.{Change}
 use Rattle.hy_notes.specs.Notes.{Cell}
 use Rattle.hy_journal.specs.declared.Entry.{Entry}
 use Rattle.hy_body.specs.declared.HeldTable.{HeldTable}

@@ -6,8 +6,7 @@ ghost use Rattle.hy_redo.specs.Tables.{is_past, rise_past, rise, with_table, wit
 ghost use Rattle.hy_redo.specs.Tests.{same_cells, begins_from, is_behind, stand_test};
 
 use hy_body::HeldTable;
-use hy_change::{Change, Changes};
-use hy_value::{Row, compare_rows};
+use hy_value::{Change, Changes, Row, compare_rows};
 
 /// Whether two cells have the same row, or none.
 fn same(left: &Option<Row>, right: &Option<Row>) -> bool

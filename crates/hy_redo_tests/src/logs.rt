@@ -2,12 +2,11 @@
 //! from outside.
 
 use hy_body::{HeldTable, HeldTables};
-use hy_change::Change;
 use hy_disk::MemDisk;
 use hy_journal::Entry;
 use hy_redo::{RecoverError, append, create, recover};
 use hy_stamp::Label;
-use hy_value::{Kind, Row, Seq, Text, Value};
+use hy_value::{Change, Kind, Row, Seq, Text, Value};
 use std::alloc::{AllocError, Global};
 use std::test::*;
 

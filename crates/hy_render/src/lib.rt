@@ -14,9 +14,8 @@ mod laws;
 mod summary;
 
 use hy_bound::{Grouped, Replies, Reply, Rows};
-use hy_change::{Change, Changes};
 use hy_stamp::Label;
-use hy_value::{Row, Seq, Text, print, print_row};
+use hy_value::{Change, Changes, Row, Seq, Text, print, print_row};
 use itoa::Buffer;
 pub use laws::text_tells_the_outcome;
 use std::alloc::AllocError;

@@ -14,7 +14,7 @@ use Rattle.hy_bound.specs.declared.Record.{Record}
 use Rattle.hy_bound.specs.declared.Shape.{Shape}
 use Rattle.hy_bound.specs.declared.Txn.{Txn}
 use Rattle.hy_bound.specs.Fits.{Fits, FitsRows, FitsSession, FitsStatement, FitsTxn}
-use Rattle.hy_change.specs.declared.Change.{Change}
+use Rattle.hy_value.specs.declared.change.Change.{Change}
 use Rattle.hy_render.specs.declared.Names.{Names}
 use Rattle.hy_render.specs.declared.Place.{Place}
 use Rattle.hy_render.specs.declared.Ending.{Ending}

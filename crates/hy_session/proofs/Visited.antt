@@ -11,7 +11,7 @@ use Rattle.hy_bound.specs.declared.Reply.{Reply}
 use Rattle.hy_bound.specs.declared.Reply.TheVariants as reply
 use Rattle.hy_bound.specs.declared.Shape.{Shape}
 use Rattle.hy_bound.specs.Condition.{Condition}
-use Rattle.hy_change.specs.declared.Change.{Change}
+use Rattle.hy_value.specs.declared.change.Change.{Change}
 use Rattle.hy_meaning.specs.Statement.{Table}
 use Rattle.hy_plan.specs.Reads.{records_of}
 use Rattle.hy_render.specs.declared.Ending.TheVariants.{Full}

@@ -3,7 +3,7 @@
 use Rattle.std.specs.Prelude.{◌≡◌, ℕ, ◌*◌, ◌^◌, ◌<◌, ◌≤◌, List, [], Option, None, Some, length}
 use Rattle.hy_bound.specs.declared.Shape.{Shape}
 use Rattle.hy_bound.specs.declared.Txn.{Txn}
-use Rattle.hy_change.specs.declared.Change.{Change}
+use Rattle.hy_value.specs.declared.change.Change.{Change}
 use Rattle.hy_event.specs.declared.Open.{Open}
 use Rattle.hy_limits.specs.declared.TheConstants.{MOST_TABLES, MOST_TXNS}
 use Rattle.hy_session.specs.declared.prepared.Prepared.{Prepared}

@@ -3,7 +3,7 @@ use Rattle.std.specs.Prelude.{◌≡◌, ℕ, List, Option, Result}
 use Rattle.hy_value.specs.declared.Value.{Value}
 use Rattle.hy_bound.specs.declared.Assign.{Assign}
 use Rattle.hy_bound.specs.Condition.{Condition}
-use Rattle.hy_change.specs.declared.Change.{Change}
+use Rattle.hy_value.specs.declared.change.Change.{Change}
 use Rattle.hy_prune.specs.declared.Cover.{Cover}
 use Rattle.hy_undo.specs.declared.refusal.Refusal.{Refusal}
 use Rattle.hy_undo.specs.Chunks.{ChunkData}

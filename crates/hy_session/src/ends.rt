@@ -11,10 +11,9 @@ ghost use Rattle.hy_session.specs.Entered.{is_stamping};
 
 use crate::{Running, Session};
 use hy_bound::Bound;
-use hy_change::Change;
 use hy_event::Phase;
 use hy_render::{Ending, Place, Places, TxnOutcome};
-use hy_value::Seq;
+use hy_value::{Change, Seq};
 use std::alloc::{AllocError, Global};
 use std::mem;
 

@@ -7,9 +7,9 @@ ghost use Rattle.hy_event.specs.Needs.{written_need};
 ghost use Rattle.hy_session.specs.Seeking.{sought};
 
 use crate::{Running, Session};
-use hy_change::Change;
 use hy_event::{Need, Phase};
 use hy_render::Place;
+use hy_value::Change;
 
 impl Session {
     /// Whether a position of a table is one of a chunk.

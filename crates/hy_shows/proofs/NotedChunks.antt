@@ -6,7 +6,7 @@ use Rattle.std.specs.List.{list_any, range_with_len}
 use Rattle.std.proofs.lemmas.Bool.{cases_Bool, eqb-true, eq-eqb, ne_eqb, and_from, and_parts, leb-true, le-leb, ltb-true, lt-ltb, or_left, or_right}
 use Rattle.std.proofs.lemmas.Option.{get_or_from_slice_get}
 use Rattle.hy_bound.specs.declared.Shape.{Shape}
-use Rattle.hy_change.specs.declared.Change.{Change}
+use Rattle.hy_value.specs.declared.change.Change.{Change}
 use Rattle.hy_notes.specs.Notes.{note_at}
 use Rattle.hy_render.specs.declared.Place.{Place}
 use Rattle.hy_event.specs.declared.SessionData.{SessionData}

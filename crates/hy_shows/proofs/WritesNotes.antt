@@ -3,7 +3,7 @@ use Rattle.std.proofs.Common.{◌≡◌, ℕ, suc, ◌+◌, ◌<◌, ◌≤◌, 
 use Rattle.std.specs.Prelude.{slice_get}
 use Rattle.hy_stamp.specs.declared.Viewer.{Viewer}
 use Rattle.hy_undo.specs.Places.{Place, Cell, sees}
-use Rattle.hy_change.specs.declared.Change.{Change}
+use Rattle.hy_value.specs.declared.change.Change.{Change}
 use Rattle.hy_notes.specs.Notes.{with_note}
 use Rattle.hy_event.specs.declared.Open.{Open}
 use Rattle.hy_event.specs.Turns.{with_notes}

@@ -6,7 +6,7 @@ use Rattle.std.specs.List.{AllByRecursion}
 use Rattle.std.specs.Option.{option_and_then}
 use Rattle.std.proofs.lemmas.Option.{slice_get-get_or}
 use Rattle.hy_value.specs.declared.Kind.{Kind}
-use Rattle.hy_change.specs.declared.Change.{Change}
+use Rattle.hy_value.specs.declared.change.Change.{Change}
 use Rattle.hy_journal.specs.declared.Entry.{Entry}
 use Rattle.hy_body.specs.declared.HeldTable.{HeldTable}
 use Rattle.hy_body.specs.Bytes.{net_of}

@@ -6,7 +6,7 @@ use Rattle.std.specs.List.{AllByRecursion}
 use Rattle.std.specs.Ordering.{is_lt}
 use Rattle.std.specs.declared.cmp.Ordering.TheVariants.{Less}
 use Rattle.std.proofs.lemmas.Bool.{and_from}
-use Rattle.hy_change.specs.declared.Change.{Change}
+use Rattle.hy_value.specs.declared.change.Change.{Change}
 use Rattle.hy_notes.specs.Notes.{Ascends, order_of}
 use Rattle.hy_machine.specs.Tables.{Pair, Cell}
 use Rattle.hy_machine.specs.Positions.{item_at, by_position, by_table, by_place}

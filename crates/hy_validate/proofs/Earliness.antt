@@ -11,7 +11,7 @@ use Rattle.std.proofs.lemmas.List.Kept.{AllPairs-from_increasing}
 use Rattle.hy_bound.specs.declared.Record.{Record}
 use Rattle.hy_bound.specs.Condition.{Condition}
 use Rattle.hy_bound.specs.Predicate.{truth_at, changes_on}
-use Rattle.hy_change.specs.declared.Change.{Change}
+use Rattle.hy_value.specs.declared.change.Change.{Change}
 use Rattle.hy_validate.specs.declared.groups.Group.{Group}
 use Rattle.hy_validate.specs.FirstConditions.{first_condition_of}
 use Rattle.hy_validate.specs.Groups.{IsFiled, IsGrouped}

@@ -7,7 +7,7 @@ use Rattle.std.proofs.lemmas.Bool.{and_right}
 use Rattle.std.proofs.lemmas.Iterator.Adapters.{position_from-zero}
 use Rattle.hy_value.specs.declared.Value.{Value}
 use Rattle.hy_bound.specs.declared.Record.{Record}
-use Rattle.hy_change.specs.declared.Change.{Change}
+use Rattle.hy_value.specs.declared.change.Change.{Change}
 use Rattle.hy_stamp.specs.declared.Label.{Label}
 use Rattle.hy_validate.specs.TreeHits.{is_hit_by, first_hit_of}
 use Rattle.hy_validate.specs.declared.Invalid.{Invalid}

@@ -2,7 +2,7 @@
 use Rattle.std.specs.Prelude.{ℕ, List, [], ◌∷◌, Option, None}
 use Rattle.std.specs.Option.{option_or, option_map}
 use Rattle.hy_bound.specs.declared.Record.{Record}
-use Rattle.hy_change.specs.declared.Change.{Change}
+use Rattle.hy_value.specs.declared.change.Change.{Change}
 use Rattle.hy_journal.specs.declared.Entry.{Entry}
 use Rattle.hy_validate.specs.TreeHits.{first_hit_of}
 use Rattle.hy_stamp.specs.declared.Label.{Label}

@@ -5,7 +5,7 @@ use Rattle.std.specs.List.{position}
 use Rattle.hy_bound.specs.declared.Record.{Record}
 use Rattle.hy_bound.specs.Predicate.{truth_at}
 use Rattle.hy_bound.specs.Records.{is_hit}
-use Rattle.hy_change.specs.declared.Change.{Change}
+use Rattle.hy_value.specs.declared.change.Change.{Change}
 use Rattle.hy_validate.specs.declared.groups.Group.{Group}
 
 -- a change hits a record of its table whose reading it meets

@@ -8,8 +8,7 @@ ghost use Rattle.hy_validate.specs.TreeHits.{is_hit_by, is_hit_number, first_hit
 
 use crate::conditions::{first_condition, is_same};
 use hy_bound::{Pred, Record, hits, truth};
-use hy_change::Change;
-use hy_value::Row;
+use hy_value::{Change, Row};
 use std::alloc::{AllocError, Global};
 
 /// The records of a table whose restrictions have the same first condition.

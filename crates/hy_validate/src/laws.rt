@@ -3,7 +3,7 @@
 ghost use Rattle.std.specs.Prelude.{◌≡◌, List, filter};
 ghost use Rattle.std.specs.Option.{option_map};
 ghost use Rattle.hy_bound.specs.declared.Record.{Record};
-ghost use Rattle.hy_change.specs.declared.Change.{Change};
+ghost use Rattle.hy_value.specs.declared.change.Change.{Change};
 ghost use Rattle.hy_notes.specs.Notes.{is_change};
 ghost use Rattle.hy_stamp.specs.declared.Label.{Label};
 ghost use Rattle.hy_validate.specs.TreeHits.{first_hit_of};

@@ -14,9 +14,9 @@ mod laws;
 mod tree;
 
 use hy_bound::Record;
-use hy_change::Change;
 use hy_journal::Entry;
 use hy_stamp::Label;
+use hy_value::Change;
 pub use laws::hits_are_of_statements_and_rows;
 use std::alloc::{AllocError, Global};
 pub use tree::Tree;

@@ -6,7 +6,7 @@ ghost use Rattle.hy_validate.specs.TreeHits.{first_hit_of};
 
 use crate::groups::{Group, file, first_among};
 use hy_bound::Record;
-use hy_change::Change;
+use hy_value::Change;
 use std::alloc::{AllocError, Global};
 use std::marker::Model;
 

@@ -11,7 +11,7 @@ use Rattle.hy_stamp.specs.declared.Viewer.{Viewer}
 use Rattle.hy_prune.specs.declared.Cover.{Cover}
 use Rattle.hy_prune.specs.Fates.{watermark_of}
 use Rattle.hy_chain.specs.Pruning.{count_old}
-use Rattle.hy_change.specs.declared.Change.{Change}
+use Rattle.hy_value.specs.declared.change.Change.{Change}
 use Rattle.hy_notes.specs.Notes.{with_note}
 use Rattle.hy_undo.specs.Places.{Place}
 use Rattle.hy_undo.specs.Chunks.{ChunkData, Placed}

@@ -1,7 +1,7 @@
 -- A visit of an INSERT that looks for a free position: the chunk is pruned, and the row comes to the first free one.
 use Rattle.std.specs.Prelude.{◌≡◌, ℕ, List, [], ◌∷◌, Option, None, Some}
 use Rattle.hy_value.specs.declared.Value.{Value}
-use Rattle.hy_change.specs.declared.Change.{Change}
+use Rattle.hy_value.specs.declared.change.Change.{Change}
 use Rattle.hy_undo.specs.Chunks.{ChunkData}
 use Rattle.hy_event.specs.Inserting.{Comes, free_index, free_position}
 use Rattle.hy_event.specs.Turns.{with_notes}

@@ -10,7 +10,7 @@ use Rattle.hy_redo.specs.Crashes.{AreLogsOf, Appends, IsBeforeOrAfter, next_gate
 use Rattle.hy_world.specs.Logged.{Extend, GrowByOne, with_next, IsLogOfFirst, IsLogButTheLast, IsKept, IsKeptButTheLast, Logs, IsKeptSince, IsUnderWay, RecoversAfter, IsDurable, IsLogOfRun, LogsRun}
 use Rattle.hy_value.specs.declared.Kind.{Kind}
 use Rattle.hy_stamp.specs.declared.Label.{Label}
-use Rattle.hy_change.specs.declared.Change.{Change}
+use Rattle.hy_value.specs.declared.change.Change.{Change}
 use Rattle.hy_notes.specs.Notes.{is_change}
 use Rattle.hy_render.specs.declared.Committed.{Committed}
 use Rattle.hy_journal.specs.declared.CoreData.{CoreData}

@@ -14,7 +14,7 @@ use Rattle.hy_bound.specs.Records.{shape_of}
 use Rattle.hy_join.specs.Answers.{spread_all}
 use Rattle.hy_meaning.specs.Statement.{Table}
 use Rattle.hy_value.specs.declared.Value.{Value}
-use Rattle.hy_change.specs.declared.Change.{Change}
+use Rattle.hy_value.specs.declared.change.Change.{Change}
 use Rattle.hy_journal.specs.declared.CoreData.{CoreData}
 use Rattle.hy_journal.specs.Core.{blocked_by}
 use Rattle.hy_plan.specs.declared.PlanPart.{PlanPart}

@@ -1,7 +1,7 @@
 use Rattle.std.proofs.Common.{rules, List, ap, ◌∙◌}
 use Rattle.std.specs.Prelude.{filter}
 use Rattle.std.proofs.lemmas.Fn.{filter_same}
-use Rattle.hy_change.specs.declared.Change.{Change}
+use Rattle.hy_value.specs.declared.change.Change.{Change}
 use Rattle.hy_notes.specs.Notes.{is_change}
 use Rattle.hy_notes.proofs.net.Goals as goal
 

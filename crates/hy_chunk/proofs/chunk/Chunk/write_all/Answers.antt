@@ -3,7 +3,7 @@ use Rattle.std.proofs.Math.ListN.{set}
 use Rattle.std.proofs.lemmas.List.{length-set, get_or-set_other}
 use Rattle.hy_value.specs.declared.Kind.{Kind}
 use Rattle.hy_chain.specs.Chains.{seen}
-use Rattle.hy_change.specs.declared.Change.{Change}
+use Rattle.hy_value.specs.declared.change.Change.{Change}
 use Rattle.hy_notes.specs.Notes.{with_note}
 use Rattle.hy_bound.specs.Predicate.{truth_at}
 use Rattle.hy_undo.specs.declared.version.Version.{Version}

@@ -1,7 +1,6 @@
 //! What a transaction changed, position by position.
-#![tactic(auto)]
 
-use hy_value::{Row, Seq};
+use crate::{Row, Seq};
 
 /// The change of a transaction at a position of a table: the row before it and the row after it, each
 /// there or absent.

@@ -10,7 +10,7 @@ use Rattle.hy_bound.specs.Agreement.{FitTables}
 use Rattle.hy_bound.specs.Condition.{Condition}
 use Rattle.hy_bound.specs.Predicate.{truth_of}
 use Rattle.hy_bound.specs.Records.{columns_shown, select_conditions}
-use Rattle.hy_join.specs.Answers.{answered}
+use Rattle.hy_gathered.specs.Answers.{answered}
 use Rattle.hy_laws.specs.Gathered.{gathered_of}
 use Rattle.hy_meaning.specs.Statement.{Table, answer_of}
 use Rattle.hy_plan.specs.Plans.{parts_from, plan_of, rest_of, spans_from}

@@ -6,3 +6,5 @@ pub mod Groups
 pub mod Unasked
 pub mod GroupPlans
 pub mod GroupLaws
+pub mod Answers
+pub mod Parts

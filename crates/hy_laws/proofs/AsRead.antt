@@ -16,7 +16,7 @@ use Rattle.hy_plan.specs.declared.Read.{Read}
 use Rattle.hy_plan.specs.declared.PlanPart.{PlanPart}
 use Rattle.hy_plan.specs.Plans.{part_of, parts_from}
 use Rattle.hy_plan.specs.Reads.{is_read_of, rows_read_of, looked_up_column, columns_over, table_read_of, reads_from, select_named, read_rows}
-use Rattle.hy_join.specs.Answers.{spread_all}
+use Rattle.hy_gathered.specs.Answers.{spread_all}
 use Rattle.hy_laws.specs.Lookups.{is_gathered, gathered_for, spread_of, looked_up_behind, LookedUpIsRead}
 use Rattle.hy_laws.proofs.Keys.{read_where_wanted}
 use Rattle.hy_laws.proofs.Spread.{each_kept, same_kept, rows_spread}

@@ -20,7 +20,7 @@ use Rattle.hy_meaning.specs.Statement.{Table}
 use Rattle.hy_plan.specs.declared.PlanPart.{PlanPart}
 use Rattle.hy_plan.specs.Plans.{part_of, parts_from}
 use Rattle.hy_plan.specs.Reads.{columns_over}
-use Rattle.hy_join.specs.Answers.{spread_all}
+use Rattle.hy_gathered.specs.Answers.{spread_all}
 use Rattle.hy_laws.specs.Gathered.{gathered_of}
 use Rattle.hy_laws.specs.Lookups.{is_wanted, is_gathered, gathered_for, spread_of, looked_up_behind}
 use Rattle.hy_laws.proofs.Spread.{Row, each_kept, rows_spread}

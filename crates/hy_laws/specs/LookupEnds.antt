@@ -10,7 +10,7 @@ use Rattle.hy_bound.specs.Agreement.{FitTables, HaveTheirKeys}
 use Rattle.hy_meaning.specs.Statement.{Table, answer_of}
 use Rattle.hy_plan.specs.Plans.{plan_of}
 use Rattle.hy_plan.specs.Reads.{read_rows, select_reads_of}
-use Rattle.hy_join.specs.Answers.{spread_all, answered}
+use Rattle.hy_gathered.specs.Answers.{spread_all, answered}
 use Rattle.hy_laws.specs.Gathered.{gathered_of}
 use Rattle.hy_laws.specs.Lookups.{looked_up}
 

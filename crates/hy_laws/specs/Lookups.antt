@@ -15,7 +15,7 @@ use Rattle.hy_plan.specs.declared.Lookup.{Lookup}
 use Rattle.hy_plan.specs.declared.PlanPart.{PlanPart}
 use Rattle.hy_plan.specs.Plans.{plan_of}
 use Rattle.hy_plan.specs.Reads.{known_values_of, most_keys, columns_over, read_rows, select_reads_of, records_of}
-use Rattle.hy_join.specs.Answers.{spread_all, answered}
+use Rattle.hy_gathered.specs.Answers.{spread_all, answered}
 
 -- the keys that a look-up wants: the different values other than NULL that were gathered of its source column, `earlier`
 -- having the columns of the joined row that were gathered so far

@@ -1,8 +1,8 @@
 //! Plans of SELECTs, the log of reads, and joins of gathered rows.
 
 use hy_bound::{Items, On, Pred, Query, Record, Reply, Shape, truth};
+use hy_gathered::answer;
 use hy_given::{compare, pair, row};
-use hy_join::answer;
 use hy_plan::{Gathered, Plan, ReadLog, plan_query};
 use hy_value::{Cmp, ColMask, Seq, Value};
 use std::alloc::{AllocError, Global};

@@ -5,9 +5,8 @@ use crate::random::{group, select, shapes, tables};
 use hy_bound::{
     Bound, Grouped, Items, On, Pred, Record, Records, Reply, Rows, Shape, Shapes, truth,
 };
-use hy_gathered::{answer_groups, plan_group};
+use hy_gathered::{answer, answer_groups, plan_group};
 use hy_given::Random;
-use hy_join::answer;
 use hy_meaning::{Tables, copy_rows};
 use hy_plan::{Gathered, Plan, PlanPart, plan_statement, records};
 use hy_value::{Row, Seq, Value};

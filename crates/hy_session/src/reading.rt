@@ -3,7 +3,7 @@
 ghost use Rattle.std.specs.Prelude.{◌≡◌, ◌+◌, ◌<◌, [], List, None, Some, IfOk, OnErr, length};
 ghost use Rattle.hy_plan.specs.Reads.{records_of};
 ghost use Rattle.hy_meaning.specs.Statement.{Table};
-ghost use Rattle.hy_join.specs.Answers.{spread_all};
+ghost use Rattle.hy_gathered.specs.Answers.{spread_all};
 ghost use Rattle.hy_event.specs.declared.Open.{Open};
 ghost use Rattle.hy_event.specs.declared.Phase.{Phase};
 ghost use Rattle.hy_event.specs.Events.{ChunkEvent};

@@ -12,7 +12,7 @@ use Rattle.hy_meaning.specs.Statement.{Table}
 use Rattle.hy_plan.specs.declared.Lookup.{Lookup}
 use Rattle.hy_plan.specs.declared.PlanPart.{PlanPart}
 use Rattle.hy_plan.specs.Reads.{by_key_of, known_values_of, columns_over}
-use Rattle.hy_join.specs.Answers.{spread_all}
+use Rattle.hy_gathered.specs.Answers.{spread_all}
 use Rattle.hy_laws.specs.Lookups.{spread_of}
 use Rattle.hy_laws.specs.Turns.{columns_gathered}
 use Rattle.hy_event.specs.Gathering.{joined_columns, conditions_by}

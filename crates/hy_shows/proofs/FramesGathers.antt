@@ -10,7 +10,7 @@ use Rattle.hy_plan.specs.declared.PlanPart.{PlanPart}
 use Rattle.hy_bound.specs.Changes.{present}
 use Rattle.hy_bound.specs.Projection.{projected}
 use Rattle.hy_plan.specs.Reads.{is_read_of}
-use Rattle.hy_join.specs.Answers.{spread_all}
+use Rattle.hy_gathered.specs.Answers.{spread_all}
 use Rattle.hy_event.specs.Gathering.{with_rows, joined_columns, conditions_by}
 use Rattle.hy_machine.specs.declared.Setting.{Setting}
 use Rattle.hy_machine.specs.Tables.{Tables}

@@ -9,7 +9,7 @@ use Rattle.hy_bound.specs.Projection.{projected}
 use Rattle.hy_meaning.specs.Statement.{Table}
 use Rattle.hy_plan.specs.declared.PlanPart.{PlanPart}
 use Rattle.hy_plan.specs.Reads.{is_read_of}
-use Rattle.hy_join.specs.Answers.{spread_all}
+use Rattle.hy_gathered.specs.Answers.{spread_all}
 use Rattle.hy_undo.specs.Places.{Place, Cell}
 use Rattle.hy_undo.specs.Chunks.{rows_seen}
 use Rattle.hy_event.specs.Gathering.{with_rows, joined_columns, conditions_by, rows_gathered}

@@ -18,7 +18,7 @@ use Rattle.hy_bound.specs.Records.{select_conditions}
 use Rattle.hy_meaning.specs.Statement.{Table, answer_of}
 use Rattle.hy_plan.specs.declared.PlanPart.{PlanPart}
 use Rattle.hy_plan.specs.Reads.{select_named, records_of}
-use Rattle.hy_join.specs.Answers.{spread_all}
+use Rattle.hy_gathered.specs.Answers.{spread_all}
 use Rattle.hy_laws.specs.Lookups.{gathered_for, looked_up, LookedUpAnswers, LookedUpLogsTheSame}
 use Rattle.hy_laws.specs.Turns.{columns_gathered, LookedUpAlone}
 use Rattle.hy_laws.specs.Wanted.{ReadIsWanted}

@@ -11,7 +11,7 @@ use Rattle.hy_bound.specs.declared.Reply.TheVariants as reply
 use Rattle.hy_bound.specs.declared.Txn.{Txn}
 use Rattle.hy_bound.specs.Condition.{Condition}
 use Rattle.hy_bound.specs.Records.{shape_of}
-use Rattle.hy_join.specs.Answers.{spread_all}
+use Rattle.hy_gathered.specs.Answers.{spread_all}
 use Rattle.hy_meaning.specs.Statement.{Table}
 use Rattle.hy_value.specs.declared.Value.{Value}
 use Rattle.hy_value.specs.declared.change.Change.{Change}

@@ -7,7 +7,7 @@ use Rattle.hy_plan.specs.Plans.{plan_of}
 use Rattle.hy_plan.specs.Reads.{select_named}
 use Rattle.hy_plan.specs.Restricted.{conditions_named}
 use Rattle.hy_plan.specs.declared.Plan.{Plan}
-use Rattle.hy_join.specs.Answers.{spread_all}
+use Rattle.hy_gathered.specs.Answers.{spread_all}
 use Rattle.hy_laws.specs.Lookups.{looked_up}
 use Rattle.hy_laws.proofs.LookedUp.{looked_up_again}
 use Rattle.hy_laws.proofs.AsRead.{looked_up_read}

@@ -1,2 +1,12 @@
 pub mod GivenBack
 pub mod Rows
+pub mod Lists
+pub mod Slots
+pub mod Carrying
+pub mod Refusals
+pub mod Staying
+pub mod Moving
+pub mod SplitKeeps
+pub mod TakeKeeps
+pub mod GiveKeeps
+pub mod JoinKeeps

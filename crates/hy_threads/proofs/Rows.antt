@@ -7,8 +7,8 @@ use Rattle.std.proofs.lemmas.List.Folds.{Any-from_list_any}
 use Rattle.std.proofs.lemmas.Bool.{or_parts}
 use mathlib.Core.Option.{some}
 use lib.ListN.{get_elem?, take, drop}
-use Rattle.hy_locks.specs.Knowledge.{Visitor, Knowledge, First, Seated, keeper, visitor, newly_seated, parent, child, joined}
-use Rattle.hy_locks.specs.Seats.{Home}
+use Rattle.hy_threads.specs.Knowledge.{Visitor, Knowledge, First, Seated, keeper, visitor, newly_seated, parent, child, joined}
+use Rattle.hy_threads.specs.Seats.{Home}
 use Rattle.hy_threads.specs.Tasks.{Task, session_of, AreOf, Fits, IsSameWorker, HasEnded, HasStarved, HasStopped, Stops}
 
 mid_at : {S : Type 0} (n : ℕ) (s : S) (xs : List (Option S)) → get_elem? (replicate n None ++ Some s ∷ xs) n ≡ some (Some s)

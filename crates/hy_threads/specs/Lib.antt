@@ -1,2 +1,6 @@
 pub mod Visits
 pub mod Tasks
+pub mod Laws
+pub mod Knowledge
+pub mod Rule
+pub mod Seats

@@ -1,7 +1,7 @@
 -- A worker as clauses see it, and how it ends.
 use Rattle.std.specs.Prelude.{◌≡◌, ◌≢◌, ◌≤◌, ◌+◌, ℕ, Bool, true, List, [], ◌∷◌, Option, None, MatchBool}
-use Rattle.hy_locks.specs.Seats.{Home}
-use Rattle.hy_locks.specs.Knowledge.{Knowledge, Visitor, Seated}
+use Rattle.hy_threads.specs.Seats.{Home}
+use Rattle.hy_threads.specs.Knowledge.{Knowledge, Visitor, Seated}
 
 -- which parts it is of, its number and its session, and whether its last run ended because it found no memory
 pub record Task (S : Type 0) : Type 0 where

@@ -12,12 +12,19 @@
 #![tactic(auto)]
 
 mod gate;
+mod known;
+mod parted;
+mod parts;
+mod rule;
 mod runs;
 mod threads;
 mod worked;
 mod worker;
 
 pub use gate::{Gate, Moment, OpenGate, Point};
+pub use known::Known;
+pub use parted::Parted;
+pub use parts::{Parts, Seat};
 pub use runs::run_all;
 pub use threads::work;
 pub use worked::{Visited, Worked};

@@ -1,13 +1,13 @@
 //! A whole run: from parts and sessions to parts and sessions.
 ghost use Rattle.std.specs.Prelude.{◌≡◌, ◌<◌, ◌≤◌, ◌^◌, All, IfOk, vec_len, vec_capacity, map, replicate, Some, None, length, []};
-ghost use Rattle.hy_locks.specs.Knowledge.{First, keeper, first_of};
+ghost use Rattle.hy_threads.specs.Knowledge.{First, keeper, first_of};
 ghost use Rattle.hy_threads.specs.Tasks.{AreOf, session_of};
 
 use crate::gate::Gate;
 use crate::threads::work;
 use crate::worked::Worked;
 use crate::worker::Worker;
-use hy_locks::{Parts, Seat};
+use crate::{Parts, Seat};
 use std::alloc::{AllocError, Global};
 use std::sync::Wait;
 use std::thread::Threads;

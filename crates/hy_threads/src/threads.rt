@@ -3,10 +3,10 @@ ghost use Rattle.std.specs.Prelude.{◌≡◌, ◌<◌, ℕ, All, Any, length, s
 ghost use Rattle.std.specs.List.{AllZip, list_any};
 ghost use Rattle.hy_threads.specs.Tasks.{Task, Fits, IsSameWorker, Stops, HasEnded, HasStarved, HasStopped};
 
+use crate::Parts;
 use crate::gate::Gate;
 use crate::worked::Worked;
 use crate::worker::Worker;
-use hy_locks::Parts;
 use std::alloc::{AllocError, Global};
 use std::sync::Wait;
 use std::thread::{Threads, for_each_mut};

@@ -4,8 +4,8 @@ ghost use Rattle.hy_threads.specs.declared.gate.Point.{Point};
 ghost use Rattle.hy_threads.specs.declared.gate.Moment.TheVariants.{Before};
 ghost use Rattle.hy_threads.specs.Visits.{Needs, Visits};
 
+use crate::Parted;
 use crate::gate::Point;
-use hy_locks::Parted;
 use std::alloc::{AllocError, Global};
 
 /// What a visit came to.

@@ -1,11 +1,11 @@
 //! A session with its seat, and its way to the end.
 ghost use Rattle.std.specs.Prelude.{◌≡◌, false, MatchBool};
-ghost use Rattle.hy_locks.specs.Seats.{number_of};
+ghost use Rattle.hy_threads.specs.Seats.{number_of};
 ghost use Rattle.hy_threads.specs.Tasks.{IsReady, Fits, IsSameWorker, HasStopped};
 
 use crate::gate::{Gate, Moment, Point};
 use crate::worked::{Visited, Worked};
-use hy_locks::{Parts, Seat};
+use crate::{Parts, Seat};
 use std::alloc::Global;
 use std::marker::Model;
 use std::sync::Wait;
@@ -21,7 +21,7 @@ pub struct Worker<P: Worked> {
 }
 
 impl<P: Worked> Model for Worker<P> {
-    ghost use Rattle.hy_locks.specs.Seats.{number_of};
+    ghost use Rattle.hy_threads.specs.Seats.{number_of};
     ghost use Rattle.hy_threads.specs.Tasks.{Task, IsReady};
 
     ghost Value = { Task P.Session };

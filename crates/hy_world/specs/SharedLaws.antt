@@ -7,7 +7,7 @@ use Rattle.std.proofs.lemmas.List.{map-set}
 use Rattle.std.proofs.lemmas.Option.{same_Some, slice_get-map}
 use mathlib.Core.Option.{some, some-ne-none, some-injective}
 use lib.ListN.{get_elem?}
-use Rattle.hy_locks.specs.Laws.{NearFollows, EventKeeps}
+use Rattle.hy_threads.specs.Laws.{NearFollows, EventKeeps}
 use Rattle.hy_value.specs.declared.Kind.{Kind}
 use Rattle.hy_journal.specs.declared.CoreData.{CoreData}
 use Rattle.hy_undo.specs.Chunks.{ChunkData}

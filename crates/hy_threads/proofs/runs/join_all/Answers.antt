@@ -1,8 +1,8 @@
 use Rattle.std.proofs.Common.{rules, arith, ◌≡◌, ◌+◌, [], ◌∷◌, ◌++◌, length, sym, ap, ◌∙◌, subst, vec_len, length-append}
 use mathlib.Core.List.{map-append}
 use lib.ListN.{length-map}
-use Rattle.hy_locks.specs.Knowledge.{First, keeper, joined}
-use Rattle.hy_locks.specs.Seats.{number_of}
+use Rattle.hy_threads.specs.Knowledge.{First, keeper, joined}
+use Rattle.hy_threads.specs.Seats.{number_of}
 use Rattle.hy_threads.specs.Tasks.{AreOf, session_of}
 use Rattle.hy_threads.proofs.Rows.{regaining, are_of_at, joined_next, snoc_more}
 use Rattle.hy_threads.proofs.runs.join_all.Goals as goal

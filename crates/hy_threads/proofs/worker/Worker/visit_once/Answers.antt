@@ -1,5 +1,5 @@
 use Rattle.std.proofs.Common.{◌≡◌, refl, sym, subst, IfOk, OnErr}
-use Rattle.hy_locks.specs.Knowledge.{holding, refused, settled}
+use Rattle.hy_threads.specs.Knowledge.{holding, refused, settled}
 use Rattle.hy_threads.specs.Visits.{Visits}
 use Rattle.hy_threads.proofs.GivenBack.{may_be_given}
 use Rattle.hy_threads.proofs.worker.Worker.visit_once.Goals as goal

@@ -1,6 +1,0 @@
-use Rattle.std.proofs.Common.{◌≡◌, map, length, Some, vec_len}
-use Rattle.hy_locks.specs.Rule.{content}
-use Rattle.hy_locks.proofs.parts.put_in_slots.Given as goal
-
-abbrev pub invariant-loop-part : goal.invariant-loop-part
-invariant-loop-part g l = (map content l.slots.items ≡ map Some l.yielded) × (vec_len l.slots ≡ length l.yielded)

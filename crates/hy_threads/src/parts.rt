@@ -1,0 +1,287 @@
+//! The parts, and the seats that take them.
+ghost use Rattle.std.specs.Prelude.{◌≡◌, ◌⊎◌, ℕ, ◌<◌, ◌^◌, List, map, length, vec_len, IfSome, IfNone, IfOk};
+ghost use mathlib.Core.Option.{some};
+ghost use lib.ListN.{get_elem?};
+ghost use Rattle.hy_threads.specs.Knowledge.{Keeper, Visitor, First, Seated, shown, first_of};
+ghost use Rattle.hy_threads.specs.Knowledge.{holding, refused, settled, parent, child, joined};
+ghost use Rattle.hy_threads.specs.Seats.{number_of};
+ghost use Rattle.hy_threads.specs.Rule.{AreHome};
+
+use crate::known::Known;
+use crate::parted::Parted;
+use crate::rule::{Giving, Joining, PartsRule, Splitting, Taking, Telling};
+use atomic_table::{Seat as TableSeat, Table};
+use crossbeam_utils::CachePadded;
+use std::alloc::{AllocError, Global};
+use std::marker::{Brand, Model};
+use std::snapshot::Snapshot;
+use std::sync::Wait;
+
+type Slot<P> = Option<CachePadded<<P as Parted>::Part>>;
+
+type KnownOf<P> = Known<<P as Parted>::Session, <P as Parted>::Part>;
+
+type Opening<P> = Vec<Snapshot<<P as Parted>::Session>>;
+
+// A snapshot of each session, in order.
+fn snapshots_of<S>(alloc: Global, sessions: &[S]) -> Result<Vec<Snapshot<S>>, AllocError>
+    ensures { IfOk result (λ v. map shown v.items ≡ sessions.now) }
+{
+    let mut list = Vec::new(alloc);
+    for session in sessions {
+        list.push(Snapshot::of(session))?;
+    }
+    Ok(list)
+}
+
+// Each part in a slot, in order.
+fn put_in_slots<D: Drop>(
+    alloc: Global,
+    parts: Vec<D>,
+) -> Result<Vec<Option<CachePadded<D>>>, AllocError>
+    ensures { IfOk result (λ v. (vec_len v ≡ vec_len parts) × AreHome v.items parts.items) }
+{
+    let mut slots = Vec::with_capacity(alloc, parts.len())?;
+    for part in parts {
+        slots.push(Some(CachePadded::new(part)))?;
+    }
+    Ok(slots)
+}
+
+/// Parts that seats take and give back, shared by all threads. A clause sees them as their `Home`, in which `slots` is
+/// how many they are.
+#[derive(Drop)]
+pub struct Parts<P: Parted> {
+    table: Table<Slot<P>, KnownOf<P>, Opening<P>, PartsRule<P>, Global>,
+    // Empty, with room for each part, so that `close` needs no memory.
+    spare: Vec<P::Part>,
+}
+
+impl<P: Parted> Model for Parts<P> {
+    ghost use Rattle.std.specs.Prelude.{◌≡◌, ◌≤◌, vec_len, vec_capacity};
+    ghost use Rattle.atomic_table.specs.Seated.{TableId, table_id_coded};
+
+    ghost Value = { TableId };
+
+    ghost coded = { table_id_coded };
+
+    ghost view = { λ p. p.table.shared.table_id };
+
+    ghost invariant = { λ p. (vec_len p.spare ≡ 0)
+        × (p.table.shared.table_id.slots ≤ vec_capacity p.spare)
+        × (p.table.shared.table_id.words ≡ p.table.shared.table_id.slots) };
+}
+
+/// What a thread takes parts with: the first seat, which makes the others and takes them back, or the seat of one
+/// session, which has one part at most. A clause sees it as its `SeatData`.
+#[derive(Drop)]
+pub struct Seat<P: Parted> {
+    at_table: TableSeat<Slot<P>, KnownOf<P>>,
+    number: u64,
+}
+
+impl<P: Parted> Model for Seat<P> {
+    ghost use Rattle.hy_threads.specs.Knowledge.{Knowledge};
+    ghost use Rattle.hy_threads.specs.Seats.{SeatData, IsSound};
+
+    ghost Value = { SeatData (Knowledge P.Session P.Part) };
+
+    ghost view = { λ s. record { home = s.at_table.table_id; id = s.at_table.id; knows = s.at_table.me.0 } };
+
+    ghost invariant = { λ s. IsSound s.number s.at_table.me };
+}
+
+impl<P: Parted> Seat<P> {
+    /// The number of its session; of the first seat, how many seats it made.
+    pub fn number(&self) -> u64
+        ensures { result ≡ number_of self.now.knows }
+    {
+        self.number
+    }
+}
+
+impl<P: Parted> Parts<P> {
+    /// The parts, all at home, and the first seat, which has made no other seat. The sessions are only looked at: each
+    /// stays with its owner, who tells what it has become at each give. Err is for want of memory.
+    pub fn new(
+        alloc: Global,
+        parts: Vec<P::Part>,
+        sessions: &[P::Session],
+    ) -> Result<(Parts<P>, Seat<P>), AllocError>
+        requires few { length sessions.now < 2 ^ 31 }
+        requires fact { P.fact parts.items sessions.now }
+        ensures { IfOk result (λ r. (r.0.slots ≡ vec_len parts) × (r.1.home ≡ r.0) × (r.1.knows ≡ first_of sessions.now)) }
+    {
+        let count = parts.len();
+        let words = vec![in alloc; 0u64; count]?;
+        let spare = Vec::with_capacity(alloc, count)?;
+        let opening = snapshots_of(alloc, sessions)?;
+        let slots = put_in_slots(alloc, parts)?;
+        match Table::new(alloc, words.as_slice(), slots, &opening) {
+            Ok((table, at_table)) => {
+                Ok((
+                    Parts { table, spare },
+                    Seat {
+                        at_table,
+                        number: 0,
+                    },
+                ))
+            }
+            Err(_) => Err(AllocError),
+        }
+    }
+
+    /// The parts as they stand, once every seat was joined to the first: the fact holds of them and of the sessions
+    /// that the first seat has. It takes no memory.
+    pub fn close(self, first: Seat<P>) -> Vec<P::Part>
+        requires ours { first.home ≡ self }
+        requires all { (r : Keeper P.Session) × (sessions : List P.Session) × (first.knows ≡ First r) × (r.kept ≡ map Some sessions) }
+        ensures count { vec_len result ≡ self.slots }
+        ensures fact { (r : Keeper P.Session) (sessions : List P.Session) → first.knows ≡ First r → r.kept ≡ map Some sessions
+            → P.fact result.items sessions }
+    {
+        let Parts { table, spare } = self;
+        let Seat {
+            at_table,
+            number: _,
+        } = first;
+        let mut closed = table.close_with(at_table);
+        let mut parts = spare;
+        let mut k = 0;
+        while k < closed.slot_count() {
+            let Some(part) = closed.take(k) else {
+                unreachable!()
+            };
+            let Ok(()) = parts.push(part.into_inner()) else {
+                unreachable!()
+            };
+            k += 1;
+        }
+        closed.free();
+        parts
+    }
+
+    /// Takes the part k where it is at home, by one compare-and-exchange. None is for a part that is out; the seat
+    /// notes that it was refused.
+    pub fn try_take(&self, seat: &mut Seat<P>, k: usize) -> Option<P::Part>
+        requires ours { seat.old.home ≡ self.now }
+        requires below { k < self.now.slots }
+        requires free { (o : Visitor P.Session P.Part) × (seat.old.knows ≡ Seated o) × (o.held ≡ None) }
+        ensures same { (seat.new.home ≡ seat.old.home) × (seat.new.id ≡ seat.old.id) }
+        ensures won { IfSome result (λ p. (o : Visitor P.Session P.Part) → seat.old.knows ≡ Seated o
+            → (seat.new.knows ≡ Seated (holding o k p)) × P.near k o.session p) }
+        ensures lost { IfNone result ((o : Visitor P.Session P.Part) → seat.old.knows ≡ Seated o → seat.new.knows ≡ Seated (refused o k 1)) }
+    {
+        let found = self
+            .table
+            .shared
+            .compare_exchange::<Taking<P>>(&mut seat.at_table, k, 0, seat.number + 1);
+        if found != 0 {
+            return None;
+        }
+        let Some(part) = self.table.shared.exchange(&mut seat.at_table, k, None) else {
+            unreachable!()
+        };
+        Some(part.into_inner())
+    }
+
+    /// Gives the part k back, with the session that the seat has from now on. The two are those that were taken, or
+    /// changed by an event. One thread that sleeps on the part is woken.
+    pub fn give(&self, seat: &mut Seat<P>, session: &P::Session, k: usize, part: P::Part)
+        requires ours { seat.old.home ≡ self.now }
+        requires below { k < self.now.slots }
+        requires held { (o : Visitor P.Session P.Part) × (p : P.Part) × (seat.old.knows ≡ Seated o) × (o.held ≡ Some (k, p))
+            × (P.event k o.session p session.now part ⊎ ((session.now ≡ o.session) × (part ≡ p))) }
+        ensures same { (seat.new.home ≡ seat.old.home) × (seat.new.id ≡ seat.old.id) }
+        ensures given { (o : Visitor P.Session P.Part) → seat.old.knows ≡ Seated o → seat.new.knows ≡ Seated (settled o session.now) }
+    {
+        self.give_as::<Brand>(seat, session, k, part);
+    }
+
+    // The same, where J tells the session.
+    fn give_as<J: Telling<P::Session>>(
+        &self,
+        seat: &mut Seat<P>,
+        session: &P::Session,
+        k: usize,
+        part: P::Part,
+    )
+        requires told { J.session ≡ Some session.now }
+        requires ours { seat.old.home ≡ self.now }
+        requires below { k < self.now.slots }
+        requires held { (o : Visitor P.Session P.Part) × (p : P.Part) × (seat.old.knows ≡ Seated o) × (o.held ≡ Some (k, p))
+            × (P.event k o.session p session.now part ⊎ ((session.now ≡ o.session) × (part ≡ p))) }
+        ensures same { (seat.new.home ≡ seat.old.home) × (seat.new.id ≡ seat.old.id) }
+        ensures given { (o : Visitor P.Session P.Part) → seat.old.knows ≡ Seated o → seat.new.knows ≡ Seated (settled o session.now) }
+    {
+        let _ = session;
+        let part = CachePadded::new(part);
+        self.table
+            .shared
+            .exchange(&mut seat.at_table, k, Some(part));
+        self.table
+            .shared
+            .store::<Giving<J>>(&mut seat.at_table, k, 0);
+        self.table.shared.wake_one(k);
+    }
+
+    /// Waits until the part k is at home, and takes it. The seat notes each time that it was refused before.
+    pub fn take<T: Wait>(&self, rt: &T, seat: &mut Seat<P>, k: usize) -> P::Part
+        requires ours { seat.old.home ≡ self.now }
+        requires below { k < self.now.slots }
+        requires free { (o : Visitor P.Session P.Part) × (seat.old.knows ≡ Seated o) × (o.held ≡ None) }
+        ensures same { (seat.new.home ≡ seat.old.home) × (seat.new.id ≡ seat.old.id) }
+        ensures taken { (o : Visitor P.Session P.Part) → seat.old.knows ≡ Seated o
+            → (n : ℕ) × (seat.new.knows ≡ Seated (holding (refused o k n) k result)) × P.near k o.session result }
+    {
+        // Only this call waits: every other one takes a number of steps that is known when it begins. Who waits here has
+        // no part, so whoever it waits for has one and doesn't wait.
+        for _ in rt.forever() {
+            if let Some(part) = self.try_take(seat, k) {
+                return part;
+            }
+            let found = self.table.shared.peek(k);
+            if found != 0 {
+                // A thread sleeps on the lower half of the word, which has all of it.
+                self.table
+                    .shared
+                    .park(rt, k, (found % 0x1_0000_0000) as u32);
+            }
+        }
+        unreachable!()
+    }
+
+    /// The next session's seat. Who has it has to have that session.
+    pub fn split(&self, first: &mut Seat<P>) -> Seat<P>
+        requires ours { (first.old.home ≡ self.now) × (0 < self.now.slots) }
+        requires next { (r : Keeper P.Session) × (s : P.Session) × (first.old.knows ≡ First r) × (get_elem? r.kept r.made ≡ some (Some s)) }
+        ensures same { (first.new.home ≡ first.old.home) × (first.new.id ≡ first.old.id) × (result.home ≡ self.now) }
+        ensures parent { first.new.knows ≡ parent first.old.knows }
+        ensures child { result.knows ≡ child first.old.knows }
+    {
+        let at_table = self
+            .table
+            .shared
+            .split_seat::<Splitting>(&mut first.at_table);
+        let number = first.number;
+        first.number += 1;
+        Seat { at_table, number }
+    }
+
+    /// Joins a seat that has no part to the first, which has its session from now on.
+    pub fn join(&self, first: &mut Seat<P>, other: Seat<P>)
+        requires ours { (first.old.home ≡ self.now) × (other.home ≡ self.now) × (0 < self.now.slots) }
+        requires first { (r : Keeper P.Session) × (first.old.knows ≡ First r) }
+        requires free { (o : Visitor P.Session P.Part) × (other.knows ≡ Seated o) × (o.held ≡ None) }
+        ensures same { (first.new.home ≡ first.old.home) × (first.new.id ≡ first.old.id) }
+        ensures joined { first.new.knows ≡ joined first.old.knows other.knows }
+    {
+        let Seat {
+            at_table,
+            number: _,
+        } = other;
+        self.table
+            .shared
+            .join_seat::<Joining>(&mut first.at_table, at_table);
+    }
+}

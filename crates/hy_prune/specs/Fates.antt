@@ -1,5 +1,5 @@
 -- Which records of a chain pruning keeps, and the watermark below which all viewers see alike.
-use Rattle.std.specs.Prelude.{ℕ, List, [], ◌∷◌, Bool, false, ◌&&◌, ◌==◌, nat_le, nat_lt, Option, None, Some, count_by, slice_index_or, if◌then◌else◌}
+use Rattle.std.specs.Prelude.{ℕ, Bool, false, ◌&&◌, ◌==◌, nat_le, nat_lt, Option, None, Some, count_by, slice_index_or, if◌then◌else◌}
 use Rattle.hy_prune.specs.declared.Cover.{Cover}
 use Rattle.hy_prune.specs.declared.Fate.{Fate}
 use Rattle.hy_prune.specs.declared.Fate.TheVariants.{Keep, Merge, Drop}
@@ -21,17 +21,6 @@ fate_of cover kept time =
     else if group cover time == 0 then Drop
     else if is_same_group cover kept time then Merge
     else Keep
-
--- the time of the last record that stays, after one of this fate
-abbrev pub mark_after : Option ℕ → ℕ → Fate → Option ℕ
-mark_after kept time Keep = Some time
-mark_after kept time Merge = kept
-mark_after kept time Drop = kept
-
--- what becomes of the records of a chain, by their times, newest first
-abbrev pub fates_of : Cover → Option ℕ → List ℕ → List Fate
-fates_of cover kept [] = []
-fates_of cover kept (time ∷ times) = fate_of cover kept time ∷ fates_of cover (mark_after kept time (fate_of cover kept time)) times
 
 -- the first start, or the next time where there is none
 abbrev pub watermark_of : Cover → ℕ

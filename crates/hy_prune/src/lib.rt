@@ -6,8 +6,8 @@
 //! become one.
 #![tactic(auto)]
 
-ghost use Rattle.std.specs.Prelude.{◌≡◌, ℕ, length};
-ghost use Rattle.hy_prune.specs.Fates.{group, fate_of, fates_of, watermark_of};
+ghost use Rattle.std.specs.Prelude.{◌≡◌};
+ghost use Rattle.hy_prune.specs.Fates.{group, fate_of, watermark_of};
 
 mod active;
 mod starts;
@@ -63,23 +63,6 @@ pub fn fate_behind(kept: Option<u64>, time: u64, cover: &Cover) -> Fate
     match kept {
         Some(newer) if newer < cover.next && count_below(cover, newer) == below => Fate::Merge,
         _ => Fate::Keep,
-    }
-}
-
-/// The fates of the records of a chain, whose times stand newest first. They are put into `fates`, one for
-/// each time.
-pub fn plan(times: &[u64], cover: &Cover, fates: &mut [Fate])
-    requires { length fates.old ≡ length times.now }
-    ensures { fates.new ≡ fates_of cover.now None times.now }
-{
-    let mut kept = None;
-    for i in 0..times.len() {
-        let time = times[i];
-        let now = fate_behind(kept, time, cover);
-        fates[i] = now;
-        if now == Fate::Keep {
-            kept = Some(time);
-        }
     }
 }
 

@@ -17,7 +17,7 @@ pub struct Versioned {
 }
 
 impl Versioned {
-    ghost use Rattle.hy_range.specs.Ranges.{empty, widened, between};
+    ghost use Rattle.hy_range.specs.Ranges.{empty, widened};
 
     /// No positions.
     pub fn none() -> Versioned
@@ -46,14 +46,6 @@ impl Versioned {
     {
         self.first = 0;
         self.end = 0;
-    }
-
-    /// Makes it the range of these positions, from `first` up to, and without, `end`.
-    pub fn shrink(&mut self, first: u32, end: u32)
-        ensures { self.new ≡ between first end }
-    {
-        self.first = first;
-        self.end = end;
     }
 }
 

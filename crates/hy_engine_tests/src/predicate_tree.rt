@@ -4,7 +4,7 @@ use hy_bound::{Pred, Record};
 use hy_given::{compare, pair};
 use hy_journal::Entry;
 use hy_stamp::Label;
-use hy_validate::{Invalid, Tree, ValidateError, validate};
+use hy_validate::{Invalid, Tree, validate_with};
 use hy_value::{Change, Cmp, ColMask, Row, Seq};
 use std::test::Fail;
 
@@ -83,14 +83,12 @@ fn an_entry_is_validated_by_columns(rt: HostRuntime) -> Result<(), Fail> {
         number: 0,
     };
     for (columns, wanted) in [
-        (
-            ColMask::none().with(0).with(1),
-            Err(ValidateError::Invalid(hit)),
-        ),
+        (ColMask::none().with(0).with(1), Err(hit)),
         (ColMask::none().with(0), Ok(())),
     ] {
         let records = vec![in alloc; read(compare(alloc, 0, Cmp::Eq, 1)?, columns)]?;
-        assert_eq!(rt; validate(alloc, &records, &entries), wanted);
+        let tree = Tree::build(alloc, &records)?;
+        assert_eq!(rt; validate_with(&tree, &entries), wanted);
     }
     Ok(())
 }

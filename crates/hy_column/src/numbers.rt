@@ -1,7 +1,6 @@
 //! Columns of numbers.
 
 ghost use Rattle.std.specs.Prelude.{◌≡◌, ℕ, ℤ, pos, ◌<◌, Some, None, IfOk, length, map, replicate, slice_index_or, slice_set, vec_len};
-ghost use Rattle.hy_column.specs.Numbers.{is_null};
 ghost use Rattle.hy_column.specs.Compared.{compares_number};
 
 use hy_kernel::Mask;
@@ -89,13 +88,6 @@ impl IntColumn {
             → slice_index_or result.now place (pos 0) ≡ number }
     {
         self.values.as_slice()
-    }
-
-    /// Whether NULL is at each place.
-    pub fn nulls(&self) -> &Mask
-        ensures { result.now ≡ map is_null self.now }
-    {
-        &self.nulls
     }
 
     /// Whether a comparison with a number is true of what is at each place. Err is for want of memory.

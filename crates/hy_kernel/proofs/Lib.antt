@@ -1,5 +1,4 @@
 pub mod Joining
 pub mod Packs
-pub mod Counts
 pub mod Listed
 mod Lanes

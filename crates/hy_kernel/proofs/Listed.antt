@@ -1,12 +1,11 @@
 -- The bits of words as a list.
-use Rattle.std.proofs.Common.{◌≡◌, ◌≢◌, ℕ, zero, suc, ◌+◌, ◌-◌, ◌*◌, ◌/◌, ◌%◌, ◌<◌, ◌≤◌, Bool, true, false, List, [], ◌∷◌, length, map, replicate, get_or, refl, sym, ap, ◌∙◌, cond, arith, inl, inr, subst}
-use Rattle.std.specs.Prelude.{◌==◌, not, count_by, if◌then◌else◌}
+use Rattle.std.proofs.Common.{◌≡◌, ◌≢◌, ℕ, zero, suc, ◌+◌, ◌-◌, ◌/◌, ◌%◌, ◌<◌, ◌≤◌, Bool, false, List, [], ◌∷◌, length, map, replicate, get_or, refl, sym, ap, ◌∙◌, arith, inl, inr, subst}
+use Rattle.std.specs.Prelude.{◌==◌, not, if◌then◌else◌}
 use Rattle.std.specs.List.{range_with_len}
 use Rattle.std.specs.Int.{bit_at}
 use Rattle.std.proofs.Math.ListN.{set}
 use Rattle.std.proofs.lemmas.Bool.{cases_eq, eq-eqb, ne_eqb}
 use Rattle.std.proofs.lemmas.List.{length-map, ext_get_or, get_or-set_same, get_or-set_other}
-use Rattle.std.proofs.lemmas.List.Sums.{sum_by-append, sum_by-cons}
 use Rattle.std.proofs.lemmas.List.FromFn.{length-range_with_len}
 use Rattle.std.proofs.lemmas.Nat.Bits.{bit_at-zero}
 use Rattle.std.specs.Vec.{with_items}
@@ -14,8 +13,12 @@ use Rattle.std.specs.Global.{Vec}
 use Rattle.std.proofs.lemmas.List.{with_items_is}
 use lib.Lanes.{zip2}
 use Rattle.std.proofs.lemmas.Simd.{get_or-zip2, length-zip2}
-use Rattle.hy_kernel.specs.Bits.{is_bit, bits_below, count_set, Lies}
-use Rattle.hy_kernel.proofs.Counts.{get_mapped, range_split}
+use Rattle.hy_kernel.specs.Bits.{is_bit, bits_below, Lies}
+
+get_mapped : (f : ℕ → Bool) (a n i : ℕ) → i < n → get_or (map f (range_with_len a n)) i false ≡ f (a + i)
+get_mapped f a zero i l = absurd (omega arith)
+get_mapped f a (suc n) zero l = ap f (let e : a ≡ a + 0 = omega arith in e)
+get_mapped f a (suc n) (suc i) l = get_mapped f (a + 1) n i (omega arith) ∙ ap f (let e : a + 1 + i ≡ a + suc i = omega arith in e)
 
 pub length_below : (n : ℕ) (words : List ℕ) → length (bits_below n words) ≡ n
 length_below n words = length-map (range_with_len 0 n) (is_bit words) ∙ length-range_with_len 0 n
@@ -85,52 +88,6 @@ joined_length f n m words others xs ys e g size =
 -- as many bits in two masks
 pub as_many : (n m : ℕ) (words others : List ℕ) (xs ys : List Bool) → bits_below n words ≡ xs → bits_below m others ≡ ys → length ys ≡ length xs → m ≡ n
 as_many n m words others xs ys e g same = sym (ap length (sym g) ∙ length_below m others) ∙ (same ∙ (ap length (sym e) ∙ length_below n words))
-
-count_none : (f : ℕ → Bool) (a n : ℕ) → ((i : ℕ) → i < n → f (a + i) ≡ false) → count_by f (range_with_len a n) ≡ 0
-count_none f a zero none = refl
-count_none f a (suc n) none =
-    let here : f a ≡ false = ap f (let e : a ≡ a + 0 = omega arith in e) ∙ none 0 (omega arith) in
-    let rest = count_none f (a + 1) n (λ i l. ap f (let e : a + 1 + i ≡ a + suc i = omega arith in e) ∙ none (suc i) (omega (arith, l))) in
-    let first = sum_by-cons (λ x. cond (f x) 1 0) a (range_with_len (a + 1) n) in
-    let zero_is : ◌≡◌ {A = ℕ} (cond (f a) 1 0) 0 = ap (λ (t : Bool). cond t 1 0) here in
-    omega (arith, rest, first, zero_is)
-
-count_mapped : (f : ℕ → Bool) (xs : List ℕ) → count_by (λ b. b) (map f xs) ≡ count_by f xs
-count_mapped f [] = refl
-count_mapped f (x ∷ xs) =
-    let rest = count_mapped f xs in
-    let first = sum_by-cons (λ y. cond (f y) 1 0) x xs in
-    let second = sum_by-cons (λ (b : Bool). cond b 1 0) (f x) (map f xs) in
-    omega (arith, rest, first, second)
-
--- the bits that are set are set in the list
-pub counted : (n : ℕ) (words : List ℕ) → Lies n words → count_set words ≡ count_by (λ b. b) (bits_below n words)
-counted n words lies =
-    let size = lies.size in
-    let more = 64 * length words - n in
-    let all : 64 * length words ≡ n + more = omega (arith, size) in
-    let parts = range_split 0 n more in
-    let split = sum_by-append (λ i. cond (is_bit words i) 1 0) (range_with_len 0 n) (range_with_len (0 + n) more) in
-    let none = count_none (is_bit words) (0 + n) more (λ i l. lies.clear (0 + n + i) (omega arith)) in
-    let whole : count_set words ≡ count_by (is_bit words) (range_with_len 0 n) + count_by (is_bit words) (range_with_len (0 + n) more) =
-    ap (λ (k : ℕ). count_by (is_bit words) (range_with_len 0 k)) all ∙ (ap (count_by (is_bit words)) parts ∙ split) in
-    let listed_count = count_mapped (is_bit words) (range_with_len 0 n) in
-    omega (arith, whole, none, listed_count)
-
-count_few : (xs : List Bool) → count_by (λ b. b) xs ≤ length xs
-count_few [] = omega arith
-count_few (b ∷ xs) =
-    let rest = count_few xs in
-    let first = sum_by-cons (λ (c : Bool). cond c 1 0) b xs in
-    let most : cond b 1 0 ≤ 1 = elim b as (λ (c : Bool). cond c 1 0 ≤ 1) [ true ↦ omega arith | false ↦ omega arith ] in
-    omega (arith, rest, first, most)
-
-pub few_set : (n : ℕ) (words : List ℕ) → Lies n words → count_set words ≤ n
-few_set n words lies =
-    let e = counted n words lies in
-    let few = count_few (bits_below n words) in
-    let len = length_below n words in
-    omega (arith, e, few, len)
 
 -- one bit of one word is another
 pub one_set : (words : List ℕ) (place word : ℕ) (bit : Bool) → place / 64 < length words

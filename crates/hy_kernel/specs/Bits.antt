@@ -1,5 +1,5 @@
 -- The bits of a mask that lies in words of 64.
-use Rattle.std.specs.Prelude.{◌≡◌, ◌≤◌, ◌+◌, false, ℕ, ℤ, ◌*◌, ◌/◌, ◌%◌, List, Bool, ◌==◌, map, length, count_by, slice_index}
+use Rattle.std.specs.Prelude.{◌≡◌, ◌≤◌, ◌+◌, false, ℕ, ℤ, ◌/◌, ◌%◌, List, Bool, ◌==◌, map, length, slice_index}
 use Rattle.std.specs.List.{range_with_len}
 use Rattle.std.specs.Int.{bit_at}
 use Rattle.std.specs.Ordering.{int_cmp}
@@ -17,10 +17,6 @@ compares op right value = holds_at op (int_cmp value right)
 -- the first bits, as a list
 abbrev pub bits_below : ℕ → List ℕ → List Bool
 bits_below count words = map (is_bit words) (range_with_len 0 count)
-
--- how many bits are set
-abbrev pub count_set : List ℕ → ℕ
-count_set words = count_by (is_bit words) (range_with_len 0 (64 * length words))
 
 -- so many bits lie in words, with none set behind them
 pub record Lies (count : ℕ) (words : List ℕ) : Type 0 where

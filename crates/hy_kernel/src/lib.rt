@@ -8,4 +8,4 @@ mod masks;
 mod words;
 
 pub use masks::Mask;
-pub use words::{and, compare, count, not, or};
+pub use words::compare;

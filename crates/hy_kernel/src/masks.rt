@@ -1,7 +1,7 @@
 //! Masks: one bit for each of some places.
 
 ghost use Rattle.std.specs.Prelude.{◌≡◌, ◌≢◌, ℕ, ◌<◌, ◌==◌, ◌&&◌, ◌||◌, length, map, not as negated};
-ghost use Rattle.std.specs.Prelude.{false, IfOk, replicate, count_by, slice_index_or, slice_set};
+ghost use Rattle.std.specs.Prelude.{false, IfOk, replicate, slice_index_or, slice_set};
 ghost use lib.Lanes.{zip2};
 ghost use Rattle.std.specs.Int.{bit_at};
 ghost use Rattle.hy_kernel.specs.Bits.{compares};
@@ -106,13 +106,5 @@ impl Mask {
     {
         let bits = self.bits;
         words::not(self.words.as_mut_slice(), bits);
-    }
-
-    /// How many bits are set.
-    pub fn count(&self) -> usize
-        ensures { result ≡ count_by (λ bit. bit) self.now }
-    {
-        let _bits = self.bits;
-        words::count(self.words.as_slice())
     }
 }

@@ -6,7 +6,7 @@ ghost use Rattle.std.specs.Prelude.{false, FitsSigned};
 ghost use Rattle.std.specs.Int.{w64};
 ghost use Rattle.std.specs.List.{All};
 ghost use lib.Lanes.{mask_l};
-ghost use Rattle.hy_kernel.specs.Bits.{is_bit, compares, count_set};
+ghost use Rattle.hy_kernel.specs.Bits.{is_bit, compares};
 
 use hy_value::Cmp;
 use std::simd::prelude::*;
@@ -134,16 +134,4 @@ pub fn not(into: &mut [u64], bits: usize)
         into[k] = !into[k] & low_ones(now);
         left -= now;
     }
-}
-
-/// How many bits are set.
-pub fn count(mask: &[u64]) -> usize
-    requires { count_set mask.now < 2 ^ 64 }
-    ensures { result ≡ count_set mask.now }
-{
-    let mut total = 0;
-    for word in mask {
-        total += word.count_ones() as usize;
-    }
-    total
 }

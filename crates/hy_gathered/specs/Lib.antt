@@ -7,4 +7,3 @@ pub mod Unasked
 pub mod GroupPlans
 pub mod GroupLaws
 pub mod Answers
-pub mod Parts

@@ -1,13 +1,12 @@
-//! GROUP BY: what is gathered of the table for it, and its reply from the rows that were gathered.
+//! GROUP BY: what is gathered of the table for it.
 
 ghost use Rattle.std.specs.Prelude.{◌≡◌, ◌∷◌, ◌++◌, IfOk};
 ghost use Rattle.hy_bound.specs.Records.{columns_of, columns_summed, shape_of};
 ghost use Rattle.hy_plan.specs.ColumnSets.{named_columns};
-ghost use Rattle.hy_gathered.specs.GroupPlans.{group_plan_for, groups_told};
+ghost use Rattle.hy_gathered.specs.GroupPlans.{group_plan_for};
 
-use crate::{Grouping, Tally};
-use hy_bound::{Aggregate, Bound, Pred, Reply, Shape, table_shape};
-use hy_plan::{Gathered, PlanPart, Read, reads};
+use hy_bound::{Aggregate, Bound, Pred, Shape, table_shape};
+use hy_plan::{PlanPart, Read, reads};
 use hy_value::ColMask;
 use std::alloc::{AllocError, Global};
 
@@ -80,26 +79,4 @@ fn looked_at(
         [read] => Ok(read.columns),
         _ => unreachable!(),
     }
-}
-
-/// The reply to a SELECT with GROUP BY of this plan, from the rows that were gathered for it. These have the
-/// values in the part's columns, in column order.
-pub fn answer_groups(
-    alloc: Global,
-    plan: &GroupPlan,
-    gathered: &Gathered,
-) -> Result<Reply, AllocError>
-    ensures { IfOk result (λ reply. reply ≡ groups_told plan.now gathered.now.rows) }
-{
-    let grouping = Grouping {
-        columns: plan.part.columns,
-        width: plan.part.width,
-        key: plan.key,
-        aggregate: plan.aggregate,
-    };
-    // There are fewer than 2^64 rows.
-    let _rows = gathered.len();
-    let mut tally = Tally::new(alloc);
-    grouping.add_rows(alloc, gathered, &mut tally)?;
-    Ok(Reply::Groups(tally.into_groups(alloc)?))
 }

@@ -2,16 +2,13 @@
 //! BY: what is gathered of the table for it, and its reply from the rows that were gathered.
 #![tactic(auto)]
 
-mod answers;
 mod group_plans;
 mod laws;
-mod part;
 mod pieces;
 mod sums;
 mod tally;
 
-pub use answers::answer;
-pub use group_plans::{GroupPlan, answer_groups, plan_group};
+pub use group_plans::{GroupPlan, plan_group};
 pub use laws::{gathered_groups_answer, gathered_groups_read};
 pub use pieces::Pieces;
 pub use sums::{PartColumn, count_columns};

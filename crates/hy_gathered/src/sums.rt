@@ -118,7 +118,12 @@ impl PartColumn {
     }
 
     /// What the value in a row adds to a sum. Err is for want of memory.
-    pub fn added(self, alloc: Global, piece: &Gathered, index: usize) -> Result<i128, AllocError>
+    pub(crate) fn added(
+        self,
+        alloc: Global,
+        piece: &Gathered,
+        index: usize,
+    ) -> Result<i128, AllocError>
         requires { index < length piece.now.rows }
         ensures value { IfOk result (λ sum. sum ≡ added_of (value_in self (slice_index_or piece.now.rows index []))) }
         ensures small { IfOk result (λ sum. unsigned_abs sum ≤ 2 ^ 63) }

@@ -43,7 +43,7 @@ pub struct KeyValues {
 }
 
 /// The rows of a table of which a part's condition is true and that have one of the keys, by the part's columns.
-pub fn gather_part(
+fn gather_part(
     alloc: Global,
     part: &PlanPart,
     keys: Option<KeyValues>,
@@ -126,7 +126,7 @@ fn column_of(alloc: Global, rows: &[Row], column: u32) -> Result<Row, AllocError
 }
 
 /// What was gathered for a part, as rows of its table: NULL in the other columns.
-pub fn spread(alloc: Global, part: &PlanPart, gathered: &Gathered) -> Result<Rows, AllocError> {
+fn spread(alloc: Global, part: &PlanPart, gathered: &Gathered) -> Result<Rows, AllocError> {
     let mut rows = Seq::new(alloc);
     for index in 0..gathered.len() {
         let mut row = Seq::new(alloc);

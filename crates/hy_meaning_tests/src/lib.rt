@@ -1,6 +1,6 @@
-//! The tests of what statements mean and read: transactions that run alone, answers, their text, changes that hit reads;
-//! the records of reads, key by key, plans, and joins of gathered rows; and plans tried on random tables, where what is
-//! answered from the rows that an engine gathers is what is answered from the whole tables, and so are the records.
+//! The tests of what statements mean and read: answers, changes that hit reads; the records of reads, key by key, and
+//! plans; and plans tried on random tables, where what is answered from the rows that an engine gathers is what is
+//! answered from the whole tables, and so are the records.
 #![tactic(auto)]
 
 #[cfg(test)]

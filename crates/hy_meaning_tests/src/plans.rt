@@ -1,11 +1,10 @@
-//! Plans of SELECTs, the log of reads, and joins of gathered rows.
+//! Plans of SELECTs, and the log of reads.
 
-use hy_bound::{Items, On, Pred, Query, Record, Reply, Shape, truth};
-use hy_gathered::answer;
+use hy_bound::{Bound, Items, On, Pred, Record, Shape, truth};
 use hy_given::{compare, pair, row};
-use hy_plan::{Gathered, Plan, ReadLog, plan_query};
-use hy_value::{Cmp, ColMask, Seq, Value};
-use std::alloc::{AllocError, Global};
+use hy_plan::{Plan, ReadLog, plan_statement};
+use hy_value::{Cmp, ColMask, Seq};
+use std::alloc::Global;
 use std::test::Fail;
 
 /// acc (id INT PRIMARY KEY, bal INT) and own (aid INT, tag INT).
@@ -21,15 +20,17 @@ const ACC_AND_OWN: [Shape; 2] = [
 ];
 
 /// The plan of SELECT of these columns FROM the two tables, where ON is id = aid.
-fn plan(alloc: Global, tables: &[u32], pred: &Pred, columns: &[u32]) -> Result<Plan, AllocError> {
-    let items = Items::Columns(Seq::from_slice(alloc, columns)?);
-    let query = Query {
-        tables,
-        ons: &[On { left: 0, right: 2 }],
+fn plan(alloc: Global, tables: &[u32], pred: Pred, columns: &[u32]) -> Result<Plan, Fail> {
+    let select = Bound::Select {
+        tables: Seq::from_slice(alloc, tables)?,
+        ons: Seq::from_slice(alloc, &[On { left: 0, right: 2 }])?,
         pred,
-        items: &items,
+        items: Items::Columns(Seq::from_slice(alloc, columns)?),
     };
-    plan_query(alloc, &ACC_AND_OWN, &query)
+    match plan_statement(alloc, &ACC_AND_OWN, &select)? {
+        Some(plan) => Ok(plan),
+        None => Err(Fail::from("a SELECT has a plan")),
+    }
 }
 
 #[test]
@@ -37,7 +38,7 @@ fn a_plan_splits_what_is_asked(rt: HostRuntime) -> Result<(), Fail> {
     let alloc = rt.alloc();
     let rich = compare(alloc, 1, Cmp::Ge, 100)?;
     let untagged = compare(alloc, 3, Cmp::Ne, 20)?;
-    let plan = plan(alloc, &[0, 1], &Pred::and(alloc, rich, untagged)?, &[3, 1])?;
+    let plan = plan(alloc, &[0, 1], Pred::and(alloc, rich, untagged)?, &[3, 1])?;
     let [acc, own] = plan.parts.as_slice() else {
         return Err(Fail::from("two tables have two parts"));
     };
@@ -60,7 +61,7 @@ fn a_plan_splits_what_is_asked(rt: HostRuntime) -> Result<(), Fail> {
 
 #[test]
 fn a_table_is_looked_up_by_its_key(rt: HostRuntime) -> Result<(), Fail> {
-    let plan = plan(rt.alloc(), &[1, 0], &Pred::always(), &[1, 3])?;
+    let plan = plan(rt.alloc(), &[1, 0], Pred::always(), &[1, 3])?;
     let [own, acc] = plan.parts.as_slice() else {
         return Err(Fail::from("two tables have two parts"));
     };
@@ -83,27 +84,5 @@ fn a_log_takes_what_it_has_room_for(rt: HostRuntime) -> Result<(), Fail> {
         return Err(Fail::from("one push gives one record"));
     };
     assert_eq!(rt; (of.statement, of.table), (7, 2));
-    Ok(())
-}
-
-#[test]
-fn gathered_rows_are_joined(rt: HostRuntime) -> Result<(), Fail> {
-    let alloc = rt.alloc();
-    // Of acc the column id alone is named.
-    let mut acc = Gathered::new(alloc, 1)?;
-    acc.push(&[Value::Int(2)])?;
-    acc.push(&[Value::Int(1)])?;
-    let mut own = Gathered::new(alloc, 2)?;
-    own.push(&[Value::Int(2), Value::Int(20)])?;
-    own.push(&[Value::Int(1), Value::Int(10)])?;
-    let plan = plan(alloc, &[0, 1], &Pred::always(), &[3])?;
-    let Reply::Rows(rows) = answer(alloc, &plan, &[acc, own])? else {
-        return Err(Fail::from("columns are answered by rows"));
-    };
-    let [first, second] = rows.as_slice() else {
-        return Err(Fail::from("two rows have their equals"));
-    };
-    assert!(rt; first.as_slice() == [Value::Int(10)].as_slice());
-    assert!(rt; second.as_slice() == [Value::Int(20)].as_slice());
     Ok(())
 }

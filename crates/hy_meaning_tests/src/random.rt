@@ -4,7 +4,6 @@ ghost use Rattle.std.specs.Prelude.{◌<◌, ◌≤◌};
 
 use hy_bound::{Aggregate, Bound, Items, On, Pred, Rows, Shape, Shapes, Side};
 use hy_given::Random;
-use hy_meaning::Tables;
 use hy_value::{Cmp, Row, Seq, Text, Value};
 use std::alloc::{AllocError, Global};
 
@@ -41,7 +40,7 @@ fn rows(alloc: Global, random: &mut Random) -> Result<Rows, AllocError> {
 }
 
 /// The tables.
-pub fn tables(alloc: Global, random: &mut Random) -> Result<Tables, AllocError> {
+pub fn tables(alloc: Global, random: &mut Random) -> Result<Seq<Rows>, AllocError> {
     let mut tables = Seq::new(alloc);
     for _table in 0..TABLES {
         tables.push(rows(alloc, random)?)?;

@@ -1,15 +1,17 @@
 //! SELECTs that are answered from what is gathered for their plans and from their whole tables.
 
-use crate::gather::{gather, gather_part, rows_of, spread};
+use crate::gather::{gather, rows_of};
 use crate::random::{group, select, shapes, tables};
 use hy_bound::{
-    Bound, Grouped, Items, On, Pred, Record, Records, Reply, Rows, Shape, Shapes, truth,
+    Aggregate, Bound, Grouped, Groups, Items, On, Pred, Record, Records, Reply, Rows, Shape,
+    Shapes, column_value, truth,
 };
-use hy_gathered::{answer, answer_groups, plan_group};
+use hy_gathered::Pieces;
 use hy_given::Random;
-use hy_meaning::{Tables, copy_rows};
-use hy_plan::{Gathered, Plan, PlanPart, plan_statement, records};
-use hy_value::{Row, Seq, Value};
+use hy_meaning::answer_joined;
+use hy_plan::{Gathered, PlanPart, plan_statement, records};
+use hy_value::{Row, Seq, Value, ValueSet, copy_row};
+use hy_visit::{Found, Reader, part_rows, reader_of};
 use std::alloc::{AllocError, Global};
 use std::test::Fail;
 
@@ -19,7 +21,7 @@ struct Case {
     /// The shapes of the tables.
     shapes: Shapes,
     /// Their rows.
-    tables: Tables,
+    tables: Seq<Rows>,
     /// The SELECT.
     select: Bound,
 }
@@ -52,57 +54,118 @@ fn random_select(alloc: Global, random: &mut Random) -> Result<Case, AllocError>
     })
 }
 
-/// Whether a SELECT without groups has the same reply and the same records from what is gathered for its plan as
-/// from its whole tables.
+/// Whether a SELECT has the same reply and the same records from what is gathered for its plan as from its whole
+/// tables.
 fn select_agrees(alloc: Global, case: &Case) -> Result<bool, AllocError> {
-    let Some(plan) = plan_statement(alloc, case.shapes.as_slice(), &case.select)? else {
-        return Ok(false);
+    let reader = reader_for(alloc, case)?;
+    let parts = reader.parts.as_slice();
+    let gathered = pieces(alloc, gather(alloc, parts, case.tables.as_slice())?)?;
+    let found = Found {
+        gathered: gathered.as_slice(),
+        fresh: None,
     };
-    let gathered = gather(alloc, plan.parts.as_slice(), case.tables.as_slice())?;
-    Ok(
-        reply_agrees(alloc, case, &plan, gathered.as_slice())?
-            && records_agree(alloc, case, plan.parts.as_slice(), gathered.as_slice())?,
-    )
+    let rows = part_rows(alloc, parts, found)?;
+    let whole = whole(alloc, parts, case.tables.as_slice())?;
+    let reply = reader.reply(alloc, rows.as_slice())?;
+    if !are_same(&reply, &whole_reply(alloc, case, whole.as_slice())?) {
+        return Ok(false);
+    }
+    let told = reader.rows_logged(alloc, rows.as_slice())?;
+    let all = logged(alloc, case, told.as_slice())?;
+    let wanted = logged(alloc, case, whole.as_slice())?;
+    Ok(are_same_records(all.as_slice(), wanted.as_slice(), case.tables.as_slice()))
 }
 
-/// Whether the reply is the same.
-fn reply_agrees(
-    alloc: Global,
-    case: &Case,
-    plan: &Plan,
-    gathered: &[Gathered],
-) -> Result<bool, AllocError> {
-    let wanted = whole_answer(alloc, case, plan.parts.as_slice())?;
-    Ok(are_same(&answer(alloc, plan, gathered)?, &wanted))
+/// How the SELECT is run.
+fn reader_for(alloc: Global, case: &Case) -> Result<Reader, AllocError> {
+    let shapes = case.shapes.as_slice();
+    match &case.select {
+        Bound::Select { .. } => reader_of(alloc, shapes, &case.select),
+        Bound::Group { .. } => reader_of(alloc, shapes, &case.select),
+        _ => Err(AllocError),
+    }
+}
+
+/// What was gathered of each table, as its only piece.
+fn pieces(alloc: Global, gathered: Vec<Gathered>) -> Result<Vec<Pieces>, AllocError> {
+    let mut all = Vec::new(alloc);
+    for piece in gathered {
+        let mut pieces = Pieces::new(alloc);
+        pieces.add(piece)?;
+        all.push(pieces)?;
+    }
+    Ok(all)
 }
 
 /// The reply from the whole tables.
-fn whole_answer(alloc: Global, case: &Case, parts: &[PlanPart]) -> Result<Reply, AllocError> {
-    let Bound::Select {
-        tables: _,
-        ons,
-        pred,
-        items,
-    } = &case.select
-    else {
-        return Err(AllocError);
-    };
-    let whole = whole(alloc, parts, case.tables.as_slice())?;
-    hy_meaning::answer(alloc, ons.as_slice(), pred, items, whole.as_slice())
+fn whole_reply(alloc: Global, case: &Case, whole: &[Rows]) -> Result<Reply, AllocError> {
+    match &case.select {
+        Bound::Select {
+            tables: _,
+            ons,
+            pred,
+            items,
+        } => answer_joined(alloc, ons.as_slice(), pred, items, whole),
+        Bound::Group {
+            table,
+            pred,
+            key,
+            aggregate,
+        } => {
+            let rows = rows_of(case.tables.as_slice(), *table);
+            Ok(Reply::Groups(whole_groups(alloc, pred, *key, *aggregate, rows)?))
+        }
+        _ => Err(AllocError),
+    }
 }
 
-/// Whether the records are the same.
-fn records_agree(
+/// The groups of the rows of which a condition is true, in ascending order of the key's values.
+fn whole_groups(
     alloc: Global,
-    case: &Case,
-    parts: &[PlanPart],
-    gathered: &[Gathered],
-) -> Result<bool, AllocError> {
-    let whole = whole(alloc, parts, case.tables.as_slice())?;
-    let wanted = logged(alloc, case, whole.as_slice())?;
-    let spread = spread_all(alloc, parts, gathered)?;
-    let all = logged(alloc, case, spread.as_slice())?;
-    Ok(are_same_records(all.as_slice(), wanted.as_slice(), case.tables.as_slice()))
+    pred: &Pred,
+    key: u32,
+    aggregate: Aggregate,
+    rows: &[Row],
+) -> Result<Groups, AllocError> {
+    let mut groups = Seq::new(alloc);
+    for value in values_of(alloc, pred, key, rows)? {
+        let total = total_at(pred, key, aggregate, rows, &value);
+        groups.push(Grouped { value, total })?;
+    }
+    Ok(groups)
+}
+
+/// The different values of the key in the rows of which a condition is true, ascending.
+fn values_of(alloc: Global, pred: &Pred, key: u32, rows: &[Row]) -> Result<Vec<Value>, AllocError> {
+    let mut values = ValueSet::new(alloc);
+    for row in rows {
+        if truth(pred, row) {
+            values.insert(column_value(row, key))?;
+        }
+    }
+    values.into_vec(alloc)
+}
+
+/// What the rows come to that have this value of the key, and of which a condition is true.
+fn total_at(pred: &Pred, key: u32, aggregate: Aggregate, rows: &[Row], value: &Value) -> i128 {
+    let mut total = 0i128;
+    for row in rows {
+        if truth(pred, row) && column_value(row, key) == *value {
+            total = total.wrapping_add(amount(aggregate, row));
+        }
+    }
+    total
+}
+
+/// What a row adds to the total of its group.
+fn amount(aggregate: Aggregate, row: &Row) -> i128 {
+    match aggregate {
+        Aggregate::Count => 1,
+        Aggregate::Sum(column) => match column_value(row, column) {
+            Value::Int(number) => i128::from(number),
+            _ => 0,
+        },
+    }
 }
 
 /// What the SELECT logs, its tables having these rows.
@@ -111,23 +174,19 @@ fn logged(alloc: Global, case: &Case, rows: &[Rows]) -> Result<Records, AllocErr
 }
 
 /// The rows of the parts' tables.
-fn whole(alloc: Global, parts: &[PlanPart], tables: &[Rows]) -> Result<Tables, AllocError> {
+fn whole(alloc: Global, parts: &[PlanPart], tables: &[Rows]) -> Result<Seq<Rows>, AllocError> {
     let mut all = Seq::new(alloc);
     for part in parts {
-        all.push(Seq::from_vec(copy_rows(alloc, rows_of(tables, part.table))?))?;
+        all.push(copies(alloc, rows_of(tables, part.table))?)?;
     }
     Ok(all)
 }
 
-/// What was gathered for the parts, as rows of their tables.
-fn spread_all(
-    alloc: Global,
-    parts: &[PlanPart],
-    gathered: &[Gathered],
-) -> Result<Tables, AllocError> {
+/// Copies of rows.
+fn copies(alloc: Global, rows: &[Row]) -> Result<Rows, AllocError> {
     let mut all = Seq::new(alloc);
-    for (part, rows) in parts.iter().zip(gathered) {
-        all.push(spread(alloc, part, rows)?)?;
+    for row in rows {
+        all.push(copy_row(alloc, row)?)?;
     }
     Ok(all)
 }
@@ -193,7 +252,7 @@ fn gathered_rows_are_enough_for_groups(rt: HostRuntime) -> Result<(), Fail> {
 /// Whether the next SELECT with GROUP BY agrees.
 fn next_groups_agree(alloc: Global, random: &mut Random) -> Result<bool, AllocError> {
     let case = random_group(alloc, random)?;
-    groups_agree(alloc, &case)
+    select_agrees(alloc, &case)
 }
 
 /// A SELECT with GROUP BY.
@@ -206,32 +265,6 @@ fn random_group(alloc: Global, random: &mut Random) -> Result<Case, AllocError> 
         tables,
         select,
     })
-}
-
-/// Whether a SELECT with GROUP BY has the same reply from what is gathered for its plan as from its whole table.
-fn groups_agree(alloc: Global, case: &Case) -> Result<bool, AllocError> {
-    let Some(plan) = plan_group(alloc, case.shapes.as_slice(), &case.select)? else {
-        return Ok(false);
-    };
-    let rows = rows_of(case.tables.as_slice(), plan.part.table);
-    let gathered = gather_part(alloc, &plan.part, None, rows)?;
-    let reply = answer_groups(alloc, &plan, &gathered)?;
-    Ok(are_same(&reply, &whole_groups(alloc, case)?))
-}
-
-/// The groups of the whole table.
-fn whole_groups(alloc: Global, case: &Case) -> Result<Reply, AllocError> {
-    let Bound::Group {
-        table,
-        pred,
-        key,
-        aggregate,
-    } = &case.select
-    else {
-        return Err(AllocError);
-    };
-    let rows = rows_of(case.tables.as_slice(), *table);
-    hy_meaning::group(alloc, pred, *key, *aggregate, rows)
 }
 
 #[test]

@@ -14,9 +14,8 @@ mod writing;
 
 pub use gathering::{Found, Fresh, add_piece, found_with, gather_part, part_rows};
 pub use parts::PartRows;
-pub use pruning::{prune_first, stamp_visit, undo_visit};
+pub use pruning::{stamp_visit, undo_visit};
 pub use reader::{Reader, Told, reader_of};
-pub use reading::gather_visit;
 pub use writing::{Writer, check_visit, place_visit, write_visit};
 
 /// A chunk is pruned first as a session does it where it is pruned by the session's cover, if the session prunes.

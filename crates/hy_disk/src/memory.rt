@@ -88,13 +88,6 @@ impl MemDisk {
         self.bytes.as_slice()
     }
 
-    /// The time: how many moments there were before this one.
-    pub fn clock(&self) -> u64
-        ensures { result ≡ time_of self.now }
-    {
-        self.events.len() as u64
-    }
-
     /// The images that a crash at each moment since a time may have left, the older moments first: of
     /// each of the first four pending writes the bytes as they were, as they were written, and all 255,
     /// so 81 images of a moment at most. Of a moment's later writes the bytes are as they were written.

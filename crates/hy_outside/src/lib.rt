@@ -13,7 +13,7 @@ mod memory;
 mod pieces;
 
 pub use adapters::{StdSink, StdSource};
-pub use memory::{CleanSink, CleanSource, MemSink, MemSource};
+pub use memory::{CleanSource, MemSink, MemSource};
 use std::alloc::{AllocError, Global};
 
 /// A single read or write failed.

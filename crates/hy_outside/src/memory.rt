@@ -1,5 +1,5 @@
 //! A source and a sink over bytes in memory, of which single calls can be made to fail.
-ghost use Rattle.std.specs.Prelude.{◌≡◌, ℕ, ◌+◌, ◌-◌, ◌^◌, ◌<◌, ◌≤◌, ◌↔◌, ◌++◌, ◌⊎◌, List, [], min, length, take, drop, Some, None, Ok, IsOk, IsErr};
+ghost use Rattle.std.specs.Prelude.{◌≡◌, ℕ, ◌-◌, ◌^◌, ◌<◌, ◌≤◌, ◌↔◌, ◌++◌, ◌⊎◌, List, [], min, length, take, drop, Some, IsOk, IsErr};
 ghost use Rattle.std.specs.Prelude.{IfOk, OnOk, OnErr, Contains};
 ghost use Rattle.std.specs.Io.{ReadsAtMost};
 ghost use Rattle.hy_outside.specs.Faults.{one_more};
@@ -202,49 +202,5 @@ impl Sink for MemSink {
         let count = left.min(from.len());
         self.bytes.extend_from_slice(&from[..count]).unwrap();
         Ok(count)
-    }
-}
-
-/// A sink that never fails, and keeps only how many bytes came.
-#[derive(Drop)]
-pub struct CleanSink {
-    count: u64,
-}
-
-impl Model for CleanSink {
-    ghost use Rattle.std.specs.Prelude.{ℕ};
-
-    ghost Value = { ℕ };
-
-    ghost view = { λ s. s.count };
-}
-
-impl CleanSink {
-    /// A sink that no bytes have come to.
-    pub fn new() -> CleanSink
-        ensures { result ≡ 0 }
-    {
-        CleanSink { count: 0 }
-    }
-
-    /// How many bytes came. It stays at the end of a `u64`.
-    pub fn count(&self) -> u64
-        ensures { result ≡ self.now }
-    {
-        self.count
-    }
-}
-
-impl Sink for CleanSink {
-    ghost written = { λ _. None };
-
-    ghost faults = { λ _. 0 };
-
-    fn write(&mut self, from: &[u8]) -> Result<usize, Failed>
-        ensures whole { result ≡ Ok (length from.now) }
-        ensures count { self.new ≡ min (self.old + length from.now) (2 ^ 64 - 1) }
-    {
-        self.count = self.count.saturating_add(from.len() as u64);
-        Ok(from.len())
     }
 }

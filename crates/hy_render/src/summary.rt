@@ -4,7 +4,8 @@ ghost use Rattle.std.specs.Prelude.{◌≡◌, ◌++◌, ◌+◌, ◌<◌, ◌^�
 ghost use Rattle.hy_value.specs.Print.{BeginsWith};
 ghost use Rattle.hy_meaning.specs.Totals.{added_of, sum_of};
 ghost use Rattle.hy_bound.specs.Predicate.{column_of};
-ghost use Rattle.hy_render.specs.Summary.{is_committed, is_read, is_conflict, is_invalid, one_if, ended_so, balances, txns_line, ending_lines, total_line, end_line, summary_of};
+ghost use Rattle.hy_render.specs.Summary.{is_committed, is_read, is_conflict, is_invalid, one_if, ended_so};
+ghost use Rattle.hy_render.specs.Summary.{balances, txns_line, ending_lines, total_line, end_line, summary_of};
 
 use crate::{Ending, Outcome, TxnOutcome, end_with_total, print_count, print_line, put};
 use hy_bound::{Rows, column_value};

@@ -87,7 +87,8 @@ fn place_in(
     chunk: &mut Chunk,
 ) -> Result<Option<u32>, AllocError>
     requires { CanInsert visitor.now insertion.now cover.now chunk.old }
-    ensures done { IfOk result (λ answer. HasCome visitor.now insertion.now start cover.now notes.old.notes chunk.old.shown answer chunk.new.shown notes.new.notes) }
+    ensures done { IfOk result (λ answer. HasCome visitor.now insertion.now start cover.now
+        notes.old.notes chunk.old.shown answer chunk.new.shown notes.new.notes) }
     ensures short { OnOk result (visitor.now.prunes ≡ true → AllShort cover.now chunk.new.shown.places) }
     ensures kept { OnErr result (chunk.new.shown ≡ chunk.old.shown) }
     ensures notes_kept { OnErr result (notes.new.notes ≡ notes.old.notes) }
@@ -188,7 +189,8 @@ pub fn insert(
     ensures event { IfOk result (λ progress. ForVisitor visitor.now now.old now.new (λ session after.
         InsertVisit session now.old insertion.now.present.visited insertion.now.present.statement.now insertion.now.table insertion.now.row.now
         (shape_of session.shapes insertion.now.table).key chunk.old.shown progress after chunk.new.shown)) }
-    ensures short { OnOk result (ShortAt visitor.now insertion.now.present.visited (Bound.Insert insertion.now.table insertion.now.row.now) now.old.cover chunk.new.shown) }
+    ensures short { OnOk result (ShortAt visitor.now insertion.now.present.visited
+        (Bound.Insert insertion.now.table insertion.now.row.now) now.old.cover chunk.new.shown) }
     ensures kept { OnErr result (now.new ≡ now.old) }
     ensures chunk_kept { OnErr result (chunk.new.shown ≡ chunk.old.shown) }
     ensures kinds { chunk.new.kinds ≡ chunk.old.kinds }

@@ -64,7 +64,8 @@ fn write_chunk(
     chunk: &mut Chunk,
 ) -> Result<Result<u32, Refusal>, AllocError>
     requires { CanWrite visitor.now write.now cover.now chunk.old }
-    ensures done { IfOk result (λ answer. HasWritten visitor.now write.now start cover.now notes.old.notes chunk.old.shown answer chunk.new.shown notes.new.notes) }
+    ensures done { IfOk result (λ answer. HasWritten visitor.now write.now start cover.now
+        notes.old.notes chunk.old.shown answer chunk.new.shown notes.new.notes) }
     ensures short { OnOk result (visitor.now.prunes ≡ true → AllShort cover.now chunk.new.shown.places) }
     ensures kept { OnErr result (chunk.new.shown ≡ chunk.old.shown) }
     ensures notes_kept { OnErr result (notes.new.notes ≡ notes.old.notes) }

@@ -30,9 +30,10 @@ ghost use Rattle.hy_value.specs.declared.Cmp.{Cmp};
 ghost use Rattle.hy_bound.specs.declared.predicate.Side.{Side};
 
 use crate::gathering::{
-    Keys, Wanted, columns_in, conditions_gather_rows, has_in, keep, key_asked, keys_of, value_asked,
+    Sought, Wanted, columns_in, conditions_gather_rows, has_in, keep, key_asked, keys_of,
+    value_asked,
 };
-use crate::masks::{admitted, is_passed};
+use crate::masks::{Scan, admitted, is_passed};
 use crate::positions::{Part, Positions};
 use crate::writes::{is_selected, make_next, note, refusal_at};
 use hy_bound::{Pred, WriteKind};
@@ -268,29 +269,29 @@ impl Chunk {
         }
     }
 
-    /// Appends, position by position of a part, what is wanted of the rows that a viewer sees, tried at each where a mask
+    /// Appends, position by position of a scan, what is wanted of the rows that a viewer sees, tried at each where its mask
     /// does not pass it. Err is for want of memory: then only the rows that were there before are there for certain.
     fn gather_by_row(
         &mut self,
         alloc: Global,
         viewer: &Viewer,
         wanted: &Wanted,
-        mask: &Mask,
-        part: Part,
+        scan: &Scan,
         gathered: &mut Gathered,
     ) -> Result<(), AllocError>
         requires fits { (row : List Value) → FitsRow self.old.kinds row → length (projected wanted.now.columns row) ≡ gathered.old.width }
-        requires mask { Admits (conjuncts wanted.now.pred.now) self.old.shown.places mask.now }
-        requires ordered { part.first ≤ part.end }
-        requires within { part.end ≤ length self.old.shown.places }
-        ensures rows { OnOk result (gathered.new.rows ≡ gathered.old.rows ++ gathered_by wanted.now.columns
-            (conditions_of wanted.now.pred.now wanted.now.keys) (rows_seen viewer.now (part_of part.first part.end self.old.shown.places))) }
+        requires mask { Admits (conjuncts wanted.now.pred.now) self.old.shown.places scan.now.mask.now }
+        requires ordered { scan.now.part.first ≤ scan.now.part.end }
+        requires within { scan.now.part.end ≤ length self.old.shown.places }
+        ensures rows { OnOk result (gathered.new.rows ≡ gathered.old.rows
+            ++ gathered_by wanted.now.columns (conditions_of wanted.now.pred.now wanted.now.keys)
+            (rows_seen viewer.now (part_of scan.now.part.first scan.now.part.end self.old.shown.places))) }
         ensures err { OnErr result (take (length gathered.old.rows) gathered.new.rows ≡ gathered.old.rows) }
         ensures width { gathered.new.width ≡ gathered.old.width }
         ensures all { self.new ≡ self.old }
     {
-        for place in part.first..part.end {
-            if is_passed(&self.positions, place, wanted, mask) {
+        for place in scan.part.first..scan.part.end {
+            if is_passed(&self.positions, place, wanted, scan.mask) {
                 continue;
             }
             self.positions.see(place, viewer, &mut self.seen);
@@ -356,7 +357,11 @@ impl Chunk {
             end: self.positions.len(),
         };
         self.gather_plain(alloc, wanted, mask, before, gathered)?;
-        self.gather_by_row(alloc, viewer, wanted, mask, versioned, gathered)?;
+        let scan = Scan {
+            part: versioned,
+            mask,
+        };
+        self.gather_by_row(alloc, viewer, wanted, &scan, gathered)?;
         self.gather_plain(alloc, wanted, mask, behind, gathered)
     }
 
@@ -380,11 +385,12 @@ impl Chunk {
         if found.is_exact && wanted.keys.is_none() {
             return self.gather_by_mask(alloc, viewer, wanted, &found.mask, gathered);
         }
-        let all = Part {
+        let part = Part {
             first: 0,
             end: self.positions.len(),
         };
-        self.gather_by_row(alloc, viewer, wanted, &found.mask, all, gathered)
+        let mask = &found.mask;
+        self.gather_by_row(alloc, viewer, wanted, &Scan { part, mask }, gathered)
     }
 
     /// Appends, at these positions in turn, what is wanted of the rows that a viewer sees. Err is for want of memory:
@@ -510,22 +516,20 @@ impl Chunk {
         &mut self,
         alloc: Global,
         viewer: &Viewer,
-        pred: &Pred,
-        keys: Keys,
-        columns: ColMask,
+        sought: &Sought,
         gathered: &mut Gathered,
     ) -> Result<(), AllocError>
-        requires { (row : List Value) → FitsRow self.old.kinds row → length (projected columns row) ≡ gathered.old.width }
-        ensures rows { OnOk result (gathered.new.rows ≡ gathered.old.rows
-            ++ gathered_by columns (by_key_of pred.now keys.entry.column keys.entry.values.now) (rows_seen viewer.now self.old.shown.places)) }
+        requires { (row : List Value) → FitsRow self.old.kinds row → length (projected sought.now.columns row) ≡ gathered.old.width }
+        ensures rows { OnOk result (gathered.new.rows ≡ gathered.old.rows ++ gathered_by sought.now.columns
+            (by_key_of sought.now.pred.now sought.now.keys.column sought.now.keys.values.now) (rows_seen viewer.now self.old.shown.places)) }
         ensures err { OnErr result (gathered.new ≡ gathered.old) }
         ensures width { gathered.new.width ≡ gathered.old.width }
         ensures all { self.new ≡ self.old }
     {
         let wanted = Wanted {
-            pred,
-            keys: Some(keys),
-            columns,
+            pred: sought.pred,
+            keys: Some(sought.keys),
+            columns: sought.columns,
         };
         self.gather_whole(alloc, viewer, &wanted, gathered)
     }

@@ -33,6 +33,18 @@ pub struct Keys<'a> {
     pub values: &'a [Value],
 }
 
+/// What is sought by keys: of the rows of which a condition is true, and that one of the keys finds, the values in a
+/// set of columns.
+#[derive(Clone, Copy)]
+pub struct Sought<'a> {
+    /// The condition.
+    pub pred: &'a Pred,
+    /// The keys.
+    pub keys: Keys<'a>,
+    /// The columns.
+    pub columns: ColMask,
+}
+
 /// What is gathered: of the rows of which a condition is true, and which are looked up where there are keys, the
 /// values in a set of columns.
 #[derive(Clone, Copy)]

@@ -12,4 +12,4 @@ mod rows;
 mod writes;
 
 pub use chunk::{Chunk, NoRoom};
-pub use gathering::{Keys, conditions_gather_rows};
+pub use gathering::{Keys, Sought, conditions_gather_rows};

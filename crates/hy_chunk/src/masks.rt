@@ -14,7 +14,7 @@ ghost use Rattle.hy_undo.specs.Places.{sees};
 ghost use Rattle.hy_value.specs.declared.Value.{Value};
 
 use crate::gathering::Wanted;
-use crate::positions::Positions;
+use crate::positions::{Part, Positions};
 use hy_bound::{Pred, Root, SideView};
 use hy_kernel::Mask;
 use hy_value::Cmp;
@@ -49,6 +49,15 @@ pub struct Admission {
     pub mask: Mask,
     /// Whether the condition is true of the row in place wherever the bit is set.
     pub is_exact: bool,
+}
+
+/// A scan of the positions of a part, of which a mask may pass some.
+#[derive(Clone, Copy)]
+pub struct Scan<'a> {
+    /// The part.
+    pub part: Part,
+    /// The mask.
+    pub mask: &'a Mask,
 }
 
 /// The positions at which one condition is true of the row in place, where a mask can tell. Err is for want of memory.

@@ -6,7 +6,7 @@ ghost use Rattle.hy_engine_tests.specs.Ready.{AreUnused, IsReady, two_numbers};
 ghost use Rattle.hy_stamp.specs.Times.{IsLabel};
 
 use hy_bound::{Assign, Pred, SetExpr, WriteKind};
-use hy_chunk::{Chunk, Keys, NoRoom};
+use hy_chunk::{Chunk, Keys, NoRoom, Sought};
 use hy_given::{equal, pair};
 use hy_notes::Changes;
 use hy_plan::Gathered;
@@ -220,13 +220,16 @@ impl Tried {
     ) -> Result<Vec<(i64, i64)>, AllocError> {
         let values = values_of(alloc, ids)?;
         let mut gathered = Gathered::new(alloc, 2)?;
-        let keys = Keys {
-            column: 0,
-            values: values.as_slice(),
+        let sought = Sought {
+            pred: &Pred::always(),
+            keys: Keys {
+                column: 0,
+                values: values.as_slice(),
+            },
+            columns: ColMask(3),
         };
-        let pred = Pred::always();
         self.chunk
-            .gather_keys(alloc, viewer, &pred, keys, ColMask(3), &mut gathered)?;
+            .gather_keys(alloc, viewer, &sought, &mut gathered)?;
         numbers(alloc, &gathered)
     }
 

@@ -9,7 +9,7 @@ ghost use Rattle.hy_chunk.specs.Sound.{FitsRow};
 ghost use Rattle.hy_event.specs.Gathering.{conditions_by, rows_gathered};
 ghost use Rattle.hy_visit.specs.Gathering.{AreKnown};
 
-use hy_chunk::{Chunk, Keys, conditions_gather_rows};
+use hy_chunk::{Chunk, Keys, Sought, conditions_gather_rows};
 use hy_plan::{Gathered, PlanPart};
 use hy_stamp::Viewer;
 use hy_value::Value;
@@ -53,6 +53,13 @@ pub fn gather_visit(
     conditions_gather_rows();
     match lookup_keys(part, keys) {
         None => chunk.gather(alloc, viewer, &part.pred, part.columns, gathered),
-        Some(keys) => chunk.gather_keys(alloc, viewer, &part.pred, keys, part.columns, gathered),
+        Some(keys) => {
+            let sought = Sought {
+                pred: &part.pred,
+                keys,
+                columns: part.columns,
+            };
+            chunk.gather_keys(alloc, viewer, &sought, gathered)
+        }
     }
 }

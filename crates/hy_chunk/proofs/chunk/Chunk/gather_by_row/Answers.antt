@@ -43,7 +43,7 @@ loop-place-preserved c =
       most = omega (arith, c.loop-place-test.true);
       rows = c.in_ok-keep.ensures.rows
           ∙ ((λ i. v.rows i ++ keeps (here i))
-          ∙ part_more keeps c.args.viewer.now old c.args.part.first k c.args.gathered.now.rows v.least within);
+          ∙ part_more keeps c.args.viewer.now old c.args.scan.now.part.first k c.args.gathered.now.rows v.least within);
       width = c.keep.ensures.width ∙ v.width;
     }
 
@@ -65,7 +65,7 @@ loop-place-preserved-then-is_passed c =
       wide = v.wide;
       least = omega (arith, v.least);
       most = omega (arith, c.loop-place-test.true);
-      rows = part_passed keeps c.args.viewer.now old c.args.part.first c.loop-place.place c.args.gathered.now.rows c.loop-place.gathered.rows v.least
+      rows = part_passed keeps c.args.viewer.now old c.args.scan.now.part.first c.loop-place.place c.args.gathered.now.rows c.loop-place.gathered.rows v.least
           within none v.rows;
       width = v.width;
     }

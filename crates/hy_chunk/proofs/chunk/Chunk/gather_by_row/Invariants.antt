@@ -11,9 +11,9 @@ invariant-loop-place l = record {
   positions : l.self-inside.positions ≡ l.initial.self-inside.positions;
   next : length l.self-inside.next.row ≡ length l.initial.self-inside.positions.kinds;
   wide : length l.self-inside.seen.row ≡ length l.initial.self-inside.positions.kinds;
-  least : l.fn.part.first ≤ l.place;
-  most : l.place ≤ l.fn.part.end;
+  least : l.scan.part.first ≤ l.place;
+  most : l.place ≤ l.scan.part.end;
   rows : l.gathered.rows ≡ l.initial.gathered.rows ++ gathered_by l.wanted.columns (conditions_of l.wanted.pred.now l.wanted.keys)
-      (rows_seen l.viewer (take (l.place - l.fn.part.first) (drop l.fn.part.first l.initial.self-inside.positions.places)));
+      (rows_seen l.viewer (take (l.place - l.scan.part.first) (drop l.scan.part.first l.initial.self-inside.positions.places)));
   width : l.gathered.width ≡ l.initial.gathered.width;
 }

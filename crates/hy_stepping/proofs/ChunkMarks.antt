@@ -23,12 +23,12 @@ use Rattle.hy_machine.specs.declared.Setting.{Setting}
 use Rattle.hy_machine.specs.States.{State, Open as Current, Phase as Stage}
 use Rattle.hy_machine.specs.States as stage
 use Rattle.hy_machine.specs.Kept.{is_stamping}
-use Rattle.hy_shows.specs.Stamped.{is_unstamped, entries_counted}
-use Rattle.hy_shows.specs.Transactions.{IsOpen}
-use Rattle.hy_shows.specs.Sessions.{PhaseShows}
-use Rattle.hy_shows.specs.Places.{IsOwnStamp, IsOfWriter}
-use Rattle.hy_shows.specs.Rivals.{ShownAt}
-use Rattle.hy_shows.specs.Labels.{HaveLabels}
+use Rattle.hy_refinement.specs.Stamped.{is_unstamped, entries_counted}
+use Rattle.hy_refinement.specs.Transactions.{IsOpen}
+use Rattle.hy_refinement.specs.Sessions.{PhaseShows}
+use Rattle.hy_refinement.specs.Places.{IsOwnStamp, IsOfWriter}
+use Rattle.hy_refinement.specs.Rivals.{ShownAt}
+use Rattle.hy_refinement.specs.Labels.{HaveLabels}
 
 -- what holds at each position holds of all
 pub all_places : (holds : Place → Type 0) (places : List Place) → ((index : ℕ) (place : Place) → slice_get places index ≡ Some place → holds place)

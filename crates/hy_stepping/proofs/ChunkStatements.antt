@@ -24,7 +24,7 @@ use Rattle.hy_machine.specs.States as stage
 use Rattle.hy_machine.specs.Sessions.{program_of}
 use Rattle.hy_machine.specs.Kept.{PhaseFits, visits_in}
 use Rattle.hy_session.specs.Near.{IsTyped, HasVisitLeft, present_statement}
-use Rattle.hy_shows.specs.Sessions.{PhaseShows}
+use Rattle.hy_refinement.specs.Sessions.{PhaseShows}
 use Rattle.hy_stepping.specs.Typed.{IsTypedOf, IsTypedIn, IsTypedTxn, kinds_of}
 use Rattle.hy_stepping.proofs.OpenOnes.{one_of_all, session_within, OpenOne}
 

@@ -11,7 +11,7 @@ use Rattle.hy_machine.specs.States.{State, Session, Open as Current}
 use Rattle.hy_machine.specs.Sessions.{fresh, session_at, program_of}
 use Rattle.hy_machine.specs.Begun.{count_open, count_begun}
 use Rattle.hy_machine.specs.Kept.{Kept}
-use Rattle.hy_shows.specs.Numbers.{CoreShows}
+use Rattle.hy_refinement.specs.Numbers.{CoreShows}
 use Rattle.hy_stepping.specs.Runnable.{IsRunnable}
 
 one_open : (now : Option Current) → count_open now ≤ 1

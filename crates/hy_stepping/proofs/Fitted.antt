@@ -14,8 +14,8 @@ use Rattle.hy_machine.specs.Tables.{Tables}
 use Rattle.hy_machine.specs.Sessions.{session_at, txn_at, view}
 use Rattle.hy_machine.specs.Runs.{IsReached}
 use Rattle.hy_lawful.specs.Views.{TablesAreFitted, SeenFits, ReachedViewsFit}
-use Rattle.hy_shows.specs.Sessions.{statement_at}
-use Rattle.hy_shows.specs.Steps.{ReadsFit, ViewsFit}
+use Rattle.hy_refinement.specs.Sessions.{statement_at}
+use Rattle.hy_refinement.specs.Steps.{ReadsFit, ViewsFit}
 use Rattle.hy_stepping.specs.Runnable.{IsRunnable}
 
 -- what follows place by place

@@ -27,11 +27,11 @@ use Rattle.hy_machine.specs.States.{State}
 use Rattle.hy_machine.specs.Sessions.{session_at}
 use Rattle.hy_machine.specs.Kept.{Kept}
 use Rattle.hy_lawful.specs.Kept.{ReachedAreKept}
-use Rattle.hy_shows.specs.Transactions.{IsOpen}
-use Rattle.hy_shows.specs.Sessions.{SessionShows}
-use Rattle.hy_shows.specs.Places.{PlaceShows}
-use Rattle.hy_shows.specs.Rivals.{ShownAt}
-use Rattle.hy_shows.specs.Parts.{IsChunkPart, ChunkIs}
+use Rattle.hy_refinement.specs.Transactions.{IsOpen}
+use Rattle.hy_refinement.specs.Sessions.{SessionShows}
+use Rattle.hy_refinement.specs.Places.{PlaceShows}
+use Rattle.hy_refinement.specs.Rivals.{ShownAt}
+use Rattle.hy_refinement.specs.Parts.{IsChunkPart, ChunkIs}
 use Rattle.hy_session.specs.Near.{NearOpen, NearChunk, IsTyped, HasVisitLeft, present_statement}
 use Rattle.hy_stepping.specs.Typed.{AreTyped, IsTypedIn, kinds_of}
 use Rattle.hy_stepping.specs.Runnable.{IsShown}

@@ -31,7 +31,7 @@ use Rattle.hy_machine.specs.Sessions.{session_at}
 use Rattle.hy_machine.specs.Visits.{checks_of}
 use Rattle.hy_machine.specs.Kept.{Kept, PhaseFits, visits_in}
 use Rattle.hy_lawful.specs.Kept.{ReachedAreKept}
-use Rattle.hy_shows.specs.Sessions.{SessionShows, PhaseShows}
+use Rattle.hy_refinement.specs.Sessions.{SessionShows, PhaseShows}
 use Rattle.hy_stepping.specs.Runnable.{IsRunnable}
 use Rattle.hy_stepping.specs.Steps.{NeededChunksAreThere}
 use Rattle.hy_stepping.proofs.OpenOnes.{kept_of, txn_fits, OpenOne, open_one}

@@ -20,7 +20,7 @@ use Rattle.hy_machine.specs.Sessions.{session_at, program_of, txn_at}
 use Rattle.hy_machine.specs.Outcomes.{outcomes_from}
 use Rattle.hy_machine.specs.Kept.{Kept, IsNow, PhaseFits}
 use Rattle.hy_lawful.specs.Kept.{ReachedAreKept}
-use Rattle.hy_shows.specs.Sessions.{OpenShows, NowShows, SessionShows}
+use Rattle.hy_refinement.specs.Sessions.{OpenShows, NowShows, SessionShows}
 use Rattle.hy_stepping.specs.Runnable.{IsRunnable, IsShown}
 
 -- ---- what is shown is kept

@@ -18,7 +18,7 @@ use Rattle.hy_machine.specs.Sessions.{fresh, session_at, program_of, txn_at, has
 use Rattle.hy_machine.specs.Runs.{all_ended_from}
 use Rattle.hy_machine.specs.Kept.{Fits, IsNow, PhaseFits}
 use Rattle.hy_lawful.specs.Kept.{ReachedAreKept}
-use Rattle.hy_shows.specs.Sessions.{SessionShows}
+use Rattle.hy_refinement.specs.Sessions.{SessionShows}
 use Rattle.hy_stepping.specs.Runnable.{IsShown}
 use Rattle.hy_stepping.specs.Outcomes.{is_done, are_done, EndsAreTheMachines}
 use Rattle.hy_stepping.proofs.OpenOnes.{kept_of, same_ended}

@@ -19,10 +19,10 @@ use Rattle.hy_machine.specs.Tables.{Entry, Pair, Cell, Tables, capacity, overlai
 use Rattle.hy_machine.specs.Positions.{item_at}
 use Rattle.hy_machine.specs.Sessions.{snapshot}
 use Rattle.hy_machine.specs.Outcomes.{rows_sorted}
-use Rattle.hy_shows.specs.Stamped.{is_unstamped_by, entries_counted}
-use Rattle.hy_shows.specs.Places.{IsNewcomer}
-use Rattle.hy_shows.specs.Parts.{HasChunk}
-use Rattle.hy_shows.specs.Shows.{Shows}
+use Rattle.hy_refinement.specs.Stamped.{is_unstamped_by, entries_counted}
+use Rattle.hy_refinement.specs.Places.{IsNewcomer}
+use Rattle.hy_refinement.specs.Parts.{HasChunk}
+use Rattle.hy_refinement.specs.Shows.{Shows}
 use Rattle.hy_stepping.specs.Outcomes.{last_viewer, places_in, chunk_rows, told_rows}
 
 -- ---- how many tables there are, and how many cells each has

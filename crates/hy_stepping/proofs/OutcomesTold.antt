@@ -18,13 +18,13 @@ use Rattle.hy_machine.specs.Outcomes.{outcomes_from, all_outcomes_from, outcome_
 use Rattle.hy_machine.specs.Validation.{committed_of}
 use Rattle.hy_machine.specs.Kept.{Kept, IsNow}
 use Rattle.hy_lawful.specs.Kept.{ReachedAreKept}
-use Rattle.hy_shows.specs.Numbers.{EntryShows}
-use Rattle.hy_shows.specs.Places.{IsNewcomer}
+use Rattle.hy_refinement.specs.Numbers.{EntryShows}
+use Rattle.hy_refinement.specs.Places.{IsNewcomer}
 use Rattle.hy_stepping.specs.Outcomes.{last_viewer, told_entry, told, OutcomesAreTold}
 use Rattle.hy_stepping.proofs.OpenOnes.{kept_of}
 use Rattle.hy_stepping.proofs.OutcomesPairs.{EachFrom, each_from}
 use Rattle.hy_stepping.proofs.OutcomesEnds.{ShowsOne, shown_each, ends_are, none_open}
-use Rattle.hy_shows.specs.CoreVisits.{EntriesTellChanges}
+use Rattle.hy_refinement.specs.CoreVisits.{EntriesTellChanges}
 use Rattle.hy_stepping.proofs.OutcomesTables.{tables_shown}
 
 -- ---- the transactions

@@ -17,8 +17,8 @@ use Rattle.hy_machine.specs.Positions.{item_at}
 use Rattle.hy_machine.specs.Tables.{Cell, capacity, laid_out, opening_tables}
 use Rattle.hy_machine.specs.Sessions.{snapshot}
 use Rattle.hy_lawful.specs.Rows.{passes, RowsMeet, StandsOnTables, ReachedRowsMeetDemands, ReachedEntriesStand}
-use Rattle.hy_shows.specs.Numbers.{EntryShows}
-use Rattle.hy_shows.specs.CoreVisits.{EntriesTellChanges}
+use Rattle.hy_refinement.specs.Numbers.{EntryShows}
+use Rattle.hy_refinement.specs.CoreVisits.{EntriesTellChanges}
 use Rattle.hy_stepping.specs.Runnable.{IsShown}
 use Rattle.hy_stepping.specs.Texts.{CanBeLogged}
 use Rattle.hy_stepping.specs.Logs.{EntriesStand, EntriesLeaveTables}

@@ -11,10 +11,10 @@ use Rattle.hy_machine.specs.Sessions.{program_of}
 use Rattle.hy_machine.specs.Kept.{Kept}
 use Rattle.hy_lawful.specs.Kept.{ReachedAreKept}
 use Rattle.hy_lawful.specs.Views.{ReachedViewsFit}
-use Rattle.hy_shows.specs.Labels.{HaveLabels}
-use Rattle.hy_shows.specs.Sessions.{SessionIs}
-use Rattle.hy_shows.specs.Steps.{HasLabel, EventsAreSteps}
-use Rattle.hy_shows.specs.Taken.{ShownState}
+use Rattle.hy_refinement.specs.Labels.{HaveLabels}
+use Rattle.hy_refinement.specs.Sessions.{SessionIs}
+use Rattle.hy_refinement.specs.Steps.{HasLabel, EventsAreSteps}
+use Rattle.hy_refinement.specs.Taken.{ShownState}
 use Rattle.hy_stepping.specs.Runnable.{IsRunnable, IsShown}
 use Rattle.hy_stepping.specs.Steps.{VisitsAreSteps}
 use Rattle.hy_stepping.specs.Bounds.{RunsAreReached}

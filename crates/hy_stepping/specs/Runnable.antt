@@ -6,7 +6,7 @@ use Rattle.hy_event.specs.Events.{Part}
 use Rattle.hy_machine.specs.declared.Setting.{Setting}
 use Rattle.hy_machine.specs.States.{State}
 use Rattle.hy_machine.specs.Runs.{IsReached}
-use Rattle.hy_shows.specs.Shows.{Shows}
+use Rattle.hy_refinement.specs.Shows.{Shows}
 
 -- the script fits, a table has a chunk but no more than a program may ask for, a chunk has a position, and positions have
 -- numbers of 32 bits

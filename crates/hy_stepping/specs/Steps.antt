@@ -11,7 +11,7 @@ use Rattle.hy_machine.specs.declared.Setting.{Setting}
 use Rattle.hy_machine.specs.States.{State}
 use Rattle.hy_machine.specs.declared.Stepped.TheVariants.{Ended}
 use Rattle.hy_machine.specs.Steps.{step_of}
-use Rattle.hy_shows.specs.Taken.{stepped_of}
+use Rattle.hy_refinement.specs.Taken.{stepped_of}
 use Rattle.hy_session.specs.Near.{NearCore, NearChunk}
 use Rattle.hy_stepping.specs.Typed.{AreTyped, kinds_of}
 use Rattle.hy_stepping.specs.Runnable.{IsShown}

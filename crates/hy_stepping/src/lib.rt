@@ -41,7 +41,7 @@ pub fn chunks_are_near()
 pub fn visits_are_steps()
     ensures { VisitsAreSteps }
 {
-    hy_shows::events_are_steps();
+    hy_refinement::events_are_steps();
     hy_lawful::reached_states_are_kept();
     hy_lawful::reached_views_fit();
     runs_are_reached();
@@ -64,7 +64,7 @@ pub fn outcomes_are_told()
     ensures { OutcomesAreTold }
 {
     hy_lawful::reached_states_are_kept();
-    hy_shows::entries_tell_changes();
+    hy_refinement::entries_tell_changes();
 }
 
 /// A number of 64 bits is as good a bound of the loops as the machine's own.

@@ -12,7 +12,7 @@ pub fn entries_stand()
 {
     hy_lawful::reached_rows_meet_demands();
     hy_lawful::reached_entries_stand();
-    hy_shows::entries_tell_changes();
+    hy_refinement::entries_tell_changes();
 }
 
 /// So a log that has the first entries of the journal, however many, whatever follows its closed gate, recovers to the

@@ -15,7 +15,7 @@ use Rattle.hy_event.specs.declared.Progress.{Progress}
 use Rattle.hy_event.specs.Coring.{CoreEvent}
 use Rattle.hy_event.specs.Events.{ChunkEvent}
 use Rattle.hy_machine.specs.Steps.{step_of}
-use Rattle.hy_shows.specs.Taken.{stepped_of}
+use Rattle.hy_refinement.specs.Taken.{stepped_of}
 use Rattle.hy_stepping.specs.Steps.{NeededChunksAreThere, VisitsAreSteps}
 use Rattle.hy_world.specs.Follows.{Steps}
 use Rattle.hy_world.specs.Worlds.{WorldData, ShowsState, IsWorld, HaveTypes, plain}

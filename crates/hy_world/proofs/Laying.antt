@@ -14,7 +14,7 @@ use Rattle.hy_chunk.specs.Views.{Whole, with_places}
 use Rattle.hy_machine.specs.declared.Setting.{Setting}
 use Rattle.hy_machine.specs.Positions.{item_at}
 use Rattle.hy_machine.specs.Tables.{capacity, laid_out, opening_tables}
-use Rattle.hy_shows.specs.Shows.{IsLaidOut}
+use Rattle.hy_refinement.specs.Shows.{IsLaidOut}
 use Rattle.hy_world.specs.Openings.{first_place, places_with, first_rows}
 
 -- ---- one more row is loaded

@@ -19,8 +19,8 @@ use Rattle.hy_machine.specs.States.{State}
 use Rattle.hy_machine.specs.Tables.{Entry as Entered, history, opening_tables}
 use Rattle.hy_machine.specs.Sessions.{snapshot}
 use Rattle.hy_machine.specs.Validation.{committed_of}
-use Rattle.hy_shows.specs.CoreVisits.{EntriesTellChanges}
-use Rattle.hy_shows.specs.Numbers.{EntryShows, EntriesShow}
+use Rattle.hy_refinement.specs.CoreVisits.{EntriesTellChanges}
+use Rattle.hy_refinement.specs.Numbers.{EntryShows, EntriesShow}
 use Rattle.hy_stepping.specs.Outcomes.{told_entry}
 use Rattle.hy_stepping.specs.Texts.{CanBeLogged}
 use Rattle.hy_stepping.specs.Logs.{LogsRecoverTables}

@@ -29,9 +29,9 @@ use Rattle.hy_machine.specs.declared.Setting.{Setting}
 use Rattle.hy_machine.specs.Runs.{opening_of}
 use Rattle.hy_machine.specs.Sessions.{program_of}
 use Rattle.hy_session.specs.declared.Layout.{Layout}
-use Rattle.hy_shows.specs.Laws.{OpeningIsShown}
-use Rattle.hy_shows.specs.Parts.{ChunkIs, PartsAre, OfPlaces}
-use Rattle.hy_shows.specs.Shows.{IsFresh, IsLaidOut, IsOpening, blank_core}
+use Rattle.hy_refinement.specs.Laws.{OpeningIsShown}
+use Rattle.hy_refinement.specs.Parts.{ChunkIs, PartsAre, OfPlaces}
+use Rattle.hy_refinement.specs.Shows.{IsFresh, IsLaidOut, IsOpening, blank_core}
 use Rattle.hy_stepping.specs.Runnable.{IsRunnable}
 use Rattle.hy_stepping.specs.Typed.{AreTyped, kinds_of}
 use Rattle.hy_world.specs.Openings.{places_with, first_rows, rows_in, laid_chunk, IsLaid, AreLaid, new_session, sessions_from, layout_of, IsOpened}

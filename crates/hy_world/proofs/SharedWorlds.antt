@@ -28,7 +28,7 @@ use Rattle.hy_stepping.specs.Runnable.{IsRunnable, IsShown}
 use Rattle.hy_stepping.specs.Typed.{AreTyped}
 use Rattle.hy_world.specs.Shared.{SharedData, ChunkOf, CoreOf, AreParts, AreShared, HaveSharedTypes, IsChunk, Laws, MayVisit, chunk_shared}
 use Rattle.hy_world.specs.Shared.{part_of, parts_shared}
-use Rattle.hy_shows.specs.Laws.{OpeningIsShown}
+use Rattle.hy_refinement.specs.Laws.{OpeningIsShown}
 use Rattle.hy_session.specs.Standing.{needed_number, number_within, width_of}
 use Rattle.hy_world.specs.Points.{visit_at, point_of}
 use Rattle.hy_world.specs.Worlds.{WorldData, ShowsState, IsWorld, HaveTypes, parts_of, plain}

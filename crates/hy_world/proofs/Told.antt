@@ -30,7 +30,7 @@ use Rattle.hy_render.specs.declared.TxnOutcome.{TxnOutcome}
 use Rattle.hy_stepping.specs.Outcomes.{OutcomesAreTold, last_viewer, told, told_entry, told_rows}
 use Rattle.hy_stepping.specs.Runnable.{IsRunnable, IsShown}
 use Rattle.hy_stepping.specs.Typed.{kinds_of}
-use Rattle.hy_shows.specs.Parts.{PartsAre}
+use Rattle.hy_refinement.specs.Parts.{PartsAre}
 use Rattle.hy_world.specs.Finished.{gathered_in, read_back, table_back, tables_back, HaveTheirWidths}
 use Rattle.hy_world.specs.Follows.{Tells}
 use Rattle.hy_world.specs.Worlds.{IsWorld, WorldData, ShowsState, parts_of, plain}

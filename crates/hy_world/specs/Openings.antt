@@ -14,7 +14,7 @@ use Rattle.hy_event.specs.declared.SessionData.{SessionData}
 use Rattle.hy_machine.specs.declared.Setting.{Setting}
 use Rattle.hy_session.specs.declared.Layout.{Layout}
 use Rattle.hy_stepping.specs.Typed.{kinds_of}
-use Rattle.hy_shows.specs.Shows.{blank_core}
+use Rattle.hy_refinement.specs.Shows.{blank_core}
 use Rattle.hy_world.specs.declared.opening.Opened.{Opened}
 
 -- ---- chunks

@@ -78,7 +78,7 @@ impl World {
         hy_stepping::ends_are_the_machines();
         hy_machine::runs_are_steps();
         hy_stepping::logs_recover_tables();
-        hy_shows::entries_tell_changes();
+        hy_refinement::entries_tell_changes();
         let mut world = self;
         let mut log = Some(log);
         world.run(alloc, schedule, &mut log, disk)?;

@@ -194,7 +194,7 @@ impl World {
         ensures entries { IfOk result (λ world. world.core.entries ≡ []) }
         ensures prunes { IfOk result (λ world. All (λ session. session.prunes ≡ prunes) world.sessions) }
     {
-        hy_shows::the_opening_is_shown();
+        hy_refinement::the_opening_is_shown();
         let Opened {
             shapes,
             per_table,

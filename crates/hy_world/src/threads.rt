@@ -186,7 +186,7 @@ fn run_case<K: Case + Send + Sync, T: Threads + Wait + Sync, G: Gate>(
     requires typed { AreTyped kinds.now setting.shapes setting.first setting.programs }
     ensures { IfOk result (λ outcome. IsSomeRun setting outcome) }
 {
-    hy_shows::the_opening_is_shown();
+    hy_refinement::the_opening_is_shown();
     hy_stepping::cores_are_near();
     hy_stepping::needed_chunks_are_there();
     hy_stepping::chunks_are_near();

@@ -4,7 +4,7 @@ ghost use Rattle.std.specs.Prelude.{◌≡◌, ◌+◌, ◌*◌, ◌^◌, ◌<�
 ghost use Rattle.hy_event.specs.declared.Need.{Need};
 ghost use Rattle.hy_event.specs.declared.Progress.{Progress};
 ghost use Rattle.hy_machine.specs.declared.Stepped.{Stepped};
-ghost use Rattle.hy_shows.specs.Taken.{stepped_of};
+ghost use Rattle.hy_refinement.specs.Taken.{stepped_of};
 ghost use Rattle.hy_stamp.specs.declared.Label.{Label};
 ghost use Rattle.hy_world.specs.Asks.{has_entry_at, need_at};
 ghost use Rattle.hy_world.specs.Follows.{Steps};

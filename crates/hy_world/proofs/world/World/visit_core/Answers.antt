@@ -2,7 +2,7 @@ use Rattle.std.proofs.Common.{◌≡◌, arith, false, subst}
 use Rattle.std.specs.Prelude.{IfOk, OnErr}
 use Rattle.hy_event.specs.declared.Need.TheVariants.{Core}
 use Rattle.hy_event.specs.declared.Progress.TheVariants.{Blocked}
-use Rattle.hy_shows.specs.Taken.{stepped_of}
+use Rattle.hy_refinement.specs.Taken.{stepped_of}
 use Rattle.hy_stamp.specs.declared.Label.{Label}
 use Rattle.hy_world.specs.Asks.{has_entry_at}
 use Rattle.hy_world.specs.Openings.{prunings}

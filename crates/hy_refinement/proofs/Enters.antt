@@ -1,0 +1,116 @@
+-- The entry of a transaction into the journal is the machine's.
+use Rattle.std.proofs.Common.{◌≡◌, ℕ, ◌+◌, ◌*◌, List, [], Option, None, Some, false, refl, sym, ap, ◌∙◌, subst}
+use Rattle.std.specs.Prelude.{slice_set}
+use Rattle.std.specs.Option.{option_map}
+use Rattle.hy_journal.specs.declared.CoreData.{CoreData}
+use Rattle.hy_journal.specs.Core.{core_entered}
+use Rattle.hy_event.specs.declared.SessionData.{SessionData}
+use Rattle.hy_event.specs.declared.Open.{Open}
+use Rattle.hy_event.specs.declared.Phase.{Phase}
+use Rattle.hy_event.specs.declared.Phase.TheVariants as phase
+use Rattle.hy_event.specs.declared.Progress.{Progress}
+use Rattle.hy_event.specs.declared.Progress.TheVariants as came_to
+use Rattle.hy_event.specs.Sessions.{label_of as label_here, written}
+use Rattle.hy_event.specs.Turns.{after_entry}
+use Rattle.hy_event.specs.Events.{Part, CorePart}
+use Rattle.hy_machine.specs.declared.Setting.{Setting}
+use Rattle.hy_machine.specs.States.{State, Open as Current, Phase as Stage}
+use Rattle.hy_machine.specs.States as stage
+use Rattle.hy_machine.specs.Turns.{Enters}
+use Rattle.hy_machine.specs.Writes.{written as written_there}
+use Rattle.hy_machine.specs.Sessions.{session_at}
+use Rattle.hy_machine.specs.Holding.{undone}
+use Rattle.hy_machine.specs.Steps.{order_with, after_visit, after_turn}
+use Rattle.hy_machine.specs.Kept.{is_stamping}
+use Rattle.hy_refinement.specs.Sessions.{PhaseShows}
+use Rattle.hy_refinement.specs.Shows.{Shows}
+use Rattle.hy_refinement.specs.Frames.{went_on, sessions_on}
+use Rattle.hy_refinement.specs.Taken.{AtOpen, stepped_of, core_number}
+use Rattle.hy_refinement.specs.CoreVisits.{IsFreeToGo, EntersAreTaken}
+use Rattle.hy_refinement.proofs.RivalTops.{open_shown}
+use Rattle.hy_refinement.proofs.NotedPlaces.{not_marked}
+use Rattle.hy_refinement.proofs.Closes.{wrote_is, nobody_marked}
+use Rattle.hy_refinement.proofs.Endings.{chunk_before, parts_after}
+use Rattle.hy_refinement.proofs.EnteredStates.{entered_here, with_entry_of}
+use Rattle.hy_refinement.proofs.EnteredCores.{core_entered_shows}
+use Rattle.hy_refinement.proofs.EnteredSessions.{sessions_entered_show}
+use Rattle.hy_refinement.proofs.EnteredPlaces.{entered_shows}
+
+-- a transaction that the engine has at work is so in the machine: it stamps nothing and has undone nothing
+at_work : (visited count : ℕ) (here : Phase) (there : Stage) → here ≡ phase.Working visited count → PhaseShows here there
+    → (is_stamping there ≡ false) × (undone there ≡ 0)
+at_work visited count here there e shows = by_stage there (subst (λ (p : Phase). PhaseShows p there) e shows)
+  where
+    by_stage : (there : Stage) → PhaseShows (phase.Working visited count) there → (is_stamping there ≡ false) × (undone there ≡ 0)
+    by_stage (stage.Working other others) h = (refl, refl)
+    by_stage (stage.Stamping other) h = absurd h
+    by_stage (stage.Undoing other cause) h = absurd h
+
+module _ (setting : Setting) (state : State) (parts : List Part) (sessions : List SessionData) (number : ℕ) (session : SessionData)
+    (now : Open) (current : Current) (at : AtOpen setting state parts sessions number session now current) (free : IsFreeToGo state number)
+    (visited count : ℕ) (phase_is : now.phase ≡ phase.Working visited count) where
+  abbrev core : CoreData
+  core = at.shown.shows.core
+
+  abbrev core_then : CoreData
+  core_then = core_entered core (label_here session) now.start now.notes
+
+  works : (is_stamping current.phase ≡ false) × (undone current.phase ≡ 0)
+  works = at_work visited count now.phase current.phase phase_is
+      (open_shown setting state core sessions number session now current at.shown.shows.sessions_show at.is_open).open_shows.phase
+
+  unmarked : state.mark ≡ None
+  unmarked = nobody_marked state number free (not_marked setting state number current at.shown.kept at.is_open.open_there works.0)
+
+  wrote : written now ≡ written_there current.begun.own
+  wrote = wrote_is setting state parts sessions number session now current at works.0
+
+  shows_after : Shows setting (with_entry_of setting state number current) (slice_set parts (core_number setting) (CorePart core_then))
+      (sessions_on sessions number session (entered_here core.next now))
+  shows_after = record {
+    core = core_then;
+    parts_are = parts_after setting parts core core_then at.shown.shows.parts_are;
+    core_shows = core_entered_shows setting state core sessions at.shown.kept at.shown.shows.core_shows at.shown.shows.sessions_show number session now current
+        at.is_open unmarked wrote;
+    sessions_show = sessions_entered_show setting state core sessions at.shown.kept at.shown.shows.core_shows at.shown.shows.sessions_show number session now
+        current at.is_open unmarked;
+    places_show = λ table chunk index part place of e.
+        entered_shows setting state core sessions table chunk (chunk * setting.rows + index) place
+        (record {
+          kept = at.shown.kept;
+          below_ids = at.shown.below_ids;
+          core_shows = at.shown.shows.core_shows;
+          sessions_show = at.shown.shows.sessions_show;
+          place_shows = at.shown.shows.places_show table chunk index part place (chunk_before setting parts core core_then table chunk part of) e;
+        })
+        number session now current at.is_open unmarked works.1;
+  }
+
+  -- the machine's state after the turn
+  state_is : with_entry_of setting state number current ≡ (after_turn setting state number Enters).0
+  state_is =
+      let by : Option Current → State = λ (o : Option Current). record {
+        order = order_with setting state number o;
+        mark = Some number;
+        sessions = slice_set state.sessions number (record { done = (session_at state number).done; now = option_map (after_visit [] (stage.Stamping 0)) o });
+      } in
+      ap by (sym at.is_open.open_there)
+
+pub enters_are : EntersAreTaken
+enters_are setting state parts sessions number session now current visited count progress after new at free stands takes =
+    let after_is : after ≡ went_on session (entered_here at.shown.shows.core.next now) =
+    ap (λ (step : SessionData × Progress). step.0) takes.0
+    ∙ (let by : Option Open → SessionData = λ (o : Option Open). record session { now = option_map (after_entry at.shown.shows.core.next) o } in
+    ap by at.is_open.open_here) in
+    let progress_is : progress ≡ came_to.Moved = ap (λ (step : SessionData × Progress). step.1) takes.0 in record {
+      answer = ap stepped_of (sym progress_is);
+      shows = subst (λ (s : SessionData). Shows setting (after_turn setting state number Enters).0
+          (slice_set parts (core_number setting) (CorePart new)) (slice_set sessions number s)) (sym after_is)
+          (subst (λ (c : CoreData). Shows setting (after_turn setting state number Enters).0
+          (slice_set parts (core_number setting) (CorePart c)) (sessions_on sessions number session (entered_here at.shown.shows.core.next now))) (sym takes.1)
+          (subst (λ (s : State). Shows setting s
+          (slice_set parts (core_number setting) (CorePart (core_entered at.shown.shows.core (label_here session) now.start now.notes)))
+          (sessions_on sessions number session (entered_here at.shown.shows.core.next now)))
+          (state_is setting state parts sessions number session now current at free visited count stands.phase_is)
+          (shows_after setting state parts sessions number session now current at free visited count stands.phase_is)));
+    }

@@ -1,0 +1,101 @@
+-- An open transaction at work in a chunk that it visits, and what it has gathered before its next statement.
+use Rattle.std.proofs.Common.{◌≡◌, ℕ, List, [], ◌∷◌, Option, None, Some, true, false, refl, sym, ap, ◌∙◌, subst, arith}
+use Rattle.std.proofs.lemmas.Option.{same_Some}
+use Rattle.hy_stamp.specs.declared.Label.{Label}
+use Rattle.hy_stamp.specs.Times.{IsLabel, id_of}
+use Rattle.hy_bound.specs.declared.Bound.{Bound}
+use Rattle.hy_bound.specs.declared.Bound.TheVariants.{Select, Group, Insert, Update, Delete}
+use Rattle.hy_plan.specs.declared.PlanPart.{PlanPart}
+use Rattle.hy_undo.specs.Chunks.{ChunkData}
+use Rattle.hy_journal.specs.declared.CoreData.{CoreData}
+use Rattle.hy_event.specs.declared.SessionData.{SessionData}
+use Rattle.hy_event.specs.declared.Open.{Open}
+use Rattle.hy_event.specs.declared.Phase.{Phase}
+use Rattle.hy_event.specs.declared.Phase.TheVariants as phase
+use Rattle.hy_event.specs.Gathering.{select_read_plan, group_read_plan}
+use Rattle.hy_event.specs.Sessions.{label_of}
+use Rattle.hy_event.specs.Events.{Part}
+use Rattle.hy_machine.specs.declared.Setting.{Setting}
+use Rattle.hy_machine.specs.States.{State, Open as Current, Phase as Stage}
+use Rattle.hy_machine.specs.States as stage
+use Rattle.hy_machine.specs.Tables.{Tables}
+use Rattle.hy_machine.specs.Holding.{undone}
+use Rattle.hy_machine.specs.Kept.{is_stamping}
+use Rattle.hy_refinement.specs.Transactions.{IsOpen}
+use Rattle.hy_refinement.specs.Sessions.{PhaseShows, GatheredBy, tables_taken}
+use Rattle.hy_refinement.specs.Taken.{AtChunk}
+use Rattle.hy_refinement.proofs.RivalTops.{open_shown}
+use Rattle.hy_refinement.proofs.WritesChunk.{AtWork}
+
+-- ---- what is gathered
+
+none_gathered : (setting : Setting) (tables : Tables) (all parts : List PlanPart) → tables_taken setting tables all 0 [] parts ≡ []
+none_gathered setting tables all [] = refl
+none_gathered setting tables all (part ∷ parts) = refl
+
+-- before the first visit nothing is
+pub gathered_first : (setting : Setting) (tables : Tables) (statement : Option Bound) → GatheredBy setting tables 0 [] statement
+gathered_first setting tables None = tt
+gathered_first setting tables (Some (Select froms ons pred items)) =
+    sym (none_gathered setting tables (select_read_plan setting.shapes froms ons pred items).parts (select_read_plan setting.shapes froms ons pred items).parts)
+gathered_first setting tables (Some (Group table pred key aggregate)) =
+    sym (none_gathered setting tables (group_read_plan setting.shapes table pred key aggregate).parts
+    (group_read_plan setting.shapes table pred key aggregate).parts)
+gathered_first setting tables (Some (Insert table row)) = refl
+gathered_first setting tables (Some (Update table sets pred)) = refl
+gathered_first setting tables (Some (Delete table pred)) = refl
+
+-- ---- at work
+
+working_there : (visited count : ℕ) (there : Stage) → PhaseShows (phase.Working visited count) there → there ≡ stage.Working visited count
+working_there visited count (stage.Working other others) e =
+    let one = e.0 in
+    let two = e.1 in
+    (cc)
+working_there visited count (stage.Stamping other) e = absurd e
+working_there visited count (stage.Undoing other cause) e = absurd e
+
+module _ (one_id : (a b : Label) → IsLabel a → IsLabel b → id_of a ≡ id_of b → a ≡ b) (setting : Setting) (state : State) (parts : List Part)
+    (sessions : List SessionData) (number : ℕ) (session : SessionData) (now : Open) (current : Current) (table chunk : ℕ) (old : ChunkData)
+    (visited count : ℕ) (at : AtChunk setting state parts sessions number session now current table chunk old)
+    (phase_is : now.phase ≡ phase.Working visited count) where
+  abbrev core : CoreData
+  core = at.at_open.shown.shows.core
+
+  is : IsOpen state sessions number session now current
+  is = at.at_open.is_open
+
+  works : current.phase ≡ stage.Working visited count
+  works =
+      let shows_open = open_shown setting state core sessions number session now current at.at_open.shown.shows.sessions_show is in
+      working_there visited count current.phase (subst (λ (p : Phase). PhaseShows p current.phase) phase_is shows_open.open_shows.phase)
+
+  unmarked : state.mark ≡ Some number → ⊥
+  unmarked e =
+      let marked = at.at_open.shown.kept.ranks.marked number e in
+      let same : marked.0 ≡ current = same_Some marked.0 current (sym marked.1.0 ∙ is.open_there) in
+      absurd (let f : true ≡ false = sym marked.1.1 ∙ (ap (λ (c : Current). is_stamping c.phase) same ∙ ap is_stamping works) in cc)
+
+  ids_apart : (other : ℕ) (another : SessionData) (there : Open) (present : Current) → (other ≡ number → ⊥)
+      → IsOpen state sessions other another there present → id_of (label_of session) ≡ id_of (label_of another) → ⊥
+  ids_apart other another there present apart one e =
+      let shown = at.at_open.shown in
+      let same = ap (λ (l : Label). l.session) (one_id (label_of session) (label_of another) (shown.labels number session now current is)
+      (shown.labels other another there present one) e) in
+      let mine = (shown.shows.sessions_show.each number session is.found).session_is.number_is in
+      let theirs = (shown.shows.sessions_show.each other another one.found).session_is.number_is in
+      apart (sym theirs ∙ (sym same ∙ mine))
+
+  pub at_work_in : AtWork setting state core sessions number session now current table chunk
+  at_work_in = record {
+    kept = at.at_open.shown.kept;
+    below_ids = at.at_open.shown.below_ids;
+    core_shows = at.at_open.shown.shows.core_shows;
+    sessions_show = at.at_open.shown.shows.sessions_show;
+    is_open = is;
+    unmarked = unmarked;
+    working = ap undone works;
+    table_below = let shapes = at.at_open.shown.kept.fits.shapes in let below = at.is_part.table_below in omega (arith, shapes, below);
+    chunk_below = at.is_part.chunk_below;
+    ids_apart = ids_apart;
+  }

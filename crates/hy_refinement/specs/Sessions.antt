@@ -1,0 +1,157 @@
+-- What a session shows: its ended transactions, and its open one.
+use Rattle.std.specs.Prelude.{◌≡◌, ◌≢◌, ◌⊎◌, ℕ, ◌<◌, ◌≤◌, ◌-◌, ◌*◌, List, [], ◌∷◌, ◌++◌, ◌==◌, Option, None, Some}
+use Rattle.std.specs.Prelude.{Contains, slice_get, slice_index_or, length, map, filter, take, min, if◌then◌else◌}
+use Rattle.hy_bound.specs.declared.Bound.{Bound}
+use Rattle.hy_bound.specs.declared.Bound.TheVariants.{Select, Group, Insert, Update, Delete}
+use Rattle.hy_bound.specs.declared.Txn.{Txn}
+use Rattle.hy_bound.specs.Changes.{present}
+use Rattle.hy_bound.specs.Projection.{projected}
+use Rattle.hy_plan.specs.declared.PlanPart.{PlanPart}
+use Rattle.hy_plan.specs.Reads.{is_read_of}
+use Rattle.hy_meaning.specs.Statement.{Table}
+use Rattle.hy_gathered.specs.Answers.{spread_all}
+use Rattle.hy_prune.specs.declared.Cover.{Cover}
+use Rattle.hy_prune.specs.Fates.{watermark_of}
+use Rattle.hy_notes.specs.Notes.{Ascends, note_at}
+use Rattle.hy_journal.specs.declared.CoreData.{CoreData}
+use Rattle.hy_journal.specs.declared.Entry.{Entry}
+use Rattle.hy_event.specs.declared.SessionData.{SessionData}
+use Rattle.hy_event.specs.declared.Open.{Open}
+use Rattle.hy_event.specs.declared.Phase.{Phase}
+use Rattle.hy_event.specs.declared.Phase.TheVariants as phase
+use Rattle.hy_event.specs.Gathering.{ReadPlan, select_read_plan, group_read_plan, joined_columns, conditions_by}
+use Rattle.hy_machine.specs.declared.Setting.{Setting}
+use Rattle.hy_machine.specs.States.{State, Open as Current, Phase as Stage}
+use Rattle.hy_machine.specs.States as stage
+use Rattle.hy_machine.specs.Positions.{item_at}
+use Rattle.hy_machine.specs.Tables.{Tables}
+use Rattle.hy_machine.specs.Sessions.{session_at, program_of, txn_at, snapshot, view, pair_of}
+use Rattle.hy_machine.specs.Turns.{ending_of}
+use Rattle.hy_machine.specs.Outcomes.{outcomes_from}
+use Rattle.hy_refinement.specs.Numbers.{noted}
+
+-- ---- what does not change
+
+-- a session has its number, its transactions, and the columns and sizes of the tables
+pub record SessionIs (setting : Setting) (number : ℕ) (session : SessionData) : Type 0 where
+  pub number_is : session.number ≡ number
+  pub program : session.program ≡ program_of setting number
+  pub shapes : session.shapes ≡ setting.shapes
+  pub chunks : session.chunks ≡ setting.chunks
+  pub rows : session.rows ≡ setting.rows
+
+-- ---- numbers of an open transaction
+
+-- so many of the first entries have a time below this one, and no others
+pub record CountsBelow (entries : List Entry) (count bound : ℕ) : Type 0 where
+  pub early : (rank : ℕ) (entry : Entry) → slice_get entries rank ≡ Some entry → rank < count → entry.time < bound
+  pub late : (rank : ℕ) (entry : Entry) → slice_get entries rank ≡ Some entry → count ≤ rank → bound ≤ entry.time
+
+-- a cover is held: its next time is past, and each open start is in it or at least its next time
+pub record IsHeld (core : CoreData) (cover : Cover) : Type 0 where
+  pub past : cover.next ≤ core.next
+  pub safe : (start : ℕ) → Contains core.active start → Contains cover.starts start ⊎ (cover.next ≤ start)
+
+-- so is that of an open transaction, and its watermark is at most the start
+pub record CoverHolds (core : CoreData) (now : Open) : Type 0 where
+  pub below : watermark_of now.cover ≤ now.start
+  pub held : IsHeld core now.cover
+
+-- ---- what an open transaction has done
+
+-- it stands where the machine's stands
+abbrev pub PhaseShows : Phase → Stage → Type 0
+PhaseShows (phase.Working visited count) (stage.Working other others) = (visited ≡ other) × (count ≡ others)
+PhaseShows (phase.Working visited count) (stage.Stamping other) = ⊥
+PhaseShows (phase.Working visited count) (stage.Undoing other cause) = ⊥
+PhaseShows (phase.Stamping visited time) (stage.Working other others) = ⊥
+PhaseShows (phase.Stamping visited time) (stage.Stamping other) = visited ≡ other
+PhaseShows (phase.Stamping visited time) (stage.Undoing other cause) = ⊥
+PhaseShows (phase.Undoing visited ending) (stage.Working other others) = ⊥
+PhaseShows (phase.Undoing visited ending) (stage.Stamping other) = ⊥
+PhaseShows (phase.Undoing visited ending) (stage.Undoing other cause) = (visited ≡ other) × (ending ≡ ending_of cause)
+
+-- its prefix, its answered statements, and where it stands
+pub record DoneSoFar (now : Open) (current : Current) : Type 0 where
+  pub prefix : now.prefix ≡ current.begun.prefix
+  pub replies : now.replies ≡ current.begun.replies
+  pub records : now.records ≡ current.begun.records
+  pub took : now.took ≡ current.begun.took
+  pub phase : PhaseShows now.phase current.phase
+
+-- its notes have at every position the cell that it saw at its start and the one that it wrote
+pub record NotesShow (setting : Setting) (state : State) (now : Open) (current : Current) : Type 0 where
+  pub notes : (table pos : ℕ) → note_at now.notes table pos
+      ≡ noted (pair_of (item_at (snapshot setting state current.begun.prefix) table pos) (item_at current.begun.own table pos))
+  pub ascends : Ascends now.notes
+
+-- ---- what a SELECT has gathered
+
+-- the rows that a part of a plan takes of the first chunks of its table, behind what was taken of the tables before it
+abbrev pub rows_taken : Setting → Tables → List PlanPart → ℕ → List Table → PlanPart → Table
+rows_taken setting tables parts chunks before part =
+    map (projected part.columns)
+    (filter (is_read_of (conditions_by part.pred part.lookup (joined_columns parts (spread_all parts before))))
+    (present (take (chunks * setting.rows) (slice_index_or tables part.table []))))
+
+-- so many chunks being left to take of, the rows of each table of the plan that has some of them
+abbrev pub tables_taken : Setting → Tables → List PlanPart → ℕ → List Table → List PlanPart → List Table
+tables_taken setting tables parts left before [] = before
+tables_taken setting tables parts left before (part ∷ others) =
+    if left == 0 then before
+    else tables_taken setting tables parts (left - setting.chunks)
+    (before ++ rows_taken setting tables parts (min left setting.chunks) before part ∷ []) others
+
+-- what is gathered after so many visits
+abbrev pub gathered_after : Setting → Tables → ReadPlan → ℕ → List Table
+gathered_after setting tables plan visited = tables_taken setting tables plan.parts visited [] plan.parts
+
+-- the gathered rows are those of the visited chunks
+abbrev pub GatheredBy : Setting → Tables → ℕ → List Table → Option Bound → Type 0
+GatheredBy setting tables visited gathered None = Unit {0}
+GatheredBy setting tables visited gathered (Some (Select froms ons pred items)) =
+    gathered ≡ gathered_after setting tables (select_read_plan setting.shapes froms ons pred items) visited
+GatheredBy setting tables visited gathered (Some (Group table pred key aggregate)) =
+    gathered ≡ gathered_after setting tables (group_read_plan setting.shapes table pred key aggregate) visited
+GatheredBy setting tables visited gathered (Some (Insert table row)) = gathered ≡ []
+GatheredBy setting tables visited gathered (Some (Update table sets pred)) = gathered ≡ []
+GatheredBy setting tables visited gathered (Some (Delete table pred)) = gathered ≡ []
+
+-- the present statement of a transaction of a script
+abbrev pub statement_at : Option Txn → ℕ → Option Bound
+statement_at None answered = None
+statement_at (Some txn) answered = slice_get txn.statements answered
+
+-- while a SELECT reads, what is gathered is what its plan takes of the visited chunks, of the rows that the
+-- transaction sees
+abbrev pub GatheredShows : Setting → State → ℕ → Open → Current → Type 0
+GatheredShows setting state number now current =
+    (visited count : ℕ) → now.phase ≡ phase.Working visited count
+    → GatheredBy setting (view setting state current.begun) visited now.gathered
+    (statement_at (txn_at setting number (session_at state number)) (length now.replies))
+
+-- ---- an open transaction
+
+pub record OpenShows (setting : Setting) (state : State) (core : CoreData) (number : ℕ) (now : Open) (current : Current) : Type 0 where
+  -- the entries of its prefix are those with a time below its start
+  pub prefix_counts : CountsBelow core.entries now.prefix now.start
+  -- and those of its low prefix are those with a time below its watermark
+  pub low_counts : CountsBelow core.entries current.begun.low (watermark_of now.cover)
+  pub cover_holds : CoverHolds core now
+  pub open_shows : DoneSoFar now current
+  -- until its entry has them
+  pub notes_show : state.mark ≢ Some number → NotesShow setting state now current
+  pub gathered_shows : GatheredShows setting state number now current
+
+-- a transaction is open in the engine where it is in the machine, and shows it
+abbrev pub NowShows : Setting → State → CoreData → ℕ → Option Open → Option Current → Type 0
+NowShows setting state core number None None = Unit {0}
+NowShows setting state core number None (Some current) = ⊥
+NowShows setting state core number (Some now) None = ⊥
+NowShows setting state core number (Some now) (Some current) = OpenShows setting state core number now current
+
+pub record SessionShows (setting : Setting) (state : State) (core : CoreData) (number : ℕ) (session : SessionData) : Type 0 where
+  pub session_is : SessionIs setting number session
+  -- the outcomes of its ended transactions are the machine's
+  pub done_shows : session.done ≡ outcomes_from setting number 0 (session_at state number).done
+  pub now_shows : NowShows setting state core number session.now (session_at state number).now

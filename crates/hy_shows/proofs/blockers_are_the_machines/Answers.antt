@@ -1,5 +1,0 @@
-use Rattle.hy_shows.proofs.Blockers.{blockers_are}
-use Rattle.hy_shows.proofs.blockers_are_the_machines.Goals as goal
-
-pub returns : goal.returns
-returns c = blockers_are

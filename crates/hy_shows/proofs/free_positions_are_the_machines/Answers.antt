@@ -1,5 +1,0 @@
-use Rattle.hy_shows.proofs.Frees.{free_is}
-use Rattle.hy_shows.proofs.free_positions_are_the_machines.Goals as goal
-
-pub returns : goal.returns
-returns c = free_is

@@ -1,5 +1,0 @@
-use Rattle.hy_shows.proofs.Begins.{begins_are}
-use Rattle.hy_shows.proofs.visits.begins_are_taken.Goals as goal
-
-pub returns : goal.returns
-returns c = begins_are c.identifiers_are_apart.ensures.one

@@ -1,5 +1,0 @@
-use Rattle.hy_shows.proofs.FramesChecks.{checks}
-use Rattle.hy_shows.proofs.visits.checks_are_taken.Goals as goal
-
-pub returns : goal.returns
-returns c = checks c.own_steps_show.ensures

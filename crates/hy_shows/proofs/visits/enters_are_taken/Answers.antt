@@ -1,5 +1,0 @@
-use Rattle.hy_shows.proofs.Enters.{enters_are}
-use Rattle.hy_shows.proofs.visits.enters_are_taken.Goals as goal
-
-pub returns : goal.returns
-returns c = enters_are

@@ -1,5 +1,0 @@
-use Rattle.hy_shows.proofs.FramesTurns.{going_on}
-use Rattle.hy_shows.proofs.visits.going_on_is_taken.Goals as goal
-
-pub returns : goal.returns
-returns c = going_on

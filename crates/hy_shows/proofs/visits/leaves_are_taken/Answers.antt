@@ -1,5 +1,0 @@
-use Rattle.hy_shows.proofs.Leaves.{leaves_are}
-use Rattle.hy_shows.proofs.visits.leaves_are_taken.Goals as goal
-
-pub returns : goal.returns
-returns c = leaves_are c.visited_chunks_show.ensures

@@ -1,5 +1,0 @@
-use Rattle.hy_shows.proofs.NotedChunks.{notes_are}
-use Rattle.hy_shows.proofs.visits.notes_are_writes.Goals as goal
-
-pub returns : goal.returns
-returns c = notes_are

@@ -1,5 +1,0 @@
-use Rattle.hy_shows.proofs.FramesParts.{own_steps}
-use Rattle.hy_shows.proofs.visits.own_steps_show.Goals as goal
-
-pub returns : goal.returns
-returns c = own_steps c.unmoved_places_show.ensures

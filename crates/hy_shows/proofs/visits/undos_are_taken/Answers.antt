@@ -1,5 +1,0 @@
-use Rattle.hy_shows.proofs.Undos.{undos_are}
-use Rattle.hy_shows.proofs.visits.undos_are_taken.Goals as goal
-
-pub returns : goal.returns
-returns c = undos_are c.unmoved_places_show.ensures c.visited_chunks_show.ensures c.chunk_visits_show.ensures c.going_on_is_taken.ensures

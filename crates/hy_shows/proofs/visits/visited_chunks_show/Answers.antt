@@ -1,5 +1,0 @@
-use Rattle.hy_shows.proofs.FramesTurns.{chunk_shown}
-use Rattle.hy_shows.proofs.visits.visited_chunks_show.Goals as goal
-
-pub returns : goal.returns
-returns c = chunk_shown

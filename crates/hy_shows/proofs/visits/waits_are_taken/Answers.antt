@@ -1,5 +1,0 @@
-use Rattle.hy_shows.proofs.FramesTurns.{waits_taken}
-use Rattle.hy_shows.proofs.visits.waits_are_taken.Goals as goal
-
-pub returns : goal.returns
-returns c = waits_taken

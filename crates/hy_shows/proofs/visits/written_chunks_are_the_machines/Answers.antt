@@ -1,5 +1,0 @@
-use Rattle.hy_shows.proofs.NotedChunks.{written_chunks_are}
-use Rattle.hy_shows.proofs.visits.written_chunks_are_the_machines.Goals as goal
-
-pub returns : goal.returns
-returns c = written_chunks_are

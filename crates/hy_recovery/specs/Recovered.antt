@@ -3,7 +3,7 @@ use Rattle.std.specs.Prelude.{◌≡◌, ℕ, List, Ok, map}
 use Rattle.std.specs.List.{zip}
 use Rattle.hy_value.specs.declared.Kind.{Kind}
 use Rattle.hy_value.specs.declared.Value.{Value}
-use Rattle.hy_body.specs.declared.HeldTable.{HeldTable}
+use Rattle.hy_log_record.specs.declared.HeldTable.{HeldTable}
 use Rattle.hy_machine.specs.declared.Setting.{Setting}
 use Rattle.hy_machine.specs.Tables.{Cell, opening_tables}
 use Rattle.hy_machine.specs.Outcomes.{rows_sorted}

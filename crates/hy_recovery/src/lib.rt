@@ -11,9 +11,9 @@ ghost use Rattle.hy_machine.specs.Outcomes.{rows_sorted};
 ghost use Rattle.hy_redo.specs.Recovery.{DamagedIn};
 ghost use Rattle.hy_recovery.specs.Recovered.{held, first_tables, rows_of, AreRecovered};
 
-use hy_body::{HeldRows, HeldTable, HeldTables};
 use hy_bound::Rows;
 use hy_disk::Disk;
+use hy_log_record::{HeldRows, HeldTable, HeldTables};
 use hy_machine::Setting;
 use hy_redo::{RecoverError, recover};
 use hy_value::{Kinds, Row, Seq, copy_row, sort_rows};

@@ -6,7 +6,7 @@ use Rattle.std.specs.List.{flat_map}
 use Rattle.std.proofs.lemmas.List.{append-nil, drop_all, flat_map_more}
 use Rattle.std.proofs.lemmas.Option.{same_Some}
 use Rattle.hy_journal.specs.declared.Entry.{Entry}
-use Rattle.hy_body.specs.Bytes.{record_of, HasBytes}
+use Rattle.hy_log_record.specs.Bytes.{record_of, HasBytes}
 use Rattle.hy_disk.specs.Bytes.{overwritten, Touched, ReachesTo}
 use Rattle.hy_disk.specs.Calls.{TouchedOf, Writes, IsDurable}
 use Rattle.hy_disk.specs.declared.DiskError.{DiskError}

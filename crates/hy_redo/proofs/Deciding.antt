@@ -13,10 +13,10 @@ use Rattle.hy_value.specs.TotalOrder.{rows_total, rows_tie}
 use Rattle.hy_value.specs.declared.change.Change.{Change}
 use Rattle.hy_notes.specs.Notes.{Cell}
 use Rattle.hy_journal.specs.declared.Entry.{Entry}
-use Rattle.hy_body.specs.declared.HeldTable.{HeldTable}
-use Rattle.hy_body.specs.Bytes.{net_of}
-use Rattle.hy_body.specs.Bodies.{IsEntryOf, IsBody}
-use Rattle.hy_body.specs.Laws.{netted, BodiesAreOne}
+use Rattle.hy_log_record.specs.declared.HeldTable.{HeldTable}
+use Rattle.hy_log_record.specs.Bytes.{net_of}
+use Rattle.hy_log_record.specs.Bodies.{IsEntryOf, IsBody}
+use Rattle.hy_log_record.specs.Laws.{netted, BodiesAreOne}
 use Rattle.hy_redo.specs.Tables.{Held, held_at, with_cell, with_table, after_changes, rise, BeginsFrom, IsBehind, Stands}
 use Rattle.hy_redo.specs.Tests.{same_cells, stands_there, begins_from, is_behind, stand_test}
 

@@ -1,7 +1,7 @@
 -- What stands before the rest of a log does not depend on the rest.
 use Rattle.std.proofs.Common.{◌≡◌, ℕ, ◌+◌, List, [], ◌∷◌, ◌++◌, length, refl, sym, ap, subst, ◌∙◌, append_assoc, length-append, arith}
 use Rattle.hy_journal.specs.declared.Entry.{Entry}
-use Rattle.hy_body.specs.Bytes.{record_of}
+use Rattle.hy_log_record.specs.Bytes.{record_of}
 use Rattle.hy_redo.specs.Logs.{header, OpensWith, OpenWith, Leads}
 
 records_front : (entries : List Entry) (bytes rest : List ℕ) → OpenWith entries bytes rest

@@ -3,8 +3,8 @@ use Rattle.std.proofs.Common.{◌≡◌, ℕ, List, [], ◌∷◌, ◌++◌, len
 use Rattle.std.specs.Prelude.{◌⊎◌}
 use Rattle.std.proofs.lemmas.List.{append_cancel_left}
 use Rattle.hy_journal.specs.declared.Entry.{Entry}
-use Rattle.hy_body.specs.Bytes.{record_of, net_of}
-use Rattle.hy_body.specs.Laws.{RecordsAreOne}
+use Rattle.hy_log_record.specs.Bytes.{record_of, net_of}
+use Rattle.hy_log_record.specs.Laws.{RecordsAreOne}
 use Rattle.hy_redo.specs.Tables.{Held, after_entry, after_changes, applied, Stands, AllStand, last_time}
 use Rattle.hy_redo.specs.Logs.{header, OpensWith, OpenWith, Leads}
 use Rattle.hy_redo.specs.Recovery.{RecoversTo, IsBroken, IsDamagedAt}

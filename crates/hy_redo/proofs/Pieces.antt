@@ -5,7 +5,7 @@ use Rattle.std.specs.Prelude.{IfOk, IfErr}
 use Rattle.std.proofs.lemmas.List.{take-append-drop, drop-append-le, take_at, drop_at, append-nil, length-drop, length-take}
 use Rattle.std.proofs.lemmas.Bool.{cases_lt}
 use Rattle.hy_journal.specs.declared.Entry.{Entry}
-use Rattle.hy_body.specs.Bytes.{record_of}
+use Rattle.hy_log_record.specs.Bytes.{record_of}
 use Rattle.hy_disk.specs.Bytes.{IsOwn, HasLength, ReadsAt}
 use Rattle.hy_redo.specs.declared.errors.RecoverError.{RecoverError}
 use Rattle.hy_redo.specs.declared.errors.RecoverError.TheVariants.{Damaged}

@@ -2,14 +2,14 @@
 use Rattle.std.proofs.Common.{◌≡◌, ℕ, zero, suc, ◌+◌, ◌^◌, ◌<◌, ◌≤◌, List, [], ◌∷◌, ◌++◌, length, Option}
 use Rattle.std.proofs.Common.{None, Some, refl, sym, ap, subst, ◌∙◌, append_assoc, length-append, arith}
 use Rattle.hy_journal.specs.declared.Entry.{Entry}
-use Rattle.hy_body.specs.Bytes.{be64, body_of, record_of}
-use Rattle.hy_body.specs.Bodies.{IsBody}
-use Rattle.hy_body.specs.Laws.{LengthsTell}
+use Rattle.hy_log_record.specs.Bytes.{be64, body_of, record_of}
+use Rattle.hy_log_record.specs.Bodies.{IsBody}
+use Rattle.hy_log_record.specs.Laws.{LengthsTell}
 use Rattle.hy_redo.specs.Tables.{Held, after_entry, after_changes, applied, Stands, AllStand, last_time}
 use Rattle.hy_redo.specs.Logs.{header, OpensWith, Leads}
 use Rattle.hy_redo.specs.Recovery.{RecoversTo, IsBroken, IsBrokenAt}
-use Rattle.hy_body.specs.declared.BodyError.{BodyError}
-use Rattle.hy_body.specs.declared.BodyError.TheVariants as bodies
+use Rattle.hy_log_record.specs.declared.BodyError.{BodyError}
+use Rattle.hy_log_record.specs.declared.BodyError.TheVariants as bodies
 use Rattle.hy_redo.specs.Tests.{IsStanding, IsNext, IsClosed, StopsAt, as_stop, Redone}
 use Rattle.hy_redo.proofs.Fronts.{leads_push}
 

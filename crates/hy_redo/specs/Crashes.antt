@@ -1,7 +1,7 @@
 -- What the calls on a log leave, whatever moment a crash comes at.
 use Rattle.std.specs.Prelude.{◌≡◌, ◌⊎◌, ℕ, ◌+◌, ◌≤◌, List, [], ◌∷◌, ◌++◌, Option, IfSome, length}
 use Rattle.hy_journal.specs.declared.Entry.{Entry}
-use Rattle.hy_body.specs.Bytes.{record_of}
+use Rattle.hy_log_record.specs.Bytes.{record_of}
 use Rattle.hy_disk.specs.Calls.{Stays, Writes}
 use Rattle.hy_redo.specs.Logs.{log_of, IsLogOf}
 

@@ -2,7 +2,7 @@
 use Rattle.std.specs.Prelude.{◌≡◌, ℕ, ◌+◌, ◌<◌, List, [], ◌∷◌, ◌++◌, Option, Some, length, codes}
 use Rattle.std.specs.List.{flat_map}
 use Rattle.hy_journal.specs.declared.Entry.{Entry}
-use Rattle.hy_body.specs.Bytes.{record_of, HasBytes}
+use Rattle.hy_log_record.specs.Bytes.{record_of, HasBytes}
 
 -- the first eight bytes: seven letters and LF
 abbrev pub header : List ℕ

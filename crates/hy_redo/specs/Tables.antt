@@ -6,9 +6,9 @@ use Rattle.std.specs.Ordering.{is_lt, ordering_then, nat_cmp}
 use Rattle.hy_value.specs.declared.change.Change.{Change}
 use Rattle.hy_notes.specs.Notes.{Cell}
 use Rattle.hy_journal.specs.declared.Entry.{Entry}
-use Rattle.hy_body.specs.declared.HeldTable.{HeldTable}
-use Rattle.hy_body.specs.Bytes.{net_of}
-use Rattle.hy_body.specs.Bodies.{IsEntryOf}
+use Rattle.hy_log_record.specs.declared.HeldTable.{HeldTable}
+use Rattle.hy_log_record.specs.Bytes.{net_of}
+use Rattle.hy_log_record.specs.Bodies.{IsEntryOf}
 
 -- tables by number, each with its rows by position
 abbrev pub Held : Type 0

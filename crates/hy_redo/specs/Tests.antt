@@ -7,13 +7,13 @@ use Rattle.hy_value.specs.declared.change.Change.{Change}
 use Rattle.hy_notes.specs.Notes.{Cell}
 use Rattle.hy_journal.specs.declared.Entry.{Entry}
 use Rattle.hy_disk.specs.Bytes.{IsOwn}
-use Rattle.hy_body.specs.Bytes.{net_of}
-use Rattle.hy_body.specs.Bodies.{IsBody}
+use Rattle.hy_log_record.specs.Bytes.{net_of}
+use Rattle.hy_log_record.specs.Bodies.{IsBody}
 use Rattle.hy_redo.specs.declared.errors.RecoverError.{RecoverError}
 use Rattle.hy_redo.specs.declared.errors.RecoverError.TheVariants.{Damaged, DiskFault, OutOfMemory}
 use Rattle.hy_redo.specs.Tables.{Held, held_at, rise, AllStand, Stands, applied, last_time}
-use Rattle.hy_body.specs.declared.BodyError.{BodyError}
-use Rattle.hy_body.specs.declared.BodyError.TheVariants as bodies
+use Rattle.hy_log_record.specs.declared.BodyError.{BodyError}
+use Rattle.hy_log_record.specs.declared.BodyError.TheVariants as bodies
 use Rattle.hy_redo.specs.declared.recovery.Stop.{Stop}
 use Rattle.hy_redo.specs.declared.recovery.Stop.TheVariants as stops
 use Rattle.hy_redo.specs.Logs.{OpensWith, Leads}

@@ -2,7 +2,7 @@
 
 ghost use Rattle.hy_redo.specs.Laws.{RecoveryIsOne, LogsRecover, CrashesRecover};
 
-use hy_body::bodies_are_one;
+use hy_log_record::bodies_are_one;
 
 /// Bytes recover to one thing.
 pub fn recovery_is_one()

@@ -9,9 +9,9 @@ ghost use Rattle.hy_redo.specs.Logs.{log_of, IsWholeLog};
 ghost use Rattle.hy_redo.specs.Crashes.{next_gate, AreLogsOf, AreClosedAt, Appends, IsBegun, IsBegunAtMost};
 
 use crate::{AppendError, CreateError};
-use hy_body::encode;
 use hy_disk::{Disk, DiskError};
 use hy_journal::Entry;
+use hy_log_record::encode;
 use std::alloc::{AllocError, Global};
 use std::marker::Model;
 

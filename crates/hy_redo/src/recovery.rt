@@ -5,7 +5,7 @@ ghost use Rattle.std.specs.Prelude.{vec_len, IfOk, IfErr, IfSome, IfNone, OnOk, 
 ghost use Rattle.hy_outside.specs.Faults.{Rose};
 ghost use Rattle.hy_disk.specs.Calls.{IsDurable, Stays, Syncs};
 ghost use Rattle.hy_journal.specs.declared.Entry.{Entry};
-ghost use Rattle.hy_body.specs.Bodies.{IsBody};
+ghost use Rattle.hy_log_record.specs.Bodies.{IsBody};
 ghost use Rattle.hy_redo.specs.Tables.{Held, Stands};
 ghost use Rattle.hy_disk.specs.Bytes.{HasLength, ReachesTo, ReadsAt};
 ghost use Rattle.hy_redo.specs.Logs.{header};
@@ -15,9 +15,9 @@ ghost use Rattle.hy_redo.specs.Tests.{IsRedone, IsFrontOf, BeginsWith};
 
 use crate::RecoverError;
 use crate::standing::{put_changes, stand};
-use hy_body::{BodyError, HeldTable, HeldTables, bodies_are_one, decode, split_record};
 use hy_disk::Disk;
 use hy_journal::Entry;
+use hy_log_record::{BodyError, HeldTable, HeldTables, bodies_are_one, decode, split_record};
 use hy_value::Seq;
 use std::alloc::Global;
 

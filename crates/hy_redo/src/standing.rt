@@ -5,7 +5,7 @@ ghost use Rattle.std.specs.List.{list_all};
 ghost use Rattle.hy_redo.specs.Tables.{is_past, rise_past, rise, with_table, with_cell, after_changes};
 ghost use Rattle.hy_redo.specs.Tests.{same_cells, begins_from, is_behind, stand_test};
 
-use hy_body::HeldTable;
+use hy_log_record::HeldTable;
 use hy_value::{Change, Changes, Row, compare_rows};
 
 /// Whether two cells have the same row, or none.

@@ -1,9 +1,9 @@
 //! One transaction that changes the row at position 0 of the one table: from 1 to 5, or from a text to another. The bytes come
 //! from outside.
 
-use hy_body::{HeldTable, HeldTables};
 use hy_disk::MemDisk;
 use hy_journal::Entry;
+use hy_log_record::{HeldTable, HeldTables};
 use hy_redo::{RecoverError, append, create, recover};
 use hy_stamp::Label;
 use hy_value::{Change, Kind, Row, Seq, Text, Value};

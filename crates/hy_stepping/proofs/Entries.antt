@@ -8,9 +8,9 @@ use Rattle.std.proofs.lemmas.Option.{slice_get-get_or}
 use Rattle.hy_value.specs.declared.Kind.{Kind}
 use Rattle.hy_value.specs.declared.change.Change.{Change}
 use Rattle.hy_journal.specs.declared.Entry.{Entry}
-use Rattle.hy_body.specs.declared.HeldTable.{HeldTable}
-use Rattle.hy_body.specs.Bytes.{net_of}
-use Rattle.hy_body.specs.Bodies.{IsRowOf, IsChangeOf}
+use Rattle.hy_log_record.specs.declared.HeldTable.{HeldTable}
+use Rattle.hy_log_record.specs.Bytes.{net_of}
+use Rattle.hy_log_record.specs.Bodies.{IsRowOf, IsChangeOf}
 use Rattle.hy_machine.specs.Tables.{Pair, Entry as Entered, Cell, Tables, overlaid, covered, covered_tables, after_entry, history}
 use Rattle.hy_machine.specs.Positions.{item_at, by_place}
 use Rattle.hy_machine.specs.Validation.{change_at}

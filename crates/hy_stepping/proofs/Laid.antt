@@ -4,7 +4,7 @@ use Rattle.std.proofs.Math.ListN.{set}
 use Rattle.std.specs.List.{AllByRecursion}
 use Rattle.hy_value.specs.declared.Kind.{Kind}
 use Rattle.hy_value.specs.declared.change.Change.{Change}
-use Rattle.hy_body.specs.declared.HeldTable.{HeldTable}
+use Rattle.hy_log_record.specs.declared.HeldTable.{HeldTable}
 use Rattle.hy_machine.specs.Tables.{Pair, Cell, Tables, overlaid, covered, covered_tables}
 use Rattle.hy_machine.specs.Positions.{item_at, by_position, by_table, by_place}
 use Rattle.hy_machine.specs.Validation.{change_between, change_at}

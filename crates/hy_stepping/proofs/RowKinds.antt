@@ -24,7 +24,7 @@ use Rattle.hy_bound.specs.Records.{shape_of}
 use Rattle.hy_column.specs.Cells.{FitsKind}
 use Rattle.hy_chunk.specs.Sound.{FitsRow}
 use Rattle.hy_chunk.specs.Writes.{FitsSets}
-use Rattle.hy_body.specs.Bodies.{IsOfKind, AreOfKinds, IsRowOf}
+use Rattle.hy_log_record.specs.Bodies.{IsOfKind, AreOfKinds, IsRowOf}
 use Rattle.hy_machine.specs.declared.Setting.{Setting}
 use Rattle.hy_machine.specs.Tables.{Cell}
 use Rattle.hy_lawful.specs.Rows.{StatementMeets, SettingMeets, passes}

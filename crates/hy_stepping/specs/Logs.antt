@@ -1,7 +1,7 @@
 -- The journal of a run can be recovered: its entries stand on the first tables, and leave the tables of the machine.
 use Rattle.std.specs.Prelude.{◌≡◌, ℕ, List, None, Ok, map, take}
 use Rattle.hy_value.specs.declared.Kind.{Kind}
-use Rattle.hy_body.specs.declared.HeldTable.{HeldTable}
+use Rattle.hy_log_record.specs.declared.HeldTable.{HeldTable}
 use Rattle.hy_event.specs.declared.SessionData.{SessionData}
 use Rattle.hy_event.specs.Events.{Part}
 use Rattle.hy_machine.specs.declared.Setting.{Setting}

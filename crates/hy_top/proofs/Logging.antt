@@ -3,7 +3,7 @@ use Rattle.std.proofs.Common.{◌≡◌, ◌⊎◌, ℕ, ◌<◌, ◌≤◌, Lis
 use Rattle.std.proofs.Math.Logic.{⊎_elim}
 use mathlib.Core.List.{map-map}
 use Rattle.std.proofs.lemmas.List.{take_all}
-use Rattle.hy_body.specs.declared.HeldTable.{HeldTable}
+use Rattle.hy_log_record.specs.declared.HeldTable.{HeldTable}
 use Rattle.hy_machine.specs.Tables.{Entry, history, opening_tables}
 use Rattle.hy_machine.specs.Outcomes.{rows_sorted}
 use Rattle.hy_machine.specs.Runs.{opening_of, run_of}

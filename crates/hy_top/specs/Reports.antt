@@ -18,7 +18,7 @@ use Rattle.hy_words.specs.declared.Command.TheVariants.{Run, Check, Recover, Gen
 use Rattle.hy_value.specs.declared.Value.{Value}
 use Rattle.hy_render.specs.declared.Names.{Names}
 use Rattle.hy_render.specs.Report.{tables_text}
-use Rattle.hy_body.specs.declared.HeldTable.{HeldTable}
+use Rattle.hy_log_record.specs.declared.HeldTable.{HeldTable}
 use Rattle.hy_redo.specs.Recovery.{Recovers}
 use Rattle.hy_disk.specs.Bytes.{IsOwn}
 use Rattle.hy_disk.specs.Calls.{TouchedOf}

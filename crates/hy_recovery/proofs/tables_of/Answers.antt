@@ -5,7 +5,7 @@ use Rattle.std.proofs.lemmas.List.{append-nil}
 use Rattle.std.proofs.lemmas.Slice.Zip.{either_empty_from_Zip}
 use Rattle.hy_value.specs.declared.Kind.{Kind}
 use Rattle.hy_value.specs.declared.Value.{Value}
-use Rattle.hy_body.specs.declared.HeldTable.{HeldTable}
+use Rattle.hy_log_record.specs.declared.HeldTable.{HeldTable}
 use Rattle.hy_machine.specs.Tables.{Cell, laid_out}
 use Rattle.hy_recovery.specs.Recovered.{held_tables}
 use Rattle.hy_recovery.proofs.tables_of.Goals as goal

@@ -1,6 +1,6 @@
 use Rattle.std.proofs.Common.{◌≡◌, ◌∷◌, ◌++◌, List, ℕ, Err, ap, sym, subst}
 use Rattle.std.proofs.lemmas.Result.{err_from_is_err_and}
-use Rattle.hy_body.specs.declared.BodyError.{BodyError}
+use Rattle.hy_log_record.specs.declared.BodyError.{BodyError}
 use Rattle.hy_redo.specs.Recovery.{IsBroken}
 use Rattle.hy_redo.specs.Tests.{IsNext}
 use Rattle.hy_redo.proofs.Redoing.{broken_whatever, next_found, stops_body}

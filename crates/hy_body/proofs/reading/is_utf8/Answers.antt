@@ -1,5 +1,0 @@
-use Rattle.hy_body.proofs.Fields.{tells_utf8}
-use Rattle.hy_body.proofs.reading.is_utf8.Goals as goal
-
-pub returns : goal.returns
-returns c = tells_utf8 c.args.bytes.now c.from_utf8.result c.is_ok.result _ _ c.from_utf8.ensures.cases c.is_ok.ensures.value

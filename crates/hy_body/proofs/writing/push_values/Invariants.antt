@@ -1,7 +1,0 @@
-use Rattle.std.proofs.Common.{take}
-use Rattle.hy_body.specs.Bytes.{value_bytes, HasValueBytes}
-use Rattle.hy_body.proofs.Pushed.{Pushed}
-use Rattle.hy_body.proofs.writing.push_values.Given as goal
-
-abbrev pub invariant-loop-value : goal.invariant-loop-value
-invariant-loop-value l = Pushed value_bytes HasValueBytes (take l.value-index l.values) l.fn.out.items l.out.items

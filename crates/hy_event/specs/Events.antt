@@ -22,7 +22,7 @@ use Rattle.hy_event.specs.Writing.{WriteVisit}
 use Rattle.hy_event.specs.Inserting.{InsertVisit}
 use Rattle.hy_event.specs.Stamping.{StampVisit}
 use Rattle.hy_event.specs.Undoing.{UndoVisit}
-use Rattle.hy_event.specs.Coring.{CoreEvent}
+use Rattle.hy_event.specs.CoreTurns.{CoreEvent}
 
 -- ---- a visit of a chunk
 

@@ -12,7 +12,7 @@ ghost use Rattle.hy_event.specs.declared.Phase.{Phase};
 ghost use Rattle.hy_event.specs.declared.Progress.{Progress};
 ghost use Rattle.hy_event.specs.declared.SessionData.{SessionData};
 ghost use Rattle.hy_event.specs.Needs.{need_of};
-ghost use Rattle.hy_event.specs.Coring.{CoreEvent};
+ghost use Rattle.hy_event.specs.CoreTurns.{CoreEvent};
 ghost use Rattle.hy_event.specs.Events.{ChunkEvent, Event, CorePart};
 ghost use Rattle.hy_event.specs.Accounts.{number, account, is_account, counting, grouping, paying, closing, opening, logged, kept_by_count};
 ghost use Rattle.hy_event.specs.Accounts.{committing, rolling_back};

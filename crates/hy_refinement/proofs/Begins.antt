@@ -9,7 +9,7 @@ use Rattle.hy_event.specs.declared.SessionData.{SessionData}
 use Rattle.hy_event.specs.declared.Progress.{Progress}
 use Rattle.hy_event.specs.declared.Progress.TheVariants as came_to
 use Rattle.hy_event.specs.declared.Open.{Open}
-use Rattle.hy_event.specs.Coring.{beginning}
+use Rattle.hy_event.specs.CoreTurns.{beginning}
 use Rattle.hy_event.specs.Events.{Part, CorePart}
 use Rattle.hy_machine.specs.declared.Setting.{Setting}
 use Rattle.hy_machine.specs.States.{State, Open as Current}

@@ -13,7 +13,7 @@ use Rattle.hy_event.specs.declared.SessionData.{SessionData}
 use Rattle.hy_event.specs.declared.Open.{Open}
 use Rattle.hy_event.specs.declared.Phase.{Phase}
 use Rattle.hy_event.specs.declared.Phase.TheVariants as phase
-use Rattle.hy_event.specs.Coring.{beginning}
+use Rattle.hy_event.specs.CoreTurns.{beginning}
 use Rattle.hy_machine.specs.declared.Setting.{Setting}
 use Rattle.hy_machine.specs.States.{State, Open as Current}
 use Rattle.hy_machine.specs.Sessions.{session_at, label_of}

@@ -12,7 +12,7 @@ use Rattle.hy_value.specs.declared.Value.{Value}
 use Rattle.hy_journal.specs.declared.CoreData.{CoreData}
 use Rattle.hy_event.specs.declared.SessionData.{SessionData}
 use Rattle.hy_event.specs.declared.Open.{Open}
-use Rattle.hy_event.specs.Coring.{beginning}
+use Rattle.hy_event.specs.CoreTurns.{beginning}
 use Rattle.hy_machine.specs.declared.Setting.{Setting}
 use Rattle.hy_machine.specs.States.{State, Session, Open as Current, Working}
 use Rattle.hy_machine.specs.Positions.{item_at}

@@ -17,7 +17,7 @@ use Rattle.hy_journal.specs.declared.Entry.{Entry}
 use Rattle.hy_validate.specs.declared.Invalid.{Invalid}
 use Rattle.hy_validate.specs.Hits.{hit_among, first_invalid, change_hit, invalid_by as invalid_of}
 use Rattle.hy_validate.specs.Statements.{statement_at, statement_hit}
-use Rattle.hy_event.specs.Coring.{invalid_by, statement_of}
+use Rattle.hy_event.specs.CoreTurns.{invalid_by, statement_of}
 use Rattle.hy_event.specs.declared.Open.{Open}
 use Rattle.hy_machine.specs.declared.Setting.{Setting}
 use Rattle.hy_machine.specs.States.{State, Open as Current}

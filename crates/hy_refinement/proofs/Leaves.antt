@@ -21,7 +21,7 @@ use Rattle.hy_event.specs.declared.Progress.{Progress}
 use Rattle.hy_event.specs.declared.Progress.TheVariants as came_to
 use Rattle.hy_event.specs.Sessions.{label_of as label_here, written_in, written}
 use Rattle.hy_event.specs.Turns.{with_ended as ended_here}
-use Rattle.hy_event.specs.Coring.{TakesAtCore, leave_turn}
+use Rattle.hy_event.specs.CoreTurns.{TakesAtCore, leave_turn}
 use Rattle.hy_event.specs.Events.{Part, CorePart}
 use Rattle.hy_machine.specs.declared.Setting.{Setting}
 use Rattle.hy_machine.specs.States.{State, Open as Current}

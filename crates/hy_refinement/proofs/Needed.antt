@@ -14,7 +14,7 @@ use Rattle.hy_event.specs.declared.Need.TheVariants.{Core, Chunk, Done}
 use Rattle.hy_event.specs.declared.Progress.{Progress}
 use Rattle.hy_event.specs.Sessions.{txn_at as txn_here}
 use Rattle.hy_event.specs.Needs.{need_of}
-use Rattle.hy_event.specs.Coring.{CoreEvent}
+use Rattle.hy_event.specs.CoreTurns.{CoreEvent}
 use Rattle.hy_event.specs.Events.{Part, ChunkPart, CorePart, part_number, NeededVisit, ChunkEvent}
 use Rattle.hy_machine.specs.declared.Setting.{Setting}
 use Rattle.hy_machine.specs.States.{State}

@@ -18,7 +18,7 @@ use Rattle.hy_event.specs.declared.Open.{Open}
 use Rattle.hy_event.specs.declared.Progress.{Progress}
 use Rattle.hy_event.specs.Sessions.{label_of}
 use Rattle.hy_event.specs.Turns.{refused as refuses, Takes}
-use Rattle.hy_event.specs.Coring.{CoreTurn, TakesAtCore, unless_blocked as unless_waits, closing_turn as closes_at, commit_turn as commits_at, validated_turn as validates, close_turn, invalid_by}
+use Rattle.hy_event.specs.CoreTurns.{CoreTurn, TakesAtCore, unless_blocked as unless_waits, closing_turn as closes_at, commit_turn as commits_at, validated_turn as validates, close_turn, invalid_by}
 use Rattle.hy_event.specs.Events.{Part, CorePart}
 use Rattle.hy_machine.specs.declared.Setting.{Setting}
 use Rattle.hy_machine.specs.States.{State, Open as Current, Cause}

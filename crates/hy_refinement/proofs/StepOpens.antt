@@ -23,7 +23,7 @@ use Rattle.hy_event.specs.Sessions.{label_of, written_chunks as chunks_written}
 use Rattle.hy_event.specs.Needs.{phase_need, working_need, closing_need, written_need, chunk_or_core}
 use Rattle.hy_event.specs.Stamping.{StampVisit}
 use Rattle.hy_event.specs.Undoing.{UndoVisit}
-use Rattle.hy_event.specs.Coring.{TakesAtCore, phase_turn as phase_at, working_turn as working_at, unless_blocked as unless_waits, closing_turn as closes_at}
+use Rattle.hy_event.specs.CoreTurns.{TakesAtCore, phase_turn as phase_at, working_turn as working_at, unless_blocked as unless_waits, closing_turn as closes_at}
 use Rattle.hy_event.specs.Events.{Part, ChunkPart, CorePart, PhaseVisit, WorkingVisit, ClosingVisit}
 use Rattle.hy_machine.specs.declared.Setting.{Setting}
 use Rattle.hy_machine.specs.States.{State, Open as Current, Cause, RolledBack, Phase as Stage}

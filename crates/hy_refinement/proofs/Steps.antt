@@ -13,7 +13,7 @@ use Rattle.hy_event.specs.declared.Open.{Open}
 use Rattle.hy_event.specs.declared.Need.TheVariants.{Core, Chunk}
 use Rattle.hy_event.specs.Sessions.{txn_at as txn_here}
 use Rattle.hy_event.specs.Needs.{session_need}
-use Rattle.hy_event.specs.Coring.{TakesAtCore, session_turn as session_at_core, unless_blocked as unless_waits, begin_turn}
+use Rattle.hy_event.specs.CoreTurns.{TakesAtCore, session_turn as session_at_core, unless_blocked as unless_waits, begin_turn}
 use Rattle.hy_event.specs.Events.{Part, ChunkPart, CorePart, SessionVisit}
 use Rattle.hy_machine.specs.declared.Setting.{Setting}
 use Rattle.hy_machine.specs.States.{State, Open as Current}

@@ -16,7 +16,7 @@ use Rattle.hy_event.specs.declared.Phase.TheVariants as phase
 use Rattle.hy_event.specs.declared.Progress.{Progress}
 use Rattle.hy_event.specs.Sessions.{label_of}
 use Rattle.hy_event.specs.Turns.{Enters as enters, Waits as waits, refused as refuses, Takes}
-use Rattle.hy_event.specs.Coring.{TakesAtCore, begin_turn, close_turn, leave_turn, invalid_by}
+use Rattle.hy_event.specs.CoreTurns.{TakesAtCore, begin_turn, close_turn, leave_turn, invalid_by}
 use Rattle.hy_event.specs.Events.{Part, CorePart}
 use Rattle.hy_machine.specs.declared.Setting.{Setting}
 use Rattle.hy_machine.specs.States.{State, Open as Current, Cause}

@@ -3,7 +3,7 @@ pub mod Seeking
 pub mod Near
 pub mod Entered
 pub mod Short
-pub mod Works
+pub mod CoreSteps
 pub mod Preparing
 pub mod Reading
 pub mod Visitors

@@ -8,7 +8,8 @@ ghost use Rattle.hy_session.specs.Standing.{standing_of};
 
 mod answers;
 mod copying;
-mod coring;
+mod core_steps;
+mod core_visits;
 mod ends;
 mod inserting;
 mod needs;
@@ -19,7 +20,6 @@ mod seeking;
 mod stamping;
 mod visitors;
 mod visits;
-mod works;
 mod writing;
 
 use hy_bound::{Reply, Shapes, Txns};

@@ -15,7 +15,7 @@ use Rattle.hy_event.specs.declared.Phase.{Phase}
 use Rattle.hy_event.specs.declared.Phase.TheVariants.{Working, Stamping, Undoing}
 use Rattle.hy_event.specs.declared.Progress.{Progress}
 use Rattle.hy_event.specs.Sessions.{txn_at, label_of}
-use Rattle.hy_event.specs.Coring.{CoreTurn, unless_blocked, begin_turn, close_turn, validated_turn, commit_turn, closing_turn, working_turn, phase_turn, session_turn, core_turn, TakesAtCore, CoreEvent}
+use Rattle.hy_event.specs.CoreTurns.{CoreTurn, unless_blocked, begin_turn, close_turn, validated_turn, commit_turn, closing_turn, working_turn, phase_turn, session_turn, core_turn, TakesAtCore, CoreEvent}
 use Rattle.hy_world.specs.Logged.{GrowByOne}
 
 -- a turn at the core adds one entry, or none

@@ -12,7 +12,7 @@ use Rattle.hy_chunk.specs.Views.{Whole}
 use Rattle.hy_event.specs.declared.SessionData.{SessionData}
 use Rattle.hy_event.specs.declared.Need.TheVariants.{Core, Chunk}
 use Rattle.hy_event.specs.declared.Progress.{Progress}
-use Rattle.hy_event.specs.Coring.{CoreEvent}
+use Rattle.hy_event.specs.CoreTurns.{CoreEvent}
 use Rattle.hy_event.specs.Events.{ChunkEvent}
 use Rattle.hy_machine.specs.Steps.{step_of}
 use Rattle.hy_refinement.specs.Taken.{stepped_of}

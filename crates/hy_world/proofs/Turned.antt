@@ -31,8 +31,8 @@ use Rattle.hy_event.specs.declared.Phase.{Phase}
 use Rattle.hy_event.specs.declared.Phase.TheVariants as phase
 use Rattle.hy_event.specs.declared.Progress.{Progress}
 use Rattle.hy_event.specs.declared.Progress.TheVariants.{Moved, Answered, Blocked}
-use Rattle.hy_event.specs.Coring.{CoreEvent, CoreTurn, TakesAtCore, begin_turn, close_turn, closing_turn, commit_turn, core_turn, invalid_by, leave_turn}
-use Rattle.hy_event.specs.Coring.{phase_turn, session_turn, unless_blocked, validated_turn, working_turn}
+use Rattle.hy_event.specs.CoreTurns.{CoreEvent, CoreTurn, TakesAtCore, begin_turn, close_turn, closing_turn, commit_turn, core_turn, invalid_by, leave_turn}
+use Rattle.hy_event.specs.CoreTurns.{phase_turn, session_turn, unless_blocked, validated_turn, working_turn}
 use Rattle.hy_event.specs.Events.{ChunkEvent, ClosingVisit, PhaseVisit, SessionVisit, StatementVisit, WorkingVisit}
 use Rattle.hy_event.specs.Gathering.{ReadPlan, group_read_plan, select_read_plan}
 use Rattle.hy_event.specs.Inserting.{InsertVisit, CheckVisit, PlaceVisit, check_turn, free_position, place_turn, sees_key}

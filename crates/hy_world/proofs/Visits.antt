@@ -14,7 +14,7 @@ use Rattle.hy_event.specs.declared.Need.{Need}
 use Rattle.hy_event.specs.declared.Need.TheVariants.{Core, Chunk, Done}
 use Rattle.hy_event.specs.declared.Progress.{Progress}
 use Rattle.hy_event.specs.Needs.{need_of}
-use Rattle.hy_event.specs.Coring.{CoreEvent}
+use Rattle.hy_event.specs.CoreTurns.{CoreEvent}
 use Rattle.hy_event.specs.Events.{Part, ChunkPart, CorePart, ChunkEvent, NeededVisit, part_number}
 use Rattle.hy_machine.specs.declared.Setting.{Setting}
 use Rattle.hy_machine.specs.States.{State}

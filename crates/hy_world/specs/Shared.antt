@@ -15,7 +15,7 @@ use Rattle.hy_event.specs.declared.SessionData.{SessionData}
 use Rattle.hy_event.specs.declared.Need.{Need}
 use Rattle.hy_event.specs.declared.Need.TheVariants.{Core, Chunk}
 use Rattle.hy_event.specs.declared.Progress.{Progress}
-use Rattle.hy_event.specs.Coring.{core_turn}
+use Rattle.hy_event.specs.CoreTurns.{core_turn}
 use Rattle.hy_event.specs.Events.{Part, ChunkPart, CorePart, part_number, NeededVisit}
 use Rattle.hy_event.specs.Needs.{need_of}
 use Rattle.hy_event.specs.Turns.{Waits}

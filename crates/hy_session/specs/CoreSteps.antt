@@ -7,9 +7,9 @@ use Rattle.hy_event.specs.declared.SessionData.{SessionData}
 use Rattle.hy_event.specs.declared.Open.{Open}
 use Rattle.hy_event.specs.Sessions.{label_of}
 use Rattle.hy_event.specs.Turns.{Waits, Enters, Ends, refused}
-use Rattle.hy_event.specs.Coring.{CoreTurn, begin_turn}
-use Rattle.hy_session.specs.declared.works.Work.{Work}
-use Rattle.hy_session.specs.declared.works.Work.TheVariants as work
+use Rattle.hy_event.specs.CoreTurns.{CoreTurn, begin_turn}
+use Rattle.hy_session.specs.declared.core_steps.CoreStep.{CoreStep}
+use Rattle.hy_session.specs.declared.core_steps.CoreStep.TheVariants as step
 
 -- the core after the entry or the end of the open transaction, if there is one
 abbrev pub entered_by : SessionData → CoreData → Option Open → CoreData
@@ -25,19 +25,19 @@ closed_by core None = core
 closed_by core (Some now) = core_closed core now.start
 
 -- whether it is the end of a transaction that has its entry
-abbrev pub leaves : Work → Bool
-leaves (work.Wait by) = false
-leaves work.Begin = false
-leaves work.Enter = false
-leaves (work.Refuse cause) = false
-leaves (work.Close cause) = false
-leaves (work.Leave rank) = true
+abbrev pub leaves : CoreStep → Bool
+leaves (step.Wait by) = false
+leaves step.Begin = false
+leaves step.Enter = false
+leaves (step.Refuse cause) = false
+leaves (step.Close cause) = false
+leaves (step.Leave rank) = true
 
 -- the turn that a session takes by what it has chosen to do, and the core after it
-abbrev pub turn_by : Work → SessionData → CoreData → CoreTurn
-turn_by (work.Wait by) session core = (Waits by, core)
-turn_by work.Begin session core = begin_turn core
-turn_by work.Enter session core = (Enters core.next, entered_by session core session.now)
-turn_by (work.Refuse cause) session core = (refused cause, core)
-turn_by (work.Close cause) session core = (Ends cause, closed_by core session.now)
-turn_by (work.Leave rank) session core = (Ends (Committed rank), left_by core session.now)
+abbrev pub turn_by : CoreStep → SessionData → CoreData → CoreTurn
+turn_by (step.Wait by) session core = (Waits by, core)
+turn_by step.Begin session core = begin_turn core
+turn_by step.Enter session core = (Enters core.next, entered_by session core session.now)
+turn_by (step.Refuse cause) session core = (refused cause, core)
+turn_by (step.Close cause) session core = (Ends cause, closed_by core session.now)
+turn_by (step.Leave rank) session core = (Ends (Committed rank), left_by core session.now)

@@ -3,16 +3,16 @@
 ghost use Rattle.std.specs.Prelude.{◌≡◌, ◌^◌, ◌<◌, [], true, false, IfOk, OnOk, OnErr, length};
 ghost use Rattle.hy_event.specs.declared.Need.{Need};
 ghost use Rattle.hy_event.specs.Needs.{need_of};
-ghost use Rattle.hy_event.specs.Coring.{CoreEvent, beginning};
+ghost use Rattle.hy_event.specs.CoreTurns.{CoreEvent, beginning};
 ghost use Rattle.hy_event.specs.Turns.{Begins, Enters, Ends, Takes, refused};
 ghost use Rattle.hy_render.specs.declared.Ending.TheVariants.{Committed};
 ghost use Rattle.hy_journal.specs.Core.{core_begun};
 ghost use Rattle.hy_session.specs.Entered.{has_entry};
 ghost use Rattle.hy_session.specs.Near.{IsActive, NearCore};
-ghost use Rattle.hy_session.specs.Works.{closed_by, entered_by, left_by};
+ghost use Rattle.hy_session.specs.CoreSteps.{closed_by, entered_by, left_by};
 
+use crate::core_steps::CoreStep;
 use crate::ends::written_places;
-use crate::works::Work;
 use crate::{Running, Session};
 use hy_core::Core;
 use hy_event::{Phase, Progress};
@@ -147,12 +147,12 @@ impl Session {
         ensures entered { OnErr result (has_entry self.old ≡ false) }
     {
         match self.choose(alloc, core)? {
-            Work::Wait(by) => Ok(Progress::Blocked { by }),
-            Work::Begin => self.begin(alloc, core),
-            Work::Enter => self.enter(alloc, core),
-            Work::Refuse(cause) => Ok(self.refuse(cause)),
-            Work::Close(cause) => self.close(alloc, core, cause),
-            Work::Leave(rank) => Ok(self.leave(alloc, core, rank)),
+            CoreStep::Wait(by) => Ok(Progress::Blocked { by }),
+            CoreStep::Begin => self.begin(alloc, core),
+            CoreStep::Enter => self.enter(alloc, core),
+            CoreStep::Refuse(cause) => Ok(self.refuse(cause)),
+            CoreStep::Close(cause) => self.close(alloc, core, cause),
+            CoreStep::Leave(rank) => Ok(self.leave(alloc, core, rank)),
         }
     }
 }

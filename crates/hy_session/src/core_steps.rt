@@ -5,11 +5,11 @@ ghost use Rattle.hy_event.specs.declared.Need.{Need};
 ghost use Rattle.hy_event.specs.declared.SessionData.{SessionData};
 ghost use Rattle.hy_event.specs.Sessions.{label_of};
 ghost use Rattle.hy_event.specs.Needs.{need_of, phase_need};
-ghost use Rattle.hy_event.specs.Coring.{core_turn, phase_turn, unless_blocked, commit_turn, validated_turn, invalid_by};
+ghost use Rattle.hy_event.specs.CoreTurns.{core_turn, phase_turn, unless_blocked, commit_turn, validated_turn, invalid_by};
 ghost use Rattle.hy_journal.specs.Core.{blocked_by};
 ghost use Rattle.hy_validate.specs.Hits.{first_invalid};
 ghost use Rattle.hy_session.specs.Entered.{has_entry, is_stamping};
-ghost use Rattle.hy_session.specs.Works.{leaves, turn_by};
+ghost use Rattle.hy_session.specs.CoreSteps.{leaves, turn_by};
 
 use crate::numbers::behind;
 use crate::{Running, Session};
@@ -23,7 +23,7 @@ use std::alloc::{AllocError, Global};
 
 /// What a session does at the core.
 #[derive(Clone, Copy, Debug, PartialEq, Eq)]
-pub enum Work {
+pub enum CoreStep {
     /// It waits for this transaction, which stands between its entry and its end.
     Wait(Label),
     /// It begins a transaction.
@@ -39,14 +39,14 @@ pub enum Work {
 }
 
 /// A core step is taken unless another transaction stands between its entry and its end.
-fn unless_marked(core: &Core, label: Label, work: Work) -> Work
+fn unless_marked(core: &Core, label: Label, step: CoreStep) -> CoreStep
     ensures turn { (session : SessionData)
-        → turn_by result session core.now ≡ unless_blocked core.now (blocked_by core.now label) (turn_by work session core.now) }
-    ensures stays { leaves work ≡ false → leaves result ≡ false }
+        → turn_by result session core.now ≡ unless_blocked core.now (blocked_by core.now label) (turn_by step session core.now) }
+    ensures stays { leaves step ≡ false → leaves result ≡ false }
 {
     match core.blocked(label) {
-        Some(by) => Work::Wait(by),
-        None => work,
+        Some(by) => CoreStep::Wait(by),
+        None => step,
     }
 }
 
@@ -67,29 +67,29 @@ fn refusal(records: &[Record], invalid: Invalid) -> Ending
 }
 
 /// COMMIT of a transaction that wrote: validation refuses it, or it enters the journal.
-fn validate(alloc: Global, core: &Core, now: &Running) -> Result<Work, AllocError>
-    ensures turn { IfOk result (λ work. (session : SessionData) → session.now ≡ Some now.now
-        → validated_turn session core.now now.now (first_invalid now.now.records (drop now.now.prefix core.now.entries)) ≡ turn_by work session core.now) }
-    ensures stays { IfOk result (λ work. leaves work ≡ false) }
+fn validate(alloc: Global, core: &Core, now: &Running) -> Result<CoreStep, AllocError>
+    ensures turn { IfOk result (λ step. (session : SessionData) → session.now ≡ Some now.now
+        → validated_turn session core.now now.now (first_invalid now.now.records (drop now.now.prefix core.now.entries)) ≡ turn_by step session core.now) }
+    ensures stays { IfOk result (λ step. leaves step ≡ false) }
 {
     let records = now.records.records();
     let tree = Tree::build(alloc, records)?;
     let since = behind(core.since(0), now.prefix as usize);
     match validate_with(&tree, since) {
-        Ok(()) => Ok(Work::Enter),
-        Err(invalid) => Ok(Work::Refuse(refusal(records, invalid))),
+        Ok(()) => Ok(CoreStep::Enter),
+        Err(invalid) => Ok(CoreStep::Refuse(refusal(records, invalid))),
     }
 }
 
 /// COMMIT of a transaction of this label.
-fn commit(alloc: Global, core: &Core, label: Label, now: &Running) -> Result<Work, AllocError>
-    ensures turn { IfOk result (λ work. (session : SessionData) → session.now ≡ Some now.now → label_of session ≡ label
-        → unless_blocked core.now (blocked_by core.now label) (commit_turn session core.now now.now now.now.notes) ≡ turn_by work session core.now) }
-    ensures stays { IfOk result (λ work. leaves work ≡ false) }
+fn commit(alloc: Global, core: &Core, label: Label, now: &Running) -> Result<CoreStep, AllocError>
+    ensures turn { IfOk result (λ step. (session : SessionData) → session.now ≡ Some now.now → label_of session ≡ label
+        → unless_blocked core.now (blocked_by core.now label) (commit_turn session core.now now.now now.now.notes) ≡ turn_by step session core.now) }
+    ensures stays { IfOk result (λ step. leaves step ≡ false) }
 {
     match core.blocked(label) {
-        Some(by) => Ok(Work::Wait(by)),
-        None if now.notes.len() == 0 => Ok(Work::Close(Ending::Read)),
+        Some(by) => Ok(CoreStep::Wait(by)),
+        None if now.notes.len() == 0 => Ok(CoreStep::Close(Ending::Read)),
         None => validate(alloc, core, now),
     }
 }
@@ -113,13 +113,13 @@ impl Session {
         core: &Core,
         txn: &Txn,
         now: &Running,
-    ) -> Result<Work, AllocError>
+    ) -> Result<CoreStep, AllocError>
         requires is_open { self.now.now ≡ Some now.now }
         requires needs { phase_need self.now txn.now now.now now.now.phase ≡ Need.Core }
         requires at { length self.now.done < length self.now.program }
         requires few { length core.now.entries < 2 ^ 32 }
-        ensures turn { IfOk result (λ work. phase_turn self.entry.now core.now txn.now now.now now.now.phase ≡ Some (turn_by work self.entry.now core.now)) }
-        ensures leaves { IfOk result (λ work. leaves work ≡ is_stamping now.now.phase) }
+        ensures turn { IfOk result (λ step. phase_turn self.entry.now core.now txn.now now.now now.now.phase ≡ Some (turn_by step self.entry.now core.now)) }
+        ensures leaves { IfOk result (λ step. leaves step ≡ is_stamping now.now.phase) }
         ensures entered { OnErr result (is_stamping now.now.phase ≡ false) }
     {
         let label = self.label();
@@ -127,29 +127,29 @@ impl Session {
             Phase::Working { .. } => match txn.statements.as_slice().get(now.replies.len()) {
                 Some(_) => unreachable!(),
                 None if txn.commits => commit(alloc, core, label, now),
-                None => Ok(unless_marked(core, label, Work::Close(Ending::RolledBack))),
+                None => Ok(unless_marked(core, label, CoreStep::Close(Ending::RolledBack))),
             },
             Phase::Stamping { .. } => {
                 let entries = core.since(0).len();
-                Ok(Work::Leave(entries.saturating_sub(1) as u32))
+                Ok(CoreStep::Leave(entries.saturating_sub(1) as u32))
             }
-            Phase::Undoing { cause, .. } => Ok(unless_marked(core, label, Work::Close(cause))),
+            Phase::Undoing { cause, .. } => Ok(unless_marked(core, label, CoreStep::Close(cause))),
         }
     }
 
     /// What it does at the core, which it needs. Err is for want of memory, and never comes between its transaction's entry
     /// and its end.
-    pub(crate) fn choose(&self, alloc: Global, core: &Core) -> Result<Work, AllocError>
+    pub(crate) fn choose(&self, alloc: Global, core: &Core) -> Result<CoreStep, AllocError>
         requires needs { need_of self.now ≡ Need.Core }
         requires few { length core.now.entries < 2 ^ 32 }
-        ensures turn { IfOk result (λ work. core_turn self.entry.now core.now ≡ Some (turn_by work self.entry.now core.now)) }
-        ensures leaves { IfOk result (λ work. leaves work ≡ has_entry self.entry.now) }
+        ensures turn { IfOk result (λ step. core_turn self.entry.now core.now ≡ Some (turn_by step self.entry.now core.now)) }
+        ensures leaves { IfOk result (λ step. leaves step ≡ has_entry self.entry.now) }
         ensures entered { OnErr result (has_entry self.entry.now ≡ false) }
     {
         match self.program.as_slice().get(self.done.len()) {
             None => unreachable!(),
             Some(txn) => match &self.now {
-                None => Ok(unless_marked(core, self.label(), Work::Begin)),
+                None => Ok(unless_marked(core, self.label(), CoreStep::Begin)),
                 Some(now) => self.choose_by(alloc, core, txn, now),
             },
         }

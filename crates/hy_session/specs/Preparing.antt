@@ -12,8 +12,8 @@ use Rattle.hy_event.specs.declared.Phase.{Phase}
 use Rattle.hy_event.specs.declared.Phase.TheVariants.{Working, Stamping, Undoing}
 use Rattle.hy_event.specs.Ended.{statements_in}
 use Rattle.hy_session.specs.declared.prepared.Prepared.{Prepared}
-use Rattle.hy_session.specs.declared.prepared.Way.{Way}
-use Rattle.hy_session.specs.declared.prepared.Way.TheVariants.{Read, Write}
+use Rattle.hy_session.specs.declared.prepared.StatementPlan.{StatementPlan}
+use Rattle.hy_session.specs.declared.prepared.StatementPlan.TheVariants.{Read, Write}
 use Rattle.hy_session.specs.Near.{present_statement}
 use Rattle.hy_visit.specs.Readers.{IsPlanOf, plan_by}
 
@@ -27,10 +27,10 @@ kind_of (Insert table row) = None
 kind_of (Update table sets pred) = Some (Set sets)
 kind_of (Delete table pred) = None
 
--- a statement is run in this way
-abbrev pub IsWayOf : List Shape → Bound → Way → Type 0
-IsWayOf shapes statement (Read reader) = IsPlanOf shapes statement (plan_by reader)
-IsWayOf shapes statement (Write kind) = kind_of statement ≡ Some kind
+-- a statement is run by this plan
+abbrev pub IsStatementPlan : List Shape → Bound → StatementPlan → Type 0
+IsStatementPlan shapes statement (Read reader) = IsPlanOf shapes statement (plan_by reader)
+IsStatementPlan shapes statement (Write kind) = kind_of statement ≡ Some kind
 
 -- ---- a statement of a program
 
@@ -42,14 +42,14 @@ statement_at program txn number = slice_get (statements_in (slice_get program tx
 abbrev pub IsKept : List Shape → List Txn → Option Prepared → Type 0
 IsKept shapes program None = Unit {0}
 IsKept shapes program (Some kept) = (statement : Bound) → statement_at program kept.txn kept.statement ≡ Some statement
-    → IsWayOf shapes statement kept.way
+    → IsStatementPlan shapes statement kept.plan
 
 -- ---- a statement of a session
 
--- the statement of this number of the present transaction, if there is such a one, is run in this way
-abbrev pub IsWayAt : SessionData → ℕ → Way → Type 0
-IsWayAt session number way = (statement : Bound) → statement_at session.program (length session.done) number ≡ Some statement
-    → IsWayOf session.shapes statement way
+-- the statement of this number of the present transaction, if there is such a one, is run by this plan
+abbrev pub IsPlanAt : SessionData → ℕ → StatementPlan → Type 0
+IsPlanAt session number plan = (statement : Bound) → statement_at session.program (length session.done) number ≡ Some statement
+    → IsStatementPlan session.shapes statement plan
 
 -- the statement at which an open transaction works, by where it stands
 abbrev pub statement_by : SessionData → Open → Phase → Option Bound
@@ -65,9 +65,9 @@ statement_of session (Some now) = statement_by session now now.phase
 abbrev pub statement_in : SessionData → Option Bound
 statement_in session = statement_of session session.now
 
--- it is run in this way
-abbrev pub IsWayFor : SessionData → Way → Type 0
-IsWayFor session way = (statement : Bound) → statement_in session ≡ Some statement → IsWayOf session.shapes statement way
+-- it is run by this plan
+abbrev pub IsPlanFor : SessionData → StatementPlan → Type 0
+IsPlanFor session plan = (statement : Bound) → statement_in session ≡ Some statement → IsStatementPlan session.shapes statement plan
 
 -- what it does with a row that it selects, if it is an UPDATE
 abbrev pub kind_if : Option Bound → Option WriteKind

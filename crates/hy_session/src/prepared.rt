@@ -3,9 +3,9 @@
 ghost use Rattle.std.specs.Prelude.{◌≡◌, Some, false, IfOk, IfSome, OnErr, length};
 ghost use Rattle.std.specs.Option.{option_copied, option_map_or};
 ghost use Rattle.hy_event.specs.declared.Open.{Open};
-ghost use Rattle.hy_session.specs.declared.prepared.Way.TheVariants.{Read};
+ghost use Rattle.hy_session.specs.declared.prepared.StatementPlan.TheVariants.{Read};
 ghost use Rattle.hy_session.specs.Entered.{has_entry};
-ghost use Rattle.hy_session.specs.Preparing.{IsWayAt, IsWayFor, kind_in, statement_in};
+ghost use Rattle.hy_session.specs.Preparing.{IsPlanAt, IsPlanFor, kind_in, statement_in};
 ghost use Rattle.hy_session.specs.Reading.{IsReading};
 
 use crate::Session;
@@ -17,7 +17,7 @@ use std::alloc::{AllocError, Global};
 
 /// How a statement is run.
 #[derive(Drop)]
-pub enum Way {
+pub enum StatementPlan {
     /// A SELECT, by this plan.
     Read(Reader),
     /// An UPDATE: this is done with each row that it selects.
@@ -32,7 +32,7 @@ pub struct Prepared {
     /// Its number in the transaction, from 0 on.
     pub statement: usize,
     /// How it is run.
-    pub way: Way,
+    pub plan: StatementPlan,
 }
 
 impl Session {
@@ -60,8 +60,8 @@ impl Session {
     }
 
     /// How its present statement is run, if that was kept. Nothing is kept then.
-    fn take_way(&mut self) -> Option<Way>
-        ensures way { IfSome result (IsWayFor self.old) }
+    fn take_plan(&mut self) -> Option<StatementPlan>
+        ensures plan { IfSome result (IsPlanFor self.old) }
         ensures same { self.new ≡ self.old }
     {
         let number = self.answered();
@@ -69,21 +69,21 @@ impl Session {
             return None;
         };
         if kept.txn == self.done.len() && kept.statement == number {
-            Some(kept.way)
+            Some(kept.plan)
         } else {
             None
         }
     }
 
     /// The statement of this number of its transaction is run so, which is kept.
-    pub(crate) fn keep_way(&mut self, number: usize, way: Way)
-        requires { IsWayAt self.old number way }
+    pub(crate) fn keep_plan(&mut self, number: usize, plan: StatementPlan)
+        requires { IsPlanAt self.old number plan }
         ensures { self.new ≡ self.old }
     {
         self.prepared = Some(Prepared {
             txn: self.done.len(),
             statement: number,
-            way,
+            plan,
         });
     }
 
@@ -91,10 +91,10 @@ impl Session {
     /// then. Err is for want of memory.
     pub(crate) fn take_reader(&mut self, alloc: Global) -> Result<Reader, AllocError>
         requires { IsReading self.old }
-        ensures way { IfOk result (λ reader. IsWayFor self.old (Read reader)) }
+        ensures plan { IfOk result (λ reader. IsPlanFor self.old (Read reader)) }
         ensures same { self.new ≡ self.old }
     {
-        if let Some(Way::Read(reader)) = self.take_way() {
+        if let Some(StatementPlan::Read(reader)) = self.take_plan() {
             return Ok(reader);
         }
         match self.present() {
@@ -110,10 +110,10 @@ impl Session {
         ensures same { self.new ≡ self.old }
         ensures entered { OnErr result (has_entry self.old ≡ false) }
     {
-        let way = self.take_way();
+        let plan = self.take_plan();
         match self.present() {
-            Some(Bound::Update { sets, .. }) => match way {
-                Some(Way::Write(kind)) => Ok(Some(kind)),
+            Some(Bound::Update { sets, .. }) => match plan {
+                Some(StatementPlan::Write(kind)) => Ok(Some(kind)),
                 _ => Ok(Some(WriteKind::Set(copy_sets(alloc, sets)?))),
             },
             _ => Ok(None),

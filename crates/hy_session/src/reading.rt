@@ -14,13 +14,13 @@ ghost use Rattle.hy_event.specs.Turns.{Answers, Visits, Takes, with_changed};
 ghost use Rattle.hy_session.specs.Near.{NearChunk};
 ghost use Rattle.hy_visit.specs.Parts.{tables_found};
 ghost use Rattle.hy_visit.specs.Readers.{IsPlanOf, plan_by, told_of};
-ghost use Rattle.hy_session.specs.declared.prepared.Way.TheVariants.{Read};
-ghost use Rattle.hy_session.specs.Preparing.{IsWayFor};
+ghost use Rattle.hy_session.specs.declared.prepared.StatementPlan.TheVariants.{Read};
+ghost use Rattle.hy_session.specs.Preparing.{IsPlanFor};
 ghost use Rattle.hy_session.specs.Reading.{IsNextFor, IsReading, IsStep, IsStepOf};
 
 use crate::answers::{Answer, push_answer, reserve_answer};
 use crate::numbers::number;
-use crate::prepared::Way;
+use crate::prepared::StatementPlan;
 use crate::visitors::Present;
 use crate::{Running, Session};
 use hy_bound::{Bound, Records, Reply};
@@ -139,7 +139,7 @@ impl Session {
     ) -> Result<ReadStep, AllocError>
         requires near { NearChunk self.now chunk.old }
         requires reads { IsReading self.now }
-        requires way { IsWayFor self.now (Read reader.now) }
+        requires plan { IsPlanFor self.now (Read reader.now) }
         ensures step { IfOk result (λ step. IsStepOf self.entry.now chunk.old.shown.places step) }
         ensures all { chunk.new ≡ chunk.old }
     {
@@ -229,7 +229,7 @@ impl Session {
                 piece,
                 visited,
             } => {
-                self.keep_way(answered, Way::Read(reader));
+                self.keep_plan(answered, StatementPlan::Read(reader));
                 self.keep(alloc, number, piece, visited)
             }
             ReadStep::Answer { reply, records } => self.give(reply, records),

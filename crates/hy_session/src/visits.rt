@@ -10,7 +10,7 @@ ghost use Rattle.hy_session.specs.Short.{LeavesShort};
 ghost use Rattle.hy_session.specs.Visitors.{CanWork, ForVisitor, ShortAt, gathers, is_reading};
 
 use crate::inserting::{Insertion, insert};
-use crate::prepared::Way;
+use crate::prepared::StatementPlan;
 use crate::stamping::{stamp, undo};
 use crate::visitors::{Present, Visitor};
 use crate::writing::{Write, write_rows};
@@ -171,7 +171,7 @@ impl Session {
         if let Some(kind) = kind
             && let Progress::Moved = progress
         {
-            self.keep_way(answered, Way::Write(kind));
+            self.keep_plan(answered, StatementPlan::Write(kind));
         }
         Ok(progress)
     }

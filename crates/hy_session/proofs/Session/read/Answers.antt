@@ -19,7 +19,7 @@ returns-in-More-clause-event c =
     (λ progress turn. kept_event session c.args.chunk.now.shown progress c.keep.new.self c.read_step.new.chunk.shown c.in_ok-number.field-0
     c.in-More.number c.in-More.visited c.in-More.piece step c.in-More.is
     (subst (λ (s : SessionData). Takes (with_piece c.in-More.number c.in-More.piece.rows s) (Visits [] (Working c.in-More.visited 0)) progress c.keep.new.self)
-    (c.keep_way.ensures ∙ c.take_reader.ensures.same) turn)
+    (c.keep_plan.ensures ∙ c.take_reader.ensures.same) turn)
     (ap (λ (chunk : Whole). chunk.shown) c.in_ok-number.ensures.all)) c.keep.ensures.turn
 
 pub returns-in-Answer-clause-event : goal.returns-in-Answer-clause-event

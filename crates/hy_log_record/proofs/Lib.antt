@@ -1,6 +1,6 @@
 pub mod Fields
 pub mod Loops
-pub mod Pushed
+pub mod PushedBytes
 pub mod Rows
 pub mod Entries
 pub mod Records

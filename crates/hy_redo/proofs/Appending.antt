@@ -16,8 +16,8 @@ use Rattle.hy_redo.specs.declared.errors.AppendError.TheVariants as appending
 use Rattle.hy_redo.specs.Errors.{as_append}
 use Rattle.hy_redo.specs.Logs.{header, gated, log_of, Leads, IsLogOf, IsWholeLog}
 use Rattle.hy_redo.specs.Crashes.{next_gate, AreLogsOf, AreClosedAt, IsBeforeOrAfter, Appends}
-use Rattle.hy_redo.proofs.Fronts.{front_of, leads_push}
-use Rattle.hy_redo.proofs.Touching.{touched_behind, touched_at, written_behind, written_at}
+use Rattle.hy_redo.proofs.LogFronts.{front_of, leads_push}
+use Rattle.hy_redo.proofs.TouchedBytes.{touched_behind, touched_at, written_behind, written_at}
 
 -- what is written behind the closed gate
 abbrev pub closing : Entry → List ℕ

@@ -1,6 +1,6 @@
 pub mod Deciding
-pub mod Fronts
-pub mod Touching
+pub mod LogFronts
+pub mod TouchedBytes
 pub mod Writing
 pub mod Appending
 pub mod Redoing

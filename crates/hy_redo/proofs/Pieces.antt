@@ -15,7 +15,7 @@ use Rattle.hy_redo.specs.Tables.{Held, after_changes}
 use Rattle.hy_redo.specs.Logs.{header, Leads}
 use Rattle.hy_redo.specs.Recovery.{HasNoHeader, IsBroken, RecoversFrom, DamagedIn}
 use Rattle.hy_redo.specs.Tests.{IsNext, Redone, IsRedone, IsFrontOf, BeginsWith, StopsAt, stopped_at}
-use Rattle.hy_redo.proofs.Fronts.{front_of}
+use Rattle.hy_redo.proofs.LogFronts.{front_of}
 use Rattle.hy_redo.proofs.Redoing.{redone_none, redone_more, redone_closed, redone_broken}
 
 -- ---- within the bytes that were read

@@ -11,7 +11,7 @@ use Rattle.hy_redo.specs.Recovery.{RecoversTo, IsBroken, IsBrokenAt}
 use Rattle.hy_log_record.specs.declared.BodyError.{BodyError}
 use Rattle.hy_log_record.specs.declared.BodyError.TheVariants as bodies
 use Rattle.hy_redo.specs.Tests.{IsStanding, IsNext, IsClosed, StopsAt, as_stop, Redone}
-use Rattle.hy_redo.proofs.Fronts.{leads_push}
+use Rattle.hy_redo.proofs.LogFronts.{leads_push}
 
 -- ---- the next entry
 

@@ -23,7 +23,7 @@ use Rattle.hy_refinement.specs.Numbers.{EntryShows, EntriesShow, TimesRise, Time
 use Rattle.hy_refinement.specs.Sessions.{NotesShow, OpenShows}
 use Rattle.hy_refinement.specs.Shows.{SessionsShow}
 use Rattle.hy_refinement.specs.Frames.{gone_on, sessions_on, KeepsStart}
-use Rattle.hy_refinement.proofs.Appended.{get_before, get_behind}
+use Rattle.hy_refinement.proofs.ListsAppended.{get_before, get_behind}
 use Rattle.hy_refinement.proofs.EnteredEntries.{entry_at}
 use Rattle.hy_refinement.proofs.Holders.{same_label}
 use Rattle.hy_refinement.proofs.RivalTops.{open_shown}

@@ -35,11 +35,11 @@ use Rattle.hy_refinement.specs.Places.{IsOwnStamp, IsOfWriter, IsLastWriter, Own
 use Rattle.hy_refinement.specs.Rivals.{ShownAt}
 use Rattle.hy_refinement.specs.Frames.{gone_on, sessions_on}
 use Rattle.hy_refinement.proofs.Stamps.{first_of, behind, empty_or, here_or, nothing, apart_all}
-use Rattle.hy_refinement.proofs.Written.{own_among}
+use Rattle.hy_refinement.proofs.WrittenPlaces.{own_among}
 use Rattle.hy_refinement.proofs.LastCells.{any_true}
 use Rattle.hy_refinement.proofs.Holders.{is_there}
 use Rattle.hy_refinement.proofs.Rivals.{own_there}
-use Rattle.hy_refinement.proofs.Appended.{get_before}
+use Rattle.hy_refinement.proofs.ListsAppended.{get_before}
 use Rattle.hy_refinement.proofs.EnteredEntries.{entry_at}
 use Rattle.hy_refinement.proofs.FramesLists.{any_set}
 use Rattle.hy_refinement.proofs.FramesOpened.{WasOpen, same as itself, stays as another, was_open, goes_there}

@@ -24,7 +24,7 @@ use Rattle.hy_refinement.specs.Numbers.{CoreShows, noted}
 use Rattle.hy_refinement.specs.Sessions.{CountsBelow, CoverHolds, OpenShows, NowShows, SessionShows, GatheredBy, statement_at}
 use Rattle.hy_refinement.specs.Shows.{SessionsShow}
 use Rattle.hy_refinement.specs.Frames.{went_on, sessions_on}
-use Rattle.hy_refinement.proofs.Appended.{get_before, get_behind}
+use Rattle.hy_refinement.proofs.ListsAppended.{get_before, get_behind}
 use Rattle.hy_refinement.proofs.RivalTops.{open_shown}
 use Rattle.hy_refinement.proofs.FramesLists.{got_set, got_other}
 use Rattle.hy_refinement.proofs.FramesOpened.{goes_there, stays_there, done_stays}

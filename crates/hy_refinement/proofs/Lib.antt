@@ -2,7 +2,7 @@ mod Openings
 mod Stamps
 mod PrunedPlaces
 mod Prunings
-mod Written
+mod WrittenPlaces
 mod Orders
 mod Holders
 mod RivalTops
@@ -22,13 +22,13 @@ mod WritesChunk
 mod NotedPlaces
 mod NotedChunks
 mod CountedWriters
-mod GoneOns
+mod OpensGoneOn
 mod Deaths
 mod UndonePlaces
 mod UndoneShows
 mod UndoneChunks
 mod Undos
-pub mod Needed
+pub mod NeededParts
 pub mod StepLaws
 pub mod StepChunks
 pub mod StepCores
@@ -59,7 +59,7 @@ mod EndedCores
 mod Closes
 mod Endings
 mod Leaves
-mod Appended
+mod ListsAppended
 mod EnteredEntries
 mod EnteredStates
 mod EnteredCores

@@ -19,7 +19,7 @@ use Rattle.hy_machine.specs.Sessions.{snapshot}
 use Rattle.hy_refinement.specs.Sessions.{SessionIs, OpenShows}
 use Rattle.hy_refinement.specs.CoreVisits.{NotesAreWrites}
 use Rattle.hy_refinement.specs.Visits.{WrittenChunksAreTheMachines}
-use Rattle.hy_refinement.proofs.Written.{any_in_range}
+use Rattle.hy_refinement.proofs.WrittenPlaces.{any_in_range}
 use Rattle.hy_refinement.proofs.LastCells.{any_at, any_true}
 use Rattle.hy_refinement.proofs.RivalTops.{open_shown}
 use Rattle.hy_refinement.proofs.NotedPlaces.{is_at, PlacesAre, some_noted, not_marked, places_are}

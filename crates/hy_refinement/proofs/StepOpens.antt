@@ -40,7 +40,7 @@ use Rattle.hy_refinement.proofs.StepLaws.{StepLaws}
 use Rattle.hy_refinement.proofs.StepChunks.{written_below}
 use Rattle.hy_refinement.proofs.StepCores.{AtTheCore, commit_step, end_step}
 use Rattle.hy_refinement.proofs.StepStatements.{statement_step}
-use Rattle.hy_refinement.proofs.Needed.{chunk_part, same_chunk, core_is_no_chunk, chunk_is_no_core}
+use Rattle.hy_refinement.proofs.NeededParts.{chunk_part, same_chunk, core_is_no_chunk, chunk_is_no_core}
 
 -- what is known of an open session before its visit
 pub record Opening (setting : Setting) (state : State) (parts : List Part) (sessions : List SessionData) (number : ℕ)

@@ -24,7 +24,7 @@ use Rattle.hy_machine.specs.Visits.{checks_of, sees_key, free_position}
 use Rattle.hy_machine.specs.Kept.{visits_in}
 use Rattle.hy_refinement.specs.Steps.{ReadsFit}
 use Rattle.hy_refinement.specs.Taken.{AtOpen, AtChunk, AtStatement, IsTaken, chunk_number}
-use Rattle.hy_refinement.proofs.Needed.{chunk_part, some_chunks, same_chunk}
+use Rattle.hy_refinement.proofs.NeededParts.{chunk_part, some_chunks, same_chunk}
 use Rattle.hy_refinement.proofs.StepLaws.{StepLaws}
 
 -- what is known where a session visits a chunk for its present statement

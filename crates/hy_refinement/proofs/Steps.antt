@@ -25,7 +25,7 @@ use Rattle.hy_refinement.specs.Steps.{ReadsFit, ViewsFit, EventsAreSteps}
 use Rattle.hy_refinement.specs.Taken.{ShownState, AtOpen, IsTaken, core_number, chunk_number}
 use Rattle.hy_refinement.proofs.StepLaws.{StepLaws}
 use Rattle.hy_refinement.proofs.StepOpens.{Opening, chunk_step, core_step}
-use Rattle.hy_refinement.proofs.Needed.{same_txn, Visited, of_chunk, of_core, visited_cases}
+use Rattle.hy_refinement.proofs.NeededParts.{same_txn, Visited, of_chunk, of_core, visited_cases}
 
 -- what a core part holds
 abbrev core_in : CoreData → Part → CoreData

@@ -37,7 +37,7 @@ use Rattle.hy_refinement.proofs.RivalTops.{top_or_none}
 use Rattle.hy_refinement.proofs.Deaths.{row_or_emptied}
 use Rattle.hy_refinement.proofs.FramesOpened.{goes_there, stays_there, opens_here, opens_other, open_once, not_stamped_before, counted_same}
 use Rattle.hy_refinement.proofs.CountedWriters.{writer_still, last_writer_was}
-use Rattle.hy_refinement.proofs.GoneOns.{each_apart}
+use Rattle.hy_refinement.proofs.OpensGoneOn.{each_apart}
 use Rattle.hy_refinement.proofs.PrunedPlaces.{falls_by_stamps}
 use Rattle.hy_refinement.proofs.UndonePlaces.{TakesBack, newest_among, quiet, stamps_were, stamps_left, left_writer, left_below, stops_there, in_place_prefix}
 use Rattle.hy_refinement.proofs.UndonePlaces.{image_live}

@@ -37,7 +37,7 @@ use Rattle.hy_refinement.proofs.RivalTops.{own_top, open_shown}
 use Rattle.hy_refinement.proofs.NotedPlaces.{not_marked}
 use Rattle.hy_refinement.proofs.ChunkPlaces.{has_position}
 use Rattle.hy_refinement.proofs.FramesTurns.{everywhere_length, everywhere_at, chunk_still}
-use Rattle.hy_refinement.proofs.GoneOns.{unstamped_on}
+use Rattle.hy_refinement.proofs.OpensGoneOn.{unstamped_on}
 use Rattle.hy_refinement.proofs.UndonePlaces.{first_undo}
 use Rattle.hy_refinement.proofs.UndoneShows.{undone_shows}
 use Rattle.hy_refinement.proofs.UndoneChunks.{chunk_is_of, holds_not, holds_still}

@@ -14,7 +14,7 @@ use Rattle.hy_machine.specs.Sessions.{session_at, snapshot, view}
 use Rattle.hy_machine.specs.Holding.{holds, is_held, has_pair, undone}
 use Rattle.hy_refinement.specs.Places.{cell_held, is_used}
 use Rattle.hy_machine.specs.Kept.{OwnFits, Kept}
-use Rattle.hy_refinement.proofs.Written.{own_among}
+use Rattle.hy_refinement.proofs.WrittenPlaces.{own_among}
 use Rattle.hy_refinement.proofs.Orders.{tables_over, cell_stays}
 use Rattle.hy_refinement.proofs.LastCells.{any_true, pair_over, stays_along}
 use Rattle.hy_refinement.proofs.Holders.{is_there}

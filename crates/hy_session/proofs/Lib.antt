@@ -1,16 +1,16 @@
-mod Seeks
-mod Tables
-mod Ending
-mod Chunks
-mod Entries
-pub mod Planned
-pub mod Visiting
-pub mod Stepping
-pub mod Present
-mod Turning
-mod Wrote
-mod Visited
+mod RangeSeeks
+mod WrittenChunks
+mod Endings
+mod VisitNumbers
+mod WorkingSessions
+pub mod SelectPlans
+pub mod SelectVisits
+pub mod SelectSteps
+pub mod PresentSelects
+mod VisitTurns
+mod WriteVisits
+mod StatementVisits
 mod Results
 mod Dispatch
-mod Leaving
-mod Changed
+mod ShortChains
+mod OpenVisits

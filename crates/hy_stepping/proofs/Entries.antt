@@ -17,8 +17,8 @@ use Rattle.hy_machine.specs.Validation.{change_at}
 use Rattle.hy_redo.specs.Tables.{Held, after_changes, after_entry as after_noted, applied, rise, BeginsFrom, IsBehind, Stands, AllStand}
 use Rattle.hy_stepping.specs.Typed.{kinds_of}
 use Rattle.hy_recovery.specs.Recovered.{held, held_tables}
-use Rattle.hy_stepping.proofs.Places.{change_of, all_changes}
-use Rattle.hy_stepping.proofs.Laid.{left, AllBegin, changes_left}
+use Rattle.hy_stepping.proofs.EntryPlaces.{change_of, all_changes}
+use Rattle.hy_stepping.proofs.LaidEntries.{left, AllBegin, changes_left}
 
 -- tables of so many positions each, one for each list of kinds
 pub record AreShaped (most : ℕ) (kinds : List (List Kind)) (tables : Tables) : Type 0 where

@@ -1,9 +1,9 @@
-mod Fuel
+mod EnoughSteps
 mod Measures
 mod Reaching
 pub mod OpenOnes
 pub mod Clock
-pub mod Fitted
+pub mod FittedTables
 pub mod StepsShown
 pub mod CoresNear
 pub mod VisitsLeft
@@ -15,10 +15,10 @@ pub mod NearChunks
 pub mod OutcomesPairs
 pub mod OutcomesEnds
 pub mod OutcomesTables
-pub mod OutcomesTold
-pub mod Places
-pub mod Laid
+pub mod OutcomesShown
+pub mod EntryPlaces
+pub mod LaidEntries
 pub mod RowKinds
 pub mod Entries
-pub mod Shown
+pub mod ShownOrders
 pub mod Recovered

@@ -19,7 +19,7 @@ use Rattle.hy_stepping.specs.Runnable.{IsRunnable, IsShown}
 use Rattle.hy_stepping.specs.Steps.{VisitsAreSteps}
 use Rattle.hy_stepping.specs.Bounds.{RunsAreReached}
 use Rattle.hy_stepping.proofs.Clock.{clock_below}
-use Rattle.hy_stepping.proofs.Fitted.{views_fit}
+use Rattle.hy_stepping.proofs.FittedTables.{views_fit}
 use Rattle.hy_stepping.proofs.OpenOnes.{kept_of, session_within, open_one}
 
 -- ---- labels

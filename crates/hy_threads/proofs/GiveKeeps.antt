@@ -11,7 +11,7 @@ use Rattle.hy_threads.specs.Laws.{EventKeeps}
 use Rattle.hy_threads.specs.Knowledge.{Visitor, Knowledge, Seated, settled}
 use Rattle.hy_threads.specs.Rule.{Slot, IsAccounted, Gave}
 use Rattle.hy_threads.proofs.Lists.{some_inj, some_not_none, held_inj, inside}
-use Rattle.hy_threads.proofs.Staying.{seated_inj}
+use Rattle.hy_threads.proofs.KnowledgeStays.{seated_inj}
 use Rattle.hy_threads.proofs.Moving.{move_keeps}
 
 module _ {S D : Type 0} (fact : List D → List S → Type 0) where

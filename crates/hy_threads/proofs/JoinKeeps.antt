@@ -8,7 +8,7 @@ use Rattle.hy_threads.specs.Knowledge.{Keeper, Visitor, Knowledge, Spent, First,
 use Rattle.hy_threads.specs.Rule.{Slot, AreHome, IsHome, IsOut, IsSo, IsAccounted}
 use Rattle.hy_threads.proofs.Lists.{some_inj, some_not_none, some_at, inside, same_list, at_some}
 use Rattle.hy_threads.proofs.Slots.{in_slots}
-use Rattle.hy_threads.proofs.Staying.{seated_inj, first_not_seated, same_at, each_stays, stays_at_join}
+use Rattle.hy_threads.proofs.KnowledgeStays.{seated_inj, first_not_seated, same_at, each_stays, stays_at_join}
 
 module _ {S D : Type 0} (fact : List D → List S → Type 0) where
   -- a session's seat that has no part gives its session back to the first

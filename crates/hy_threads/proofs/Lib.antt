@@ -1,10 +1,10 @@
 pub mod GivenBack
-pub mod Rows
+pub mod WorkerRows
 pub mod Lists
 pub mod Slots
 pub mod Carrying
 pub mod Refusals
-pub mod Staying
+pub mod KnowledgeStays
 pub mod Moving
 pub mod SplitKeeps
 pub mod TakeKeeps

@@ -11,7 +11,7 @@ use Rattle.atomic_table.proofs.Lists.{set_else}
 use Rattle.hy_threads.specs.Knowledge.{Visitor, Knowledge, Seated}
 use Rattle.hy_threads.specs.Rule.{Slot, IsHomeOrOut, IsSo, IsAccounted}
 use Rattle.hy_threads.proofs.Lists.{some_not_none}
-use Rattle.hy_threads.proofs.Staying.{seated_inj, same_at, each_stays, others}
+use Rattle.hy_threads.proofs.KnowledgeStays.{seated_inj, same_at, each_stays, others}
 
 abbrev pub Homes : Type 0 → Type 0
 Homes D = List (maybe.Option (Slot D))

@@ -10,7 +10,7 @@ use Rattle.hy_threads.specs.Knowledge.{Keeper, Visitor, Knowledge, First, Seated
 use Rattle.hy_threads.specs.Rule.{Slot, AreHome, IsOut, IsSo, IsAccounted}
 use Rattle.hy_threads.proofs.Lists.{some_not_none, inside, put, put_here, put_else, at_new, from_map}
 use Rattle.hy_threads.proofs.Slots.{in_slot}
-use Rattle.hy_threads.proofs.Staying.{first_not_seated, same_at, each_stays, stays_at_split}
+use Rattle.hy_threads.proofs.KnowledgeStays.{first_not_seated, same_at, each_stays, stays_at_split}
 
 module _ {S D : Type 0} (fact : List D → List S → Type 0) where
   beyond : (first v : Knowledge S D) (j : ℕ) → j ≢ 0 → get_elem? (first ∷ []) j ≡ some v → ⊥

@@ -15,7 +15,7 @@ use Rattle.hy_threads.specs.Laws.{NearFollows}
 use Rattle.hy_threads.specs.Knowledge.{Visitor, Knowledge, Seated, holding, refused}
 use Rattle.hy_threads.specs.Rule.{Slot, IsHome, IsOut, IsSo, IsAccounted, Took}
 use Rattle.hy_threads.proofs.Lists.{some_not_none, held_inj, some_at, inside}
-use Rattle.hy_threads.proofs.Staying.{seated_inj, same_at, each_stays}
+use Rattle.hy_threads.proofs.KnowledgeStays.{seated_inj, same_at, each_stays}
 use Rattle.hy_threads.proofs.Moving.{move_keeps}
 
 module _ {S D : Type 0} (fact : List D → List S → Type 0) (near : ℕ → S → D → Type 0) where

@@ -1,8 +1,8 @@
 pub mod Answering
 pub mod Logging
 pub mod NameWords
-pub mod Named
-pub mod Quoted
+pub mod NamedScripts
+pub mod QuotedTexts
 pub mod Texts
 pub mod Telling
 pub mod CatalogTypes

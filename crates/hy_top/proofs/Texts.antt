@@ -50,8 +50,8 @@ use Rattle.hy_script.specs.Stocks.{no_rows, with_row}
 use Rattle.hy_bound.specs.declared.Txn.{Txn}
 use Rattle.hy_top.specs.Settings.{IsUtf8Script}
 use Rattle.hy_top.proofs.NameWords.{IsToken, pieces_are_tokens}
-use Rattle.hy_top.proofs.Named.{ParsesSentences}
-use Rattle.hy_top.proofs.Quoted.{token_text_utf8}
+use Rattle.hy_top.proofs.NamedScripts.{ParsesSentences}
+use Rattle.hy_top.proofs.QuotedTexts.{token_text_utf8}
 
 -- ---- the marks of a statement stand in the script
 

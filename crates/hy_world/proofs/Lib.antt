@@ -1,20 +1,20 @@
-pub mod Gets
-pub mod Laying
-pub mod Opened
+pub mod ListsAt
+pub mod LaidChunks
+pub mod OpenedWorlds
 pub mod Widths
 pub mod ReadBack
-pub mod Told
+pub mod OutcomesRead
 mod SentSessions
 mod Parts
 mod Visits
-mod Kept
-mod Finds
-mod Ahead
+mod KeptWorlds
+mod WorldFields
+mod RunsLeft
 mod Loops
 mod Runs
 pub mod Growing
 pub mod Logs
 mod Orders
 pub mod SharedWorlds
-pub mod Turned
-mod Waits
+pub mod VisitsLeave
+mod BlockedSteps

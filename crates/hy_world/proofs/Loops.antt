@@ -16,7 +16,7 @@ use Rattle.hy_stepping.specs.Outcomes.{EndsAreTheMachines, are_done}
 use Rattle.hy_world.specs.Follows.{Follows, Steps}
 use Rattle.hy_world.specs.Logged.{Extend, Approaches}
 use Rattle.hy_world.specs.Worlds.{WorldData, ShowsState, parts_of}
-use Rattle.hy_world.proofs.Ahead.{Ahead, all_ahead, goes_on, all_done, near_done, near_undone, breaks_early, breaks_off}
+use Rattle.hy_world.proofs.RunsLeft.{Ahead, all_ahead, goes_on, all_done, near_done, near_undone, breaks_early, breaks_off}
 use Rattle.hy_world.proofs.Logs.{none_behind}
 use Rattle.hy_world.proofs.Orders.{step_grows, chosen_grows, moves_grow, items_grow, round_grows, repeated_grows, rounds_grow}
 

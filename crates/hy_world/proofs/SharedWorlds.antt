@@ -36,8 +36,8 @@ use Rattle.hy_world.specs.Follows.{Tells}
 use Rattle.hy_world.specs.Openings.{IsOpened}
 use Rattle.hy_world.specs.SomeRuns.{IsSomeRun}
 use Rattle.hy_world.specs.declared.opening.Opened.{Opened}
-use Rattle.hy_world.proofs.Gets.{got, below, got_is, read_got}
-use Rattle.hy_world.proofs.Opened.{shown_opened, types_opened}
+use Rattle.hy_world.proofs.ListsAt.{got, below, got_is, read_got}
+use Rattle.hy_world.proofs.OpenedWorlds.{shown_opened, types_opened}
 use Rattle.hy_bound.specs.declared.Shape.{Shape}
 use Rattle.hy_render.specs.declared.Outcome.{Outcome}
 

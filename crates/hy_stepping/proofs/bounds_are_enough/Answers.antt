@@ -8,7 +8,7 @@ use Rattle.hy_machine.specs.Kept.{Kept}
 use Rattle.hy_lawful.specs.Kept.{ReachedAreKept}
 use Rattle.hy_stepping.specs.Bounds.{BoundsAreEnough, most_turns}
 use Rattle.hy_stepping.specs.Runnable.{IsRunnable}
-use Rattle.hy_stepping.proofs.Fuel.{moves_same, repeated_same, rounds_end}
+use Rattle.hy_stepping.proofs.EnoughSteps.{moves_same, repeated_same, rounds_end}
 use Rattle.hy_stepping.proofs.Measures.{first_of_shapes, session_few, measure_few}
 use Rattle.hy_stepping.proofs.bounds_are_enough.Goals as goal
 

@@ -1,4 +1,4 @@
-use Rattle.hy_stepping.proofs.OutcomesTold.{outcomes_are}
+use Rattle.hy_stepping.proofs.OutcomesShown.{outcomes_are}
 use Rattle.hy_stepping.proofs.outcomes_are_told.Goals as goal
 
 pub returns : goal.returns

@@ -1,6 +1,6 @@
 use Rattle.std.proofs.Common.{take}
 use Rattle.hy_log_record.specs.Bytes.{value_bytes, HasValueBytes}
-use Rattle.hy_log_record.proofs.Pushed.{Pushed}
+use Rattle.hy_log_record.proofs.PushedBytes.{Pushed}
 use Rattle.hy_log_record.proofs.writing.push_values.Given as goal
 
 abbrev pub invariant-loop-value : goal.invariant-loop-value

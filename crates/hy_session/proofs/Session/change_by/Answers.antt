@@ -13,10 +13,10 @@ use Rattle.hy_session.specs.Limits.{IsLimited, HasRoomFor}
 use Rattle.hy_session.specs.declared.visitors.Visitor.{Visitor}
 use Rattle.hy_session.specs.Short.{LeavesShort, visit_prunes}
 use Rattle.hy_session.specs.Visitors.{IsVisitor, ShortAt}
-use Rattle.hy_session.proofs.Chunks.{room_stays, stamp_fits, undo_fits}
-use Rattle.hy_session.proofs.Changed.{closed, event_moves, stamped, undone, worked}
+use Rattle.hy_session.proofs.VisitNumbers.{room_stays, stamp_fits, undo_fits}
+use Rattle.hy_session.proofs.OpenVisits.{closed, event_moves, stamped, undone, worked}
 use Rattle.hy_session.proofs.Dispatch.{close_prunes_nothing}
-use Rattle.hy_session.proofs.Leaving.{leaves_at, leaves_others, leaves_stamped, leaving_moves}
+use Rattle.hy_session.proofs.ShortChains.{leaves_at, leaves_others, leaves_stamped, leaving_moves}
 use Rattle.hy_session.proofs.Results.{got, got_none, ok_gives}
 use Rattle.hy_session.proofs.Session.change_by.Goals as goal
 use Rattle.hy_session.proofs.Session.change_by.Goals.{in-Working+in-Some-get, in-Working+in-None, in-Stamping, in-Undoing}

@@ -3,7 +3,7 @@ use Rattle.std.specs.List.{slice_get}
 use Rattle.hy_event.specs.declared.SessionData.{SessionData}
 use Rattle.hy_event.specs.Needs.{chunk_or_core}
 use Rattle.hy_event.specs.Sessions.{chunks_from, written}
-use Rattle.hy_session.proofs.Tables.{tables_more}
+use Rattle.hy_session.proofs.WrittenChunks.{tables_more}
 use Rattle.hy_session.proofs.Session.left_of_written.Goals as goal
 
 pub returns-in-Ok : goal.returns-in-Ok

@@ -7,7 +7,7 @@ use Rattle.hy_event.specs.declared.Phase.TheVariants.{Working}
 use Rattle.hy_event.specs.Reading.{with_gathered}
 use Rattle.hy_event.specs.Turns.{Answers, Takes, Visits}
 use Rattle.hy_session.specs.Reading.{IsStepOf}
-use Rattle.hy_session.proofs.Visiting.{given_event, kept_event, with_piece}
+use Rattle.hy_session.proofs.SelectVisits.{given_event, kept_event, with_piece}
 use Rattle.hy_session.proofs.Session.read.Goals as goal
 
 pub returns-in-More-clause-event : goal.returns-in-More-clause-event

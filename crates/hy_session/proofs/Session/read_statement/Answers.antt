@@ -12,8 +12,8 @@ use Rattle.hy_event.specs.Gathering.{with_rows}
 use Rattle.hy_event.specs.Sessions.{viewer_of}
 use Rattle.hy_visit.specs.Parts.{tables_found}
 use Rattle.hy_visit.specs.Readers.{plan_by, told_of}
-use Rattle.hy_session.proofs.Planned.{found_in, has_part, part_there, wide_part}
-use Rattle.hy_session.proofs.Stepping.{answer_step, less_by, more_step, most_by, rows_taken, taken_same}
+use Rattle.hy_session.proofs.SelectPlans.{found_in, has_part, part_there, wide_part}
+use Rattle.hy_session.proofs.SelectSteps.{answer_step, less_by, more_step, most_by, rows_taken, taken_same}
 use Rattle.hy_session.proofs.Session.read_statement.Goals as goal
 
 pub unreachable-requires : goal.unreachable-requires

@@ -5,7 +5,7 @@ use Rattle.hy_event.specs.declared.SessionData.{SessionData}
 use Rattle.hy_event.specs.declared.Open.{Open}
 use Rattle.hy_event.specs.declared.Phase.TheVariants.{Working}
 use Rattle.hy_event.specs.Sessions.{txn_at}
-use Rattle.hy_session.proofs.Present.{next_at, present_at, works_at}
+use Rattle.hy_session.proofs.PresentSelects.{next_at, present_at, works_at}
 use Rattle.hy_session.proofs.Results.{got}
 use Rattle.hy_session.proofs.Session.read_step.Goals as goal
 

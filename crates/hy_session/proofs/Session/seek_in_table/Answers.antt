@@ -1,5 +1,5 @@
 use Rattle.std.proofs.Common.{arith, ◌≡◌, ℕ, sym, ◌∙◌, suc}
-use Rattle.hy_session.proofs.Seeks.{is_here, is_behind, is_later}
+use Rattle.hy_session.proofs.RangeSeeks.{is_here, is_behind, is_later}
 use Rattle.hy_session.proofs.Session.seek_in_table.Goals as goal
 use Rattle.hy_session.proofs.Session.seek_in_table.Goals.{then-is_written+else-left-eq0, else-is_written}
 

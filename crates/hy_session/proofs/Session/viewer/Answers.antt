@@ -1,7 +1,7 @@
 use Rattle.std.proofs.Common.{◌≤◌, length, subst, arith}
 use Rattle.hy_limits.specs.declared.TheConstants.{MOST_TXNS}
 use Rattle.hy_event.specs.declared.SessionData.{SessionData}
-use Rattle.hy_session.proofs.Visiting.{named}
+use Rattle.hy_session.proofs.SelectVisits.{named}
 use Rattle.hy_session.proofs.Session.viewer.Goals as goal
 
 pub id-requires : goal.id-requires

@@ -6,8 +6,8 @@ use Rattle.hy_plan.specs.Reads.{records_of}
 use Rattle.hy_event.specs.declared.Open.{Open}
 use Rattle.hy_event.specs.declared.Phase.{Phase}
 use Rattle.hy_session.specs.Written.{Came}
-use Rattle.hy_session.proofs.Turning.{moved_to}
-use Rattle.hy_session.proofs.Visited.{added_one, answered_by, has_noted, places_here, places_not, reserved_so}
+use Rattle.hy_session.proofs.VisitTurns.{moved_to}
+use Rattle.hy_session.proofs.StatementVisits.{added_one, answered_by, has_noted, places_here, places_not, reserved_so}
 use Rattle.hy_session.proofs.inserting.place.Goals as goal
 
 pub returns-in-Some-clause-event : goal.returns-in-Some-clause-event

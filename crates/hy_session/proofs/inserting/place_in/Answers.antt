@@ -3,7 +3,7 @@ use Rattle.hy_stamp.specs.declared.Viewer.{Viewer}
 use Rattle.hy_undo.specs.Chunks.{ChunkData}
 use Rattle.hy_chunk.specs.Views.{Whole}
 use Rattle.hy_session.specs.Written.{Came}
-use Rattle.hy_session.proofs.Wrote.{came_so, viewer_so}
+use Rattle.hy_session.proofs.WriteVisits.{came_so, viewer_so}
 use Rattle.hy_session.proofs.inserting.place_in.Goals as goal
 
 pub returns-clause-done : goal.returns-clause-done

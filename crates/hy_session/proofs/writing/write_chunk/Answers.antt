@@ -4,7 +4,7 @@ use Rattle.hy_undo.specs.Chunks.{ChunkData}
 use Rattle.hy_chunk.specs.Views.{Whole}
 use Rattle.hy_chunk.specs.Writes.{sets_of}
 use Rattle.hy_session.specs.Written.{Wrote}
-use Rattle.hy_session.proofs.Wrote.{viewer_so, wrote_so}
+use Rattle.hy_session.proofs.WriteVisits.{viewer_so, wrote_so}
 use Rattle.hy_session.proofs.writing.write_chunk.Goals as goal
 
 pub returns-clause-done : goal.returns-clause-done

@@ -9,8 +9,8 @@ use Rattle.hy_event.specs.declared.Open.{Open}
 use Rattle.hy_event.specs.declared.Phase.TheVariants.{Undoing}
 use Rattle.hy_event.specs.Writing.{told_by}
 use Rattle.hy_session.specs.Written.{Wrote}
-use Rattle.hy_session.proofs.Turning.{moved_to}
-use Rattle.hy_session.proofs.Visited.{answered_by, has_noted, refuses, reserved_so, writes_last}
+use Rattle.hy_session.proofs.VisitTurns.{moved_to}
+use Rattle.hy_session.proofs.StatementVisits.{answered_by, has_noted, refuses, reserved_so, writes_last}
 use Rattle.hy_session.proofs.writing.write_last.Goals as goal
 
 pub returns-in-Ok-clause-event : goal.returns-in-Ok-clause-event

@@ -5,8 +5,8 @@ use Rattle.hy_undo.specs.declared.refusal.Refusal.{Refusal}
 use Rattle.hy_event.specs.declared.Open.{Open}
 use Rattle.hy_event.specs.declared.Phase.TheVariants.{Working, Undoing}
 use Rattle.hy_session.specs.Written.{Wrote}
-use Rattle.hy_session.proofs.Turning.{moved_to}
-use Rattle.hy_session.proofs.Visited.{has_noted, refuses, writes_on}
+use Rattle.hy_session.proofs.VisitTurns.{moved_to}
+use Rattle.hy_session.proofs.StatementVisits.{has_noted, refuses, writes_on}
 use Rattle.hy_session.proofs.writing.write_on.Goals as goal
 
 pub returns-in-Ok-clause-event : goal.returns-in-Ok-clause-event

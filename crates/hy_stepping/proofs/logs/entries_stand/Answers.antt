@@ -1,4 +1,4 @@
-use Rattle.hy_stepping.proofs.Shown.{all_stand, all_leave}
+use Rattle.hy_stepping.proofs.ShownOrders.{all_stand, all_leave}
 use Rattle.hy_stepping.proofs.logs.entries_stand.Goals as goal
 
 pub returns-clause-stand : goal.returns-clause-stand

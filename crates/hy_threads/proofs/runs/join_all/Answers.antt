@@ -4,7 +4,7 @@ use lib.ListN.{length-map}
 use Rattle.hy_threads.specs.Knowledge.{First, keeper, joined}
 use Rattle.hy_threads.specs.Seats.{number_of}
 use Rattle.hy_threads.specs.Tasks.{AreOf, session_of}
-use Rattle.hy_threads.proofs.Rows.{regaining, are_of_at, joined_next, snoc_more}
+use Rattle.hy_threads.proofs.WorkerRows.{regaining, are_of_at, joined_next, snoc_more}
 use Rattle.hy_threads.proofs.runs.join_all.Goals as goal
 
 pub join-requires-clause-ours : goal.join-requires-clause-ours

@@ -1,7 +1,7 @@
 use Rattle.std.proofs.Common.{◌≡◌, ◌≤◌, ◌++◌, length, map, vec_len, vec_capacity}
 use Rattle.hy_threads.specs.Knowledge.{First, keeper}
 use Rattle.hy_threads.specs.Tasks.{session_of}
-use Rattle.hy_threads.proofs.Rows.{regaining}
+use Rattle.hy_threads.proofs.WorkerRows.{regaining}
 use Rattle.hy_threads.proofs.runs.join_all.Given as goal
 
 abbrev pub invariant-loop-worker : goal.invariant-loop-worker

@@ -1,7 +1,7 @@
 use Rattle.std.proofs.Common.{rules, arith, ◌≡◌, ◌≤◌, All, length, None, refl, sym, subst, vec_len}
 use Rattle.std.specs.List.{AllZip}
 use Rattle.hy_threads.specs.Tasks.{Fits, IsSameWorker}
-use Rattle.hy_threads.proofs.Rows.{are_back, all_fit}
+use Rattle.hy_threads.proofs.WorkerRows.{are_back, all_fit}
 use Rattle.hy_threads.proofs.runs.run_all.Goals as goal
 
 pub work-requires-after_bounds : goal.work-requires-after_bounds

@@ -4,7 +4,7 @@ use lib.ListN.{length-map}
 use Rattle.hy_threads.specs.Knowledge.{keeper, visitor, parent, child}
 use Rattle.hy_threads.specs.Seats.{number_of}
 use Rattle.hy_threads.specs.Tasks.{AreOf, session_of}
-use Rattle.hy_threads.proofs.Rows.{keeping, kept_next, child_next, parent_next, snoc_more, are_of_snoc}
+use Rattle.hy_threads.proofs.WorkerRows.{keeping, kept_next, child_next, parent_next, snoc_more, are_of_snoc}
 use Rattle.hy_threads.proofs.runs.seat_all.Goals as goal
 
 pub split-seat-requires-clause-next : goal.split-seat-requires-clause-next

@@ -1,7 +1,7 @@
 use Rattle.std.proofs.Common.{◌≡◌, ◌++◌, length, map}
 use Rattle.hy_threads.specs.Knowledge.{First, keeper}
 use Rattle.hy_threads.specs.Tasks.{AreOf, session_of}
-use Rattle.hy_threads.proofs.Rows.{keeping}
+use Rattle.hy_threads.proofs.WorkerRows.{keeping}
 use Rattle.hy_threads.proofs.runs.seat_all.Given as goal
 
 abbrev pub invariant-loop-session : goal.invariant-loop-session

@@ -1,6 +1,6 @@
 use Rattle.std.proofs.Common.{rules, ◌≡◌, length, sym, ◌∙◌}
 use Rattle.hy_threads.specs.Tasks.{IsSameWorker}
-use Rattle.hy_threads.proofs.Rows.{zip_from, stopped_all, all_ended, one_starved}
+use Rattle.hy_threads.proofs.WorkerRows.{zip_from, stopped_all, all_ended, one_starved}
 use Rattle.hy_threads.proofs.threads.work.Goals as goal
 
 pub returns-then-any_starved-clause-same : goal.returns-then-any_starved-clause-same

@@ -1,4 +1,4 @@
-use Rattle.hy_top.proofs.Named.{reads_named}
+use Rattle.hy_top.proofs.NamedScripts.{reads_named}
 use Rattle.hy_top.proofs.laws.what_is_read_is_named.Goals as goal
 
 pub returns : goal.returns

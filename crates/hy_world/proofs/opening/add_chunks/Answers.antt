@@ -1,7 +1,7 @@
 use Rattle.std.proofs.Common.{◌+◌, ◌*◌, List, subst, sym}
 use Rattle.hy_chunk.specs.Views.{Whole}
 use Rattle.hy_world.specs.Openings.{AreLaid}
-use Rattle.hy_world.proofs.Opened.{laid_more}
+use Rattle.hy_world.proofs.OpenedWorlds.{laid_more}
 use Rattle.hy_world.proofs.opening.add_chunks.Goals as goal
 
 pub loop-number-preserved : goal.loop-number-preserved

@@ -1,5 +1,5 @@
 use Rattle.std.proofs.Common.{length}
-use Rattle.hy_world.proofs.Laying.{next_there, next_unused, loaded_whole}
+use Rattle.hy_world.proofs.LaidChunks.{next_there, next_unused, loaded_whole}
 use Rattle.hy_world.proofs.opening.load_rows.Goals as goal
 
 pub load_at-requires-clause-within : goal.load_at-requires-clause-within

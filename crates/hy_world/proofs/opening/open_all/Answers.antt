@@ -1,8 +1,8 @@
 use Rattle.std.proofs.Common.{◌*◌, ◌^◌, ◌<◌, List, length, ap, ◌∙◌, refl, sym, subst}
 use Rattle.hy_bound.specs.declared.Shape.{Shape}
 use Rattle.hy_world.specs.Openings.{sessions_from, layout_of}
-use Rattle.hy_world.proofs.Opened.{core_is, txns_few}
-use Rattle.hy_world.proofs.Waits.{few_chunks}
+use Rattle.hy_world.proofs.OpenedWorlds.{core_is, txns_few}
+use Rattle.hy_world.proofs.BlockedSteps.{few_chunks}
 use Rattle.hy_world.proofs.opening.open_all.Goals as goal
 
 pub all_sessions-requires-clause-txns : goal.all_sessions-requires-clause-txns

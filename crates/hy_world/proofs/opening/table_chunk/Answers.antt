@@ -3,7 +3,7 @@ use Rattle.hy_value.specs.declared.Value.{Value}
 use Rattle.hy_bound.specs.declared.Shape.{Shape}
 use Rattle.hy_bound.specs.Records.{shape_of}
 use Rattle.hy_world.specs.Openings.{first_rows, rows_in}
-use Rattle.hy_world.proofs.Opened.{kinds_there, rows_there, rows_fit, laid_from}
+use Rattle.hy_world.proofs.OpenedWorlds.{kinds_there, rows_there, rows_fit, laid_from}
 use Rattle.hy_world.proofs.opening.table_chunk.Goals as goal
 
 pub table_kinds-types-requires : goal.table_kinds-types-requires

@@ -4,7 +4,7 @@ use Rattle.crossbeam_utils.specs.Padded.{padded_value}
 use Rattle.hy_threads.specs.Knowledge.{Seated, settled}
 use Rattle.hy_threads.proofs.Carrying.{carries_one, laid, sound_after_give}
 use Rattle.hy_threads.proofs.GiveKeeps.{give_keeps, may_give}
-use Rattle.hy_threads.proofs.Staying.{seated_inj}
+use Rattle.hy_threads.proofs.KnowledgeStays.{seated_inj}
 use Rattle.hy_threads.proofs.parts.Parts.give_as.Goals as goal
 
 pub exchange-requires : goal.exchange-requires

@@ -2,7 +2,7 @@ use Rattle.std.proofs.Common.{subst, sym}
 use Rattle.hy_threads.specs.Visits.{Visits}
 use Rattle.hy_threads.specs.declared.worked.Visited.{Visited}
 use Rattle.hy_world.specs.Shared.{HasToWait, IsVisit}
-use Rattle.hy_world.proofs.Turned.{visit_told, numbered}
+use Rattle.hy_world.proofs.VisitsLeave.{visit_told, numbered}
 use Rattle.hy_world.proofs.threads.ShownWorked.visit.Goals as goal
 
 pub returns-clause-visited : goal.returns-clause-visited

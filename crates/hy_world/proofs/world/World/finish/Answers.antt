@@ -5,7 +5,7 @@ use Rattle.hy_render.specs.declared.Outcome.{Outcome}
 use Rattle.hy_world.specs.Finished.{tables_back, HaveTheirWidths}
 use Rattle.hy_world.specs.Follows.{Tells}
 use Rattle.hy_world.specs.Worlds.{WorldData}
-use Rattle.hy_world.proofs.Told.{tells, widths_are}
+use Rattle.hy_world.proofs.OutcomesRead.{tells, widths_are}
 use Rattle.hy_world.proofs.world.World.finish.Goals as goal
 
 pub all_rows-requires-clause-wide : goal.all_rows-requires-clause-wide

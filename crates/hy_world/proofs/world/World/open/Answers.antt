@@ -2,8 +2,8 @@ use Rattle.std.proofs.Common.{◌≡◌, All, ap, sym, subst}
 use Rattle.hy_event.specs.declared.SessionData.{SessionData}
 use Rattle.hy_journal.specs.declared.CoreData.{CoreData}
 use Rattle.hy_world.specs.Openings.{layout_of}
-use Rattle.hy_world.proofs.Opened.{world_opened, shown_opened}
-use Rattle.hy_world.proofs.Waits.{new_prune}
+use Rattle.hy_world.proofs.OpenedWorlds.{world_opened, shown_opened}
+use Rattle.hy_world.proofs.BlockedSteps.{new_prune}
 use Rattle.hy_world.proofs.world.World.open.Goals as goal
 
 pub invariant_of-result : goal.invariant_of-result

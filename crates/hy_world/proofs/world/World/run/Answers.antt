@@ -1,6 +1,6 @@
 use Rattle.std.proofs.Common.{Result, Ok, Err}
 use Rattle.std.specs.Prelude.{OnErr}
-use Rattle.hy_world.proofs.Ahead.{breaks_late, if_err}
+use Rattle.hy_world.proofs.RunsLeft.{breaks_late, if_err}
 use Rattle.hy_world.proofs.Logs.{logs_then}
 use Rattle.hy_world.proofs.Loops.{all_items, all_rounds, schedule_breaks_off}
 use Rattle.hy_world.proofs.world.World.run.Goals as goal

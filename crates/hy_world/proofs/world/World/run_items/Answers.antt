@@ -1,6 +1,6 @@
 use Rattle.std.proofs.Common.{◌∙◌, false}
 use Rattle.hy_bound.specs.declared.schedule.Item.{Item}
-use Rattle.hy_world.proofs.Ahead.{if_err}
+use Rattle.hy_world.proofs.RunsLeft.{if_err}
 use Rattle.hy_world.proofs.Loops.{items_go_on, items_break_off}
 use Rattle.hy_world.proofs.Logs.{logs_then, ok_is_no_error}
 use Rattle.hy_world.proofs.world.World.run_items.Goals as goal

@@ -1,6 +1,6 @@
 use Rattle.std.proofs.Common.{◌≡◌, is_some, drop}
 use Rattle.hy_world.specs.Logged.{IsKept, Logs}
-use Rattle.hy_world.proofs.Ahead.{Ahead}
+use Rattle.hy_world.proofs.RunsLeft.{Ahead}
 use Rattle.hy_world.proofs.Loops.{all_items}
 use Rattle.hy_world.proofs.world.World.run_items.Given as goal
 

@@ -1,6 +1,6 @@
 use Rattle.std.proofs.Common.{Ok, sym}
 use Rattle.hy_machine.specs.Runs.{opening_of, run_of}
-use Rattle.hy_world.proofs.Ahead.{near_done}
+use Rattle.hy_world.proofs.RunsLeft.{near_done}
 use Rattle.hy_world.proofs.Logs.{kept_since, is_durable, logs_run}
 use Rattle.hy_world.proofs.Runs.{run_told, all_of}
 use Rattle.hy_world.proofs.world.World.run_logged.Goals as goal

@@ -1,6 +1,6 @@
 use Rattle.std.proofs.Common.{◌∙◌, refl, sym, subst}
 use Rattle.hy_world.proofs.Logs.{logs_then, nothing_done, ok_is_no_error}
-use Rattle.hy_world.proofs.Ahead.{Ahead, if_err}
+use Rattle.hy_world.proofs.RunsLeft.{Ahead, if_err}
 use Rattle.hy_world.proofs.Loops.{round_left, a_round, round_ahead, round_goes_on, round_breaks_off}
 use Rattle.hy_world.proofs.world.World.run_round.Goals as goal
 

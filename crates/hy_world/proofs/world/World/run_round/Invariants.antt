@@ -1,6 +1,6 @@
 use Rattle.std.proofs.Common.{◌≡◌, is_some}
 use Rattle.hy_world.specs.Logged.{IsKept, Logs}
-use Rattle.hy_world.proofs.Ahead.{Ahead}
+use Rattle.hy_world.proofs.RunsLeft.{Ahead}
 use Rattle.hy_world.proofs.Loops.{round_left, a_round}
 use Rattle.hy_world.proofs.world.World.run_round.Given as goal
 

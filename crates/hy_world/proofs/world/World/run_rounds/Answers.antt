@@ -2,7 +2,7 @@ use Rattle.std.proofs.Common.{◌≡◌, ◌∙◌, true, false, rules, tests}
 use Rattle.hy_stepping.specs.Bounds.{most_turns}
 use Rattle.hy_stepping.specs.Outcomes.{are_done}
 use Rattle.hy_world.proofs.Logs.{logs_then, ok_is_no_error}
-use Rattle.hy_world.proofs.Ahead.{if_err}
+use Rattle.hy_world.proofs.RunsLeft.{if_err}
 use Rattle.hy_world.proofs.Loops.{rounds_go_on, rounds_end, rounds_over, rounds_break_off}
 use Rattle.hy_world.proofs.world.World.run_rounds.Goals as goal
 

@@ -1,7 +1,7 @@
 use Rattle.std.proofs.Common.{◌≡◌, is_some}
 use Rattle.hy_stepping.specs.Bounds.{most_turns}
 use Rattle.hy_world.specs.Logged.{IsKept, Logs}
-use Rattle.hy_world.proofs.Ahead.{Ahead}
+use Rattle.hy_world.proofs.RunsLeft.{Ahead}
 use Rattle.hy_world.proofs.Loops.{rounds_left, all_rounds}
 use Rattle.hy_world.proofs.world.World.run_rounds.Given as goal
 

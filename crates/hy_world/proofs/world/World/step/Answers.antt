@@ -1,5 +1,5 @@
 use Rattle.std.proofs.Common.{sym}
-use Rattle.hy_world.proofs.Finds.{ended_steps}
+use Rattle.hy_world.proofs.WorldFields.{ended_steps}
 use Rattle.hy_world.proofs.world.World.step.Goals as goal
 
 pub returns-in-Done-clause-step : goal.returns-in-Done-clause-step

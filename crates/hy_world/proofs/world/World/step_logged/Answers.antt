@@ -1,4 +1,4 @@
-use Rattle.hy_world.proofs.Ahead.{if_err}
+use Rattle.hy_world.proofs.RunsLeft.{if_err}
 use Rattle.hy_world.proofs.Loops.{step_breaks_off, stepped_near}
 use Rattle.hy_world.proofs.world.World.step_logged.Goals as goal
 

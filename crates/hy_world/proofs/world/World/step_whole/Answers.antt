@@ -2,7 +2,7 @@ use Rattle.std.proofs.Common.{◌≡◌, ◌∙◌, true, false, arith, rules, t
 use Rattle.std.proofs.lemmas.Grind.{common_steps}
 use Rattle.hy_machine.specs.Runs.{is_moved}
 use Rattle.hy_stepping.specs.Bounds.{most_turns}
-use Rattle.hy_world.proofs.Ahead.{if_err}
+use Rattle.hy_world.proofs.RunsLeft.{if_err}
 use Rattle.hy_world.proofs.Loops.{whole_goes_on, whole_stops, whole_over, whole_breaks_off}
 use Rattle.hy_world.proofs.Logs.{logs_then, ok_is_no_error}
 use Rattle.hy_world.proofs.world.World.step_whole.Goals as goal

@@ -10,9 +10,9 @@ use Rattle.hy_world.specs.Follows.{Steps}
 use Rattle.hy_world.specs.Worlds.{WorldData}
 use Rattle.hy_world.specs.Logged.{GrowByOne}
 use Rattle.hy_world.proofs.Visits.{not_chunk}
-use Rattle.hy_world.proofs.Kept.{Fields, world_of, chunk_put, chunk_steps, chunk_kept, chunk_stays}
-use Rattle.hy_world.proofs.Finds.{session_within, chunk_within, chunk_read, chunk_visited}
-use Rattle.hy_world.proofs.Waits.{chunk_blocked, chunk_prunes, entered_at}
+use Rattle.hy_world.proofs.KeptWorlds.{Fields, world_of, chunk_put, chunk_steps, chunk_kept, chunk_stays}
+use Rattle.hy_world.proofs.WorldFields.{session_within, chunk_within, chunk_read, chunk_visited}
+use Rattle.hy_world.proofs.BlockedSteps.{chunk_blocked, chunk_prunes, entered_at}
 use Rattle.hy_world.proofs.world.World.visit_chunk.Goals as goal
 
 pub index_mut-session-requires : goal.index_mut-session-requires

@@ -9,11 +9,11 @@ use Rattle.hy_world.specs.Openings.{prunings}
 use Rattle.hy_world.specs.Follows.{Steps}
 use Rattle.hy_world.specs.Worlds.{WorldData}
 use Rattle.hy_world.proofs.Visits.{not_core, core_near}
-use Rattle.hy_world.proofs.Kept.{Fields, world_of, core_put, core_steps, core_kept}
+use Rattle.hy_world.proofs.KeptWorlds.{Fields, world_of, core_put, core_steps, core_kept}
 use Rattle.hy_world.specs.Logged.{GrowByOne}
-use Rattle.hy_world.proofs.Finds.{session_within, session_read}
+use Rattle.hy_world.proofs.WorldFields.{session_within, session_read}
 use Rattle.hy_world.proofs.Growing.{visit_grows}
-use Rattle.hy_world.proofs.Waits.{core_blocked, core_prunes, entered_at}
+use Rattle.hy_world.proofs.BlockedSteps.{core_blocked, core_prunes, entered_at}
 use Rattle.hy_world.proofs.world.World.visit_core.Goals as goal
 
 pub index_mut-session-requires : goal.index_mut-session-requires

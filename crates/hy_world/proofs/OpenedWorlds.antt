@@ -37,8 +37,8 @@ use Rattle.hy_stepping.specs.Typed.{AreTyped, kinds_of}
 use Rattle.hy_world.specs.Openings.{places_with, first_rows, rows_in, laid_chunk, IsLaid, AreLaid, new_session, sessions_from, layout_of, IsOpened}
 use Rattle.hy_world.specs.declared.opening.Opened.{Opened}
 use Rattle.hy_world.specs.Worlds.{ShowsState, IsWorld, HaveTypes, parts_of, plain}
-use Rattle.hy_world.proofs.Gets.{got, below, in_front, at_end, got_map, got_take, got_drop, as_long, both_at}
-use Rattle.hy_world.proofs.Laying.{places_long, laid_at}
+use Rattle.hy_world.proofs.ListsAt.{got, below, in_front, at_end, got_map, got_take, got_drop, as_long, both_at}
+use Rattle.hy_world.proofs.LaidChunks.{places_long, laid_at}
 
 -- ---- a chunk
 

@@ -22,7 +22,7 @@ use Rattle.hy_refinement.specs.CoreVisits.{EntriesTellChanges}
 use Rattle.hy_stepping.specs.Runnable.{IsShown}
 use Rattle.hy_stepping.specs.Texts.{CanBeLogged}
 use Rattle.hy_stepping.specs.Logs.{EntriesStand, EntriesLeaveTables}
-use Rattle.hy_stepping.proofs.Places.{kept_rise}
+use Rattle.hy_stepping.proofs.EntryPlaces.{kept_rise}
 use Rattle.hy_stepping.proofs.RowKinds.{has_kinds, cell_fits, begins_typed}
 use Rattle.hy_stepping.proofs.Entries.{AreShaped, AllFollow, history_shaped, cells_held, stand_from, leave_from}
 

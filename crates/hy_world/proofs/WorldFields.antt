@@ -17,7 +17,7 @@ use Rattle.hy_world.specs.Asks.{need_in, need_at}
 use Rattle.hy_world.specs.Follows.{Steps}
 use Rattle.hy_world.specs.Worlds.{WorldData, ShowsState, parts_of}
 use Rattle.hy_world.proofs.Visits.{IsAt, is_at, there, not_chunk, has_place, chunk_near}
-use Rattle.hy_world.proofs.Kept.{Fields, Holds, ChunkAt, world_of}
+use Rattle.hy_world.proofs.KeptWorlds.{Fields, Holds, ChunkAt, world_of}
 
 -- ---- sessions
 

@@ -25,9 +25,9 @@ use Rattle.hy_stepping.specs.Runnable.{IsRunnable}
 use Rattle.hy_world.specs.Asks.{entry_in, has_entry_at}
 use Rattle.hy_world.specs.Openings.{prunings, sessions_from}
 use Rattle.hy_world.specs.Worlds.{WorldData}
-use Rattle.hy_world.proofs.Kept.{CoreVisited, ChunkVisited, core_same}
+use Rattle.hy_world.proofs.KeptWorlds.{CoreVisited, ChunkVisited, core_same}
 use Rattle.hy_world.proofs.Parts.{set_got}
-use Rattle.hy_world.proofs.Turned.{CameTo, IsWaiting, came_layout, chunk_turned, core_came}
+use Rattle.hy_world.proofs.VisitsLeave.{CameTo, IsWaiting, came_layout, chunk_turned, core_came}
 use Rattle.hy_world.proofs.Visits.{IsAt, with_core}
 
 -- ---- who prunes

@@ -34,8 +34,8 @@ use Rattle.hy_refinement.specs.Parts.{PartsAre}
 use Rattle.hy_world.specs.Finished.{gathered_in, read_back, table_back, tables_back, HaveTheirWidths}
 use Rattle.hy_world.specs.Follows.{Tells}
 use Rattle.hy_world.specs.Worlds.{IsWorld, WorldData, ShowsState, parts_of, plain}
-use Rattle.hy_world.proofs.Gets.{both_at}
-use Rattle.hy_world.proofs.Opened.{core_got, parts_long}
+use Rattle.hy_world.proofs.ListsAt.{both_at}
+use Rattle.hy_world.proofs.OpenedWorlds.{core_got, parts_long}
 use Rattle.hy_world.proofs.ReadBack.{table_seen, sorted_wide, was_wide, seen_back}
 use Rattle.hy_world.proofs.Widths.{has_width}
 

@@ -28,7 +28,7 @@ use Rattle.hy_event.specs.Writing.{WriteVisit, ending_by, told_by}
 use Rattle.hy_session.specs.declared.visitors.Visitor.{Visitor}
 use Rattle.hy_session.specs.Visitors.{IsVisitor}
 use Rattle.hy_session.specs.Written.{Came, HasNoted, Wrote}
-use Rattle.hy_session.proofs.Turning.{moved_to, answered_so, write_refused, write_goes, write_answers, place_answers, place_passes}
+use Rattle.hy_session.proofs.VisitTurns.{moved_to, answered_so, write_refused, write_goes, write_answers, place_answers, place_passes}
 
 -- what an open transaction has noted is what is seen of it
 pub has_noted : (view now : Open) → view ≡ now → HasNoted view.start view.cover view.notes now

@@ -5,14 +5,9 @@
 //! in the journal stamps the chunks that it wrote, and one that is refused or rolls back undoes them.
 #![tactic(auto)]
 
-mod rows;
+mod examples;
 
-use hy_bound::{Records, Replies, Rows, Shapes, Txns};
-use hy_prune::Cover;
-use hy_render::{Ending, Places, TxnOutcome};
-use hy_stamp::Label;
-use hy_value::{Changes, Seq};
-pub use rows::{
+pub use examples::{
     a_begin_waits, a_commit_enters_the_journal, a_commit_of_nothing_written_ends,
     a_count_gathers_and_answers, a_delete_takes_the_row_away, a_hit_refuses_a_commit,
     a_join_gathers_by_key, a_session_begins, a_stamped_transaction_ends,
@@ -22,6 +17,11 @@ pub use rows::{
     an_update_writes_what_it_selects, groups_are_told_of_what_is_gathered,
     no_other_part_is_visited,
 };
+use hy_bound::{Records, Replies, Rows, Shapes, Txns};
+use hy_prune::Cover;
+use hy_render::{Ending, Places, TxnOutcome};
+use hy_stamp::Label;
+use hy_value::{Changes, Seq};
 
 /// Where an open transaction stands. Which kind of visit comes next follows from its present statement.
 #[derive(Clone, Copy, Debug, PartialEq, Eq)]

@@ -134,8 +134,7 @@ fn session_names(alloc: Global, sessions: &[NamedTxns]) -> Result<Texts, AllocEr
     Ok(names)
 }
 
-/// The types inside a session. A function that moves sessions names them once, since the checker looks for
-/// the types inside another type only among those that the function names.
+/// The types inside a session, for `let _: Met`, of which docs/DECISIONS.md says what it is for.
 type Met = Option<(Txn, Statements)>;
 
 /// The transactions of each session.

@@ -3,7 +3,7 @@ use Rattle.hy_event.specs.declared.Phase.{Phase}
 use Rattle.hy_event.specs.Accounts.{account, chunk_of, paying, with_row}
 use Rattle.hy_event.specs.Examples.{begun, running}
 use Rattle.hy_event.proofs.Unpruned.{unpruned}
-use Rattle.hy_event.proofs.rows.an_update_passes_what_it_does_not_select.Goals as goal
+use Rattle.hy_event.proofs.examples.an_update_passes_what_it_does_not_select.Goals as goal
 
 pub returns-clause-visit : goal.returns-clause-visit
 returns-clause-visit c = record {

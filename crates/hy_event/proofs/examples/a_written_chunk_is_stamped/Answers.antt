@@ -3,7 +3,7 @@ use Rattle.hy_stamp.specs.Times.{id_of}
 use Rattle.hy_event.specs.Accounts.{chunk_of, first, paying, with_paid}
 use Rattle.hy_event.specs.Examples.{payer_entered, running}
 use Rattle.hy_event.proofs.Unpruned.{unpruned}
-use Rattle.hy_event.proofs.rows.a_written_chunk_is_stamped.Goals as goal
+use Rattle.hy_event.proofs.examples.a_written_chunk_is_stamped.Goals as goal
 
 pub returns-clause-stamps : goal.returns-clause-stamps
 returns-clause-stamps c = record {

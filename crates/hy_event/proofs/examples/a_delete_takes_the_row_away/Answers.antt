@@ -5,7 +5,7 @@ use Rattle.hy_event.specs.declared.Phase.{Phase}
 use Rattle.hy_event.specs.Accounts.{account, chunk_of, closing, first, with_gone, with_row}
 use Rattle.hy_event.specs.Examples.{begun, running}
 use Rattle.hy_event.proofs.Unpruned.{unpruned}
-use Rattle.hy_event.proofs.rows.a_delete_takes_the_row_away.Goals as goal
+use Rattle.hy_event.proofs.examples.a_delete_takes_the_row_away.Goals as goal
 
 pub returns : goal.returns
 returns c = record {

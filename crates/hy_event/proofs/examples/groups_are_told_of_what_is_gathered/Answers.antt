@@ -1,6 +1,6 @@
 use Rattle.std.proofs.Common.{refl}
 use Rattle.hy_plan.specs.ColumnSets.{bits_where, columns_where, named_columns}
-use Rattle.hy_event.proofs.rows.groups_are_told_of_what_is_gathered.Goals as goal
+use Rattle.hy_event.proofs.examples.groups_are_told_of_what_is_gathered.Goals as goal
 
 pub returns-clause-gathers : goal.returns-clause-gathers
 unfolding bits_where columns_where named_columns

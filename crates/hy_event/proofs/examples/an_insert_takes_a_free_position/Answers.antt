@@ -5,7 +5,7 @@ use Rattle.hy_event.specs.declared.Phase.{Phase}
 use Rattle.hy_event.specs.Accounts.{account, chunk_of, first, opening, unused, with_new, with_row}
 use Rattle.hy_event.specs.Examples.{begun, running}
 use Rattle.hy_event.proofs.Unpruned.{unpruned}
-use Rattle.hy_event.proofs.rows.an_insert_takes_a_free_position.Goals as goal
+use Rattle.hy_event.proofs.examples.an_insert_takes_a_free_position.Goals as goal
 
 pub returns-clause-passes : goal.returns-clause-passes
 returns-clause-passes c = record {

@@ -4,7 +4,7 @@ use Rattle.hy_event.specs.declared.Phase.{Phase}
 use Rattle.hy_event.specs.Accounts.{account, chunk_of, first, paying, was_100, with_paid, with_row}
 use Rattle.hy_event.specs.Examples.{begun, running}
 use Rattle.hy_event.proofs.Unpruned.{unpruned}
-use Rattle.hy_event.proofs.rows.an_update_writes_what_it_selects.Goals as goal
+use Rattle.hy_event.proofs.examples.an_update_writes_what_it_selects.Goals as goal
 
 pub returns : goal.returns
 returns c = record {

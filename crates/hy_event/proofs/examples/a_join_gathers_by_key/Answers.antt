@@ -1,6 +1,6 @@
 use Rattle.std.proofs.Common.{refl}
 use Rattle.hy_plan.specs.ColumnSets.{bits_where, columns_where, named_columns}
-use Rattle.hy_event.proofs.rows.a_join_gathers_by_key.Goals as goal
+use Rattle.hy_event.proofs.examples.a_join_gathers_by_key.Goals as goal
 
 pub returns-clause-passes : goal.returns-clause-passes
 unfolding bits_where columns_where named_columns

@@ -28,7 +28,7 @@ const PIECE: usize = 4096;
 const HEADER: [u8; 8] = *b"HYREDO1\n";
 
 /// The bytes behind the header, where it is there.
-fn behind_header(bytes: &[u8]) -> Option<&[u8]>
+fn bytes_behind_header(bytes: &[u8]) -> Option<&[u8]>
     ensures { MatchOption result ((rest : List ℕ) → bytes.now ≢ header ++ rest) (λ rest. bytes.now ≡ header ++ rest.now) }
 {
     bytes.strip_prefix(&HEADER)
@@ -140,7 +140,7 @@ fn begin(bytes: &[u8], tables: HeldTables) -> Option<SoFar>
     ensures begun { IfSome result (λ so_far. IsRedone tables bytes.now so_far.tables.items so_far.last so_far.gate × (so_far.gate ≤ length bytes.now)) }
     ensures none { IfNone result (HasNoHeader bytes.now) }
 {
-    behind_header(bytes)?;
+    bytes_behind_header(bytes)?;
     Some(SoFar {
         tables: tables.into_vec(),
         last: None,
@@ -160,7 +160,7 @@ fn wants_more(stop: Stop, read: usize, len: u64) -> bool
 }
 
 /// What reading comes to where it stops.
-fn stopped(stop: Stop, so_far: SoFar) -> Result<HeldTables, RecoverError>
+fn result_of_stop(stop: Stop, so_far: SoFar) -> Result<HeldTables, RecoverError>
     ensures { result ≡ stopped_at stop so_far.tables.items so_far.gate }
 {
     let SoFar {
@@ -249,7 +249,7 @@ fn redo_disk<D: Disk>(
     'pieces: loop {
         let stop = redo(alloc, &bytes, &mut so_far);
         if !wants_more(stop, bytes.len(), len) {
-            return stopped(stop, so_far);
+            return result_of_stop(stop, so_far);
         }
         read_on(alloc, disk, len, &mut bytes)?;
     }

@@ -9,7 +9,7 @@ use hy_log_record::HeldTable;
 use hy_value::{Change, Changes, Row, compare_rows};
 
 /// Whether two cells have the same row, or none.
-fn same(left: &Option<Row>, right: &Option<Row>) -> bool
+fn is_same(left: &Option<Row>, right: &Option<Row>) -> bool
     ensures { result ≡ same_cells left.now right.now }
 {
     match left {
@@ -31,7 +31,7 @@ fn begins(tables: &[HeldTable], change: &Change) -> bool
     let Some(cell) = held.rows.as_slice().get(change.pos as usize) else {
         return false;
     };
-    same(cell, &change.before)
+    is_same(cell, &change.before)
 }
 
 /// Whether each change does.

@@ -11,7 +11,7 @@ use std::alloc::{AllocError, Global};
 /// NULL. This and the other literals stand by themselves: a value takes much room, and a copy of a long chain of operators
 /// is to take little for each.
 #[inline(never)]
-fn null(alloc: Global) -> Result<SetExpr, AllocError>
+fn null_expression(alloc: Global) -> Result<SetExpr, AllocError>
     ensures { IfOk result (λ copy. copy ≡ Literal value.Null) }
 {
     SetExpr::literal(alloc, Value::Null)
@@ -19,7 +19,7 @@ fn null(alloc: Global) -> Result<SetExpr, AllocError>
 
 /// A number.
 #[inline(never)]
-fn number(alloc: Global, number: i64) -> Result<SetExpr, AllocError>
+fn number_expression(alloc: Global, number: i64) -> Result<SetExpr, AllocError>
     ensures { IfOk result (λ copy. copy ≡ Literal (value.Int number)) }
 {
     SetExpr::literal(alloc, Value::Int(number))
@@ -27,7 +27,7 @@ fn number(alloc: Global, number: i64) -> Result<SetExpr, AllocError>
 
 /// A text.
 #[inline(never)]
-fn text(alloc: Global, text: &Text) -> Result<SetExpr, AllocError>
+fn text_expression(alloc: Global, text: &Text) -> Result<SetExpr, AllocError>
     ensures { IfOk result (λ copy. copy ≡ Literal (value.Text text.now)) }
 {
     SetExpr::literal(alloc, Value::Text(text.copy()))
@@ -38,9 +38,9 @@ fn copy_expression(alloc: Global, expression: &SetExpr) -> Result<SetExpr, Alloc
     ensures { IfOk result (λ copy. copy ≡ expression.now) }
 {
     match expression.root() {
-        ExprRoot::Null => null(alloc),
-        ExprRoot::Int(value) => number(alloc, value),
-        ExprRoot::Text(value) => text(alloc, value),
+        ExprRoot::Null => null_expression(alloc),
+        ExprRoot::Int(value) => number_expression(alloc, value),
+        ExprRoot::Text(value) => text_expression(alloc, value),
         ExprRoot::Column(column) => Ok(SetExpr::column(column)),
         ExprRoot::Add(left, right) => {
             let left = copy_expression(alloc, left)?;

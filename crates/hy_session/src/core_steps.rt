@@ -11,7 +11,7 @@ ghost use Rattle.hy_validate.specs.Hits.{first_invalid};
 ghost use Rattle.hy_session.specs.Entered.{has_entry, is_stamping};
 ghost use Rattle.hy_session.specs.CoreSteps.{leaves, turn_by};
 
-use crate::numbers::behind;
+use crate::numbers::elements_behind;
 use crate::{Running, Session};
 use hy_bound::{Record, Txn};
 use hy_core::Core;
@@ -74,7 +74,7 @@ fn validate(alloc: Global, core: &Core, now: &Running) -> Result<CoreStep, Alloc
 {
     let records = now.records.records();
     let tree = Tree::build(alloc, records)?;
-    let since = behind(core.since(0), now.prefix as usize);
+    let since = elements_behind(core.since(0), now.prefix as usize);
     match validate_with(&tree, since) {
         Ok(()) => Ok(CoreStep::Enter),
         Err(invalid) => Ok(CoreStep::Refuse(refusal(records, invalid))),

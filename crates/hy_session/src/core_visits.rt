@@ -24,7 +24,11 @@ use std::alloc::{AllocError, Global};
 use std::mem;
 
 /// A transaction begins at the core, with room for notes that was spare. Err is for want of memory, and changes nothing.
-fn begun(alloc: Global, core: &mut Core, spare: &mut Changes) -> Result<Running, AllocError>
+fn begin_transaction(
+    alloc: Global,
+    core: &mut Core,
+    spare: &mut Changes,
+) -> Result<Running, AllocError>
     requires clock { core.old.next < 2 ^ 63 }
     requires few { length core.old.entries < 2 ^ 32 }
     requires none_noted { spare.old.notes ≡ [] }
@@ -64,7 +68,7 @@ impl Session {
     {
         let counts = Vec::with_capacity(alloc, self.shapes.len())?;
         self.done.reserve(1)?;
-        self.now = Some(begun(alloc, core, &mut self.spare)?);
+        self.now = Some(begin_transaction(alloc, core, &mut self.spare)?);
         self.counts = counts;
         Ok(Progress::Answered)
     }

@@ -45,7 +45,12 @@ fn count_placed(table: u32, statements: &[Bound], took: &[Option<u32>]) -> u64
 
 /// Of each of so many tables how many of its positions answered statements took. It takes no memory: the list is empty, and
 /// has room for as many numbers.
-fn placed_each(room: Vec<u64>, statements: &[Bound], took: &[Option<u32>], tables: u32) -> Seq<u64>
+fn count_placed_each(
+    room: Vec<u64>,
+    statements: &[Bound],
+    took: &[Option<u32>],
+    tables: u32,
+) -> Seq<u64>
     requires empty { room.items ≡ [] }
     requires room { tables ≤ vec_capacity room }
     ensures { result ≡ map (λ table. placed_in table statements.now took.now) (range_with_len 0 tables) }
@@ -82,7 +87,7 @@ pub fn written_places(alloc: Global, now: &Running) -> Result<Places, AllocError
 }
 
 /// The positions that a transaction wrote which stands here: those that it kept at its entry, or without one these.
-fn written_by(phase: Phase, wrote: Places, places: Places) -> Places
+fn places_by_phase(phase: Phase, wrote: Places, places: Places) -> Places
     ensures { result ≡ (if is_stamping phase then wrote else places) }
 {
     match phase {
@@ -116,7 +121,7 @@ impl Session {
         let label = self.label();
         let tables = self.shapes.len() as u32;
         let room = mem::replace(&mut self.counts, Vec::new(alloc));
-        let placed = placed_each(room, self.statements(), now.took.as_slice(), tables);
+        let placed = count_placed_each(room, self.statements(), now.took.as_slice(), tables);
         let Running {
             start,
             prefix,
@@ -131,7 +136,7 @@ impl Session {
             start: prefix,
             replies: Seq::from_vec(replies),
             ending,
-            wrote: written_by(phase, wrote, places),
+            wrote: places_by_phase(phase, wrote, places),
             placed,
         });
         notes.clear();

@@ -106,7 +106,7 @@ fn place_in(
 }
 
 /// Where a transaction stands after a visit that found no position free in the chunk of this number.
-fn passed(visitor: &Visitor, insertion: &Insertion, visited: u32, number: u32) -> Phase
+fn next_phase(visitor: &Visitor, insertion: &Insertion, visited: u32, number: u32) -> Phase
     requires { number < visited }
     ensures { result
         ≡ (if nat_lt (suc number) visitor.now.chunks then Phase.Working visited 0 else Phase.Undoing 0 (Ending.Full insertion.now.table)) }
@@ -171,7 +171,7 @@ fn place(
             Ok(Progress::Answered)
         }
         None => {
-            now.phase = passed(visitor, insertion, visited, number);
+            now.phase = next_phase(visitor, insertion, visited, number);
             Ok(Progress::Moved)
         }
     }

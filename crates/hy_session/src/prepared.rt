@@ -37,7 +37,7 @@ pub struct Prepared {
 
 impl Session {
     /// How many statements of its open transaction are answered; without one 0.
-    pub(crate) fn answered(&self) -> usize
+    pub(crate) fn count_answered(&self) -> usize
         ensures { result ≡ option_map_or (λ (now : Open). length now.replies) self.entry.now.now 0 }
     {
         match &self.now {
@@ -47,7 +47,7 @@ impl Session {
     }
 
     /// The statement at which its open transaction works.
-    fn present(&self) -> Option<&Bound>
+    fn statement_at_work(&self) -> Option<&Bound>
         ensures { option_copied result ≡ statement_in self.entry.now }
     {
         let Some(now) = &self.now else {
@@ -64,7 +64,7 @@ impl Session {
         ensures plan { IfSome result (IsPlanFor self.old) }
         ensures same { self.new ≡ self.old }
     {
-        let number = self.answered();
+        let number = self.count_answered();
         let Some(kept) = self.prepared.take() else {
             return None;
         };
@@ -97,7 +97,7 @@ impl Session {
         if let Some(StatementPlan::Read(reader)) = self.take_plan() {
             return Ok(reader);
         }
-        match self.present() {
+        match self.statement_at_work() {
             Some(statement) => reader_of(alloc, self.shapes.as_slice(), statement),
             None => unreachable!(),
         }
@@ -111,7 +111,7 @@ impl Session {
         ensures entered { OnErr result (has_entry self.old ≡ false) }
     {
         let plan = self.take_plan();
-        match self.present() {
+        match self.statement_at_work() {
             Some(Bound::Update { sets, .. }) => match plan {
                 Some(StatementPlan::Write(kind)) => Ok(Some(kind)),
                 _ => Ok(Some(WriteKind::Set(copy_sets(alloc, sets)?))),

@@ -19,7 +19,7 @@ ghost use Rattle.hy_session.specs.Preparing.{IsPlanFor};
 ghost use Rattle.hy_session.specs.Reading.{IsNextFor, IsReading, IsStep, IsStepOf};
 
 use crate::answers::{Answer, push_answer, reserve_answer};
-use crate::numbers::number;
+use crate::numbers::number_of;
 use crate::prepared::StatementPlan;
 use crate::visitors::Present;
 use crate::{Running, Session};
@@ -83,7 +83,9 @@ impl Session {
     {
         let rows = part_rows(alloc, reader.parts.as_slice(), found)?;
         let reply = reader.reply(alloc, rows.as_slice())?;
-        let count = number(now.replies.len())?.checked_add(1).ok_or(AllocError)?;
+        let count = number_of(now.replies.len())?
+            .checked_add(1)
+            .ok_or(AllocError)?;
         let tables = reader.rows_logged(alloc, rows.as_slice())?;
         let records = records(
             alloc,
@@ -221,7 +223,7 @@ impl Session {
         ensures kept { OnErr result (self.new ≡ self.old) }
         ensures all { chunk.new ≡ chunk.old }
     {
-        let answered = self.answered();
+        let answered = self.count_answered();
         let reader = self.take_reader(alloc)?;
         match self.read_step(alloc, &reader, chunk)? {
             ReadStep::More {

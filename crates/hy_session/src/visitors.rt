@@ -3,7 +3,7 @@
 ghost use Rattle.std.specs.Prelude.{◌≡◌, [], suc, IfOk};
 ghost use Rattle.hy_plan.specs.Reads.{records_of};
 
-use crate::numbers::number;
+use crate::numbers::number_of;
 use hy_bound::{Bound, Records, Shape};
 use hy_plan::records;
 use hy_stamp::{Label, Viewer};
@@ -52,7 +52,7 @@ impl Visitor<'_> {
     ) -> Result<Records, AllocError>
         ensures { IfOk result (λ all. all ≡ records_of self.now.shapes.now (suc answered) statement.now []) }
     {
-        let number = number(answered)?.checked_add(1).ok_or(AllocError)?;
+        let number = number_of(answered)?.checked_add(1).ok_or(AllocError)?;
         records(alloc, self.shapes, statement, number, &[])
     }
 }

@@ -33,7 +33,7 @@ fn gathers(statement: &Bound) -> bool
 }
 
 /// A visit of the present statement, which writes; an UPDATE does this with each row that it selects. Err is for want of memory, and changes nothing.
-fn work(
+fn visit_statement(
     alloc: Global,
     visitor: &Visitor,
     present: &Present,
@@ -143,7 +143,7 @@ impl Session {
                             visited,
                             count,
                         };
-                        work(alloc, &visitor, &present, kind, now, chunk)
+                        visit_statement(alloc, &visitor, &present, kind, now, chunk)
                     }
                     None => Ok(undo(&visitor, 0, Ending::RolledBack, now, chunk)),
                 }
@@ -165,7 +165,7 @@ impl Session {
         ensures chunk_kept { OnErr result (chunk.new.shown ≡ chunk.old.shown) }
         ensures kinds { chunk.new.kinds ≡ chunk.old.kinds }
     {
-        let answered = self.answered();
+        let answered = self.count_answered();
         let kind = self.take_kind(alloc)?;
         let progress = self.change_by(alloc, kind.as_ref(), chunk)?;
         if let Some(kind) = kind

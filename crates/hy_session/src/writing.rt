@@ -34,7 +34,7 @@ pub struct Write<'a> {
 }
 
 /// The reply to one that selected so many rows.
-fn told(kind: &WriteKind, count: u64) -> Reply
+fn reply_of(kind: &WriteKind, count: u64) -> Reply
     ensures { result ≡ told_by (sets_of kind.now) count }
 {
     match kind {
@@ -44,7 +44,7 @@ fn told(kind: &WriteKind, count: u64) -> Reply
 }
 
 /// How a transaction ends that is refused at a position of a table.
-fn ending(table: u32, refusal: Refusal) -> Ending
+fn refusal_ending(table: u32, refusal: Refusal) -> Ending
     ensures { result ≡ ending_by table refusal }
 {
     match refusal {
@@ -110,7 +110,7 @@ fn write_on(
             Ok(Progress::Moved)
         }
         Err(refusal) => {
-            let cause = ending(write.table, refusal);
+            let cause = refusal_ending(write.table, refusal);
             now.phase = Phase::Undoing { visited: 0, cause };
             Ok(Progress::Moved)
         }
@@ -146,7 +146,7 @@ fn write_last(
     match write_chunk(visitor, write, now.start, &now.cover, &mut now.notes, chunk)? {
         Ok(rows) => {
             let answer = Answer {
-                reply: told(write.kind, write.present.count + u64::from(rows)),
+                reply: reply_of(write.kind, write.present.count + u64::from(rows)),
                 took: None,
                 records,
             };
@@ -159,7 +159,7 @@ fn write_last(
             Ok(Progress::Answered)
         }
         Err(refusal) => {
-            let refused = ending(write.table, refusal);
+            let refused = refusal_ending(write.table, refusal);
             now.phase = Phase::Undoing {
                 visited: 0,
                 cause: refused,

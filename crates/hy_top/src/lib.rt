@@ -35,7 +35,7 @@ use hy_script::{Code, Options, ReadError, Refused, Script, read_once, what_is_re
 use hy_threads::Gate;
 use hy_words::{Command, WordsError};
 pub use laws::{one_text_is_of_one_outcome, what_is_read_is_named, what_is_read_is_utf8};
-use lines::{checked, refusal_line};
+use lines::{check_line, refusal_line};
 use logs::{recover_script, run_logged};
 use settings::{Given, given_of};
 use std::alloc::{AllocError, Global};
@@ -188,7 +188,7 @@ struct Making {
 }
 
 /// The script that is made from these numbers.
-fn made_script(alloc: Global, making: Making) -> Result<Script, AllocError>
+fn make_script(alloc: Global, making: Making) -> Result<Script, AllocError>
     requires { (making.sessions ≤ 64) × (making.txns ≤ 1000) }
     ensures made { IfOk result (λ script. script ≡ made making.seed making.sessions making.txns) }
     ensures runs { IfOk result (λ script. CanRun script) }
@@ -216,7 +216,7 @@ fn run_made<T: Threads + Wait + Sync, W: Sink, G: Gate>(
     made_transactions_end_in_four_ways();
     runs_are_steps();
     ends_are_lawful();
-    match made_script(crew.alloc, making) {
+    match make_script(crew.alloc, making) {
         Ok(script) => summarize_script(crew, script, making.threads, sink),
         Err(_) => without_outcome(NO_MEMORY),
     }
@@ -456,7 +456,7 @@ fn check_script<W: Sink>(alloc: Global, script: Script, sink: &mut W) -> Report
     ensures write_fault { result.status ≡ 4 → Rose (W.faults sink.old) (W.faults sink.new) }
     ensures sink_steady { result.status ≢ 4 → W.faults sink.new ≡ W.faults sink.old }
 {
-    match checked(alloc, &script) {
+    match check_line(alloc, &script) {
         Ok(line) => without_outcome(write(sink, line.as_slice(), 0)),
         Err(_) => without_outcome(NO_MEMORY),
     }

@@ -76,7 +76,7 @@ fn txns_in_all(sessions: &[NamedTxns]) -> Result<u64, AllocError>
 }
 
 /// The line that tells what a script has.
-pub fn checked(alloc: Global, script: &Script) -> Result<Vec<u8>, AllocError>
+pub fn check_line(alloc: Global, script: &Script) -> Result<Vec<u8>, AllocError>
     ensures { IfOk result (λ line. line.items ≡ checked_line script.now) }
 {
     let rows = rows_in_all(script.rows.as_slice())?;
@@ -92,7 +92,7 @@ pub fn checked(alloc: Global, script: &Script) -> Result<Vec<u8>, AllocError>
 }
 
 /// The line that tells where a log is damaged.
-pub fn damaged(alloc: Global, offset: u64) -> Result<Vec<u8>, AllocError>
+pub fn damage_line(alloc: Global, offset: u64) -> Result<Vec<u8>, AllocError>
     ensures { IfOk result (λ line. line.items ≡ damaged_line offset) }
 {
     let mut out = Vec::new(alloc);

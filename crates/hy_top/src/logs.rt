@@ -14,7 +14,7 @@ ghost use Rattle.hy_top.specs.Program.{comes_to, names_at};
 ghost use Rattle.hy_top.specs.Reports.{Writes, Runs, RunsLogged, FindsALog, Restores, GaveUp, LeavesLog, KeepsLog, IsLoggedSince, tables_at};
 ghost use Rattle.hy_top.specs.Settings.{CanRun, IsUtf8Script};
 
-use crate::lines::damaged;
+use crate::lines::damage_line;
 use crate::settings::{Given, given_of};
 use crate::{DISK_FAULT, NO_MEMORY, Report, tell, without_outcome, write};
 use hy_disk::Disk;
@@ -179,7 +179,7 @@ fn tell_damage<W: Sink>(alloc: Global, offset: u64, sink: &mut W) -> Report
     ensures sink_steady { result.status ≢ 4 → W.faults sink.new ≡ W.faults sink.old }
     ensures statuses { (result.status ≢ 6) }
 {
-    match damaged(alloc, offset) {
+    match damage_line(alloc, offset) {
         Ok(line) => without_outcome(write(sink, line.as_slice(), BAD_LOG)),
         Err(_) => without_outcome(NO_MEMORY),
     }

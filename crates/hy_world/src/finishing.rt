@@ -123,7 +123,7 @@ fn all_rows(
 }
 
 /// An entry of the journal, with what is a change of its notes.
-fn committed(entry: Entry) -> Committed
+fn to_committed(entry: Entry) -> Committed
     ensures { result ≡ told_entry entry }
 {
     let Entry { label, notes, .. } = entry;
@@ -139,7 +139,7 @@ fn all_committed(alloc: Global, entries: Vec<Entry>) -> Result<Seq<Committed>, A
 {
     let mut all = Seq::new(alloc);
     for entry in entries {
-        all.push(committed(entry))?;
+        all.push(to_committed(entry))?;
     }
     Ok(all)
 }

@@ -22,7 +22,7 @@ use hy_render::Outcome;
 use std::alloc::Global;
 
 /// Appends an entry, where there is one and a log is kept.
-pub(crate) fn keep<D: Disk>(
+pub(crate) fn log_entry<D: Disk>(
     alloc: Global,
     log: &mut Option<Log>,
     disk: &mut D,

@@ -10,7 +10,7 @@ ghost use Rattle.hy_world.specs.Follows.{Follows, Steps};
 ghost use Rattle.hy_world.specs.Logged.{IsKept, IsKeptButTheLast, Logs, Approaches};
 
 use crate::World;
-use crate::logging::keep;
+use crate::logging::log_entry;
 use hy_bound::Item;
 use hy_disk::Disk;
 use hy_event::Need;
@@ -54,7 +54,7 @@ impl World {
     {
         let before = self.core.since(0).len();
         let stepped = self.step(alloc, number)?;
-        keep(alloc, log, disk, self.core.since(before).first())?;
+        log_entry(alloc, log, disk, self.core.since(before).first())?;
         Ok(stepped)
     }
 

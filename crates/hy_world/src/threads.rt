@@ -85,7 +85,7 @@ impl<K: Case> Worked for Shown<K> {
     ghost width_stays = { visits_keep_width };
 
     fn need(session: &Session) -> Option<Point> {
-        point(session)
+        next_point(session)
     }
 
     fn visit(
@@ -95,12 +95,12 @@ impl<K: Case> Worked for Shown<K> {
         part: &mut SharedPart,
     ) -> Result<Visited, AllocError> {
         let _ = number;
-        Ok(visited(visit_part(alloc, session, part)?))
+        Ok(to_visited(visit_part(alloc, session, part)?))
     }
 }
 
 /// The next visit of a session, as a gate is told of it.
-fn point(session: &Session) -> Option<Point>
+fn next_point(session: &Session) -> Option<Point>
     ensures { result ≡ point_of session.entry.now }
 {
     let part = session.needed_part()?;
@@ -120,7 +120,7 @@ fn point(session: &Session) -> Option<Point>
 }
 
 /// What a visit came to.
-fn visited(progress: Progress) -> Visited
+fn to_visited(progress: Progress) -> Visited
     ensures { result ≡ visited_of progress }
 {
     match progress {

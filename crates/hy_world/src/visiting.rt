@@ -17,7 +17,7 @@ use hy_machine::Stepped;
 use std::alloc::{AllocError, Global};
 
 /// What a visit came to, as the machine says it.
-fn told(progress: Progress) -> Stepped
+fn to_stepped(progress: Progress) -> Stepped
     ensures told { result ≡ stepped_of progress }
     ensures blocked { (by : Label) → result ≡ Stepped.Blocked by → progress ≡ Progress.Blocked by }
 {
@@ -37,7 +37,7 @@ fn place_of(per_table: u32, table: u32, chunk: u32) -> usize
 
 impl World {
     /// The part that a session needs next; one that is not there needs none.
-    fn needed(&self, number: u32) -> Need
+    fn next_need(&self, number: u32) -> Need
         ensures { result ≡ need_at self.now.sessions number }
     {
         match self.sessions.get(number as usize) {
@@ -99,9 +99,9 @@ impl World {
         ensures prunes { prunings self.new.sessions ≡ prunings self.old.sessions }
     {
         hy_stepping::ended_stay_as_they_are();
-        match self.needed(number) {
-            Need::Core => Ok(told(self.visit_core(alloc, number)?)),
-            Need::Chunk { table, chunk } => Ok(told(self.visit_chunk(
+        match self.next_need(number) {
+            Need::Core => Ok(to_stepped(self.visit_core(alloc, number)?)),
+            Need::Chunk { table, chunk } => Ok(to_stepped(self.visit_chunk(
                 alloc, number, table, chunk,
             )?)),
             Need::Done => Ok(Stepped::Ended),

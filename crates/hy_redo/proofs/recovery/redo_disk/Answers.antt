@@ -30,7 +30,7 @@ returns-then-not-wants_more-clause-found g c =
     c.redo-stop.ensures.redone c.redo-stop.ensures.inside in
     comes_to_tables c.args.tables c.in_ok-len.len c.pieces.bytes.items c.deref-in-pieces.result.now c.deref-in-pieces.ensures.value
     (d.held c.args.disk.now) (d.held c.pieces.disk) c.pieces.invariant.1 now.tables.items now.last now.gate r c.redo-stop.result c.redo-stop.ensures.stop
-    c.stopped.result c.stopped.ensures
+    c.result_of_stop.result c.result_of_stop.ensures
 
 pub returns-then-not-wants_more-clause-damaged : goal.returns-then-not-wants_more-clause-damaged
 returns-then-not-wants_more-clause-damaged g c =
@@ -42,7 +42,7 @@ returns-then-not-wants_more-clause-damaged g c =
     c.redo-stop.ensures.redone c.redo-stop.ensures.inside in
     comes_to_damage c.args.tables c.in_ok-len.len c.pieces.bytes.items c.deref-in-pieces.result.now c.deref-in-pieces.ensures.value
     (d.held c.args.disk.now) (d.held c.pieces.disk) c.pieces.invariant.1 now.tables.items now.last now.gate r c.redo-stop.result c.redo-stop.ensures.stop
-    c.stopped.result c.stopped.ensures
+    c.result_of_stop.result c.result_of_stop.ensures
     (λ short. omega (arith, c.wants_more.ensures.ended c.if-not-wants_more.true short, c.pieces.bytes.ok.0))
 
 pub pieces-preserved : goal.pieces-preserved

@@ -63,10 +63,10 @@ returns-clause-event c =
           got txn.statements w.as_slice-in-Working.result.now w.len-in-Working.result (length now.replies) w.in-Some-get.statement.now w.as_slice-in-Working.ensures
           (omega (arith, w.len-in-Working.ensures, c.now.inside.replies.ok.0, ap (λ (v : Open). length v.replies) c.now.view_is))
           w.in-Some-get.ensures.lookup.0 w.in-Some-get.ensures.lookup.1 in
-          event_moves session chunk.shown c.match-now.result w.work.result _ (with_open w.work.new.now seen) c.match-now.chunk w.work.new.chunk
+          event_moves session chunk.shown c.match-now.result w.visit_statement.result _ (with_open w.visit_statement.new.now seen) c.match-now.chunk w.visit_statement.new.chunk
           w.result-is (ap the_view w.self-inside-is) w.chunk-is
-          (worked session seen (visitor_at c) txn now w.work.new.now chunk w.work.new.chunk.shown w.work.result c.self.view_is (visitor_is c) (txn_is c) (open_is c)
-          w.in-Working.visited w.in-Working.count w.in-Some-get.statement.now works present w.work.ensures.event)
+          (worked session seen (visitor_at c) txn now w.visit_statement.new.now chunk w.visit_statement.new.chunk.shown w.visit_statement.result c.self.view_is (visitor_is c) (txn_is c) (open_is c)
+          w.in-Working.visited w.in-Working.count w.in-Some-get.statement.now works present w.visit_statement.ensures.event)
       | in-Working+in-None w ↦
           let works : now.phase ≡ Working w.in-Working.visited w.in-Working.count = ap (λ (v : Open). v.phase) (sym c.now.view_is) ∙ w.in-Working.is in
           let none : slice_get txn.statements (length now.replies) ≡ None =
@@ -106,12 +106,12 @@ returns-clause-short c =
           got txn.statements w.as_slice-in-Working.result.now w.len-in-Working.result (length now.replies) w.in-Some-get.statement.now w.as_slice-in-Working.ensures
           (omega (arith, w.len-in-Working.ensures, c.now.inside.replies.ok.0, ap (λ (v : Open). length v.replies) c.now.view_is))
           w.in-Some-get.ensures.lookup.0 w.in-Some-get.ensures.lookup.1 in
-          leaving_moves session c.match-now.result w.work.result c.match-now.chunk w.work.new.chunk w.result-is w.chunk-is
-          (ok_gives w.work.result (ShortAt (visitor_at c) w.in-Working.visited w.in-Some-get.statement.now now.cover w.work.new.chunk.shown)
-          (LeavesShort session session.now w.work.new.chunk.shown)
-          (λ short. leaves_at session (visitor_at c) now w.work.new.chunk.shown (visitor_is c) (open_is c) txn w.in-Working.visited w.in-Working.count
+          leaving_moves session c.match-now.result w.visit_statement.result c.match-now.chunk w.visit_statement.new.chunk w.result-is w.chunk-is
+          (ok_gives w.visit_statement.result (ShortAt (visitor_at c) w.in-Working.visited w.in-Some-get.statement.now now.cover w.visit_statement.new.chunk.shown)
+          (LeavesShort session session.now w.visit_statement.new.chunk.shown)
+          (λ short. leaves_at session (visitor_at c) now w.visit_statement.new.chunk.shown (visitor_is c) (open_is c) txn w.in-Working.visited w.in-Working.count
           w.in-Some-get.statement.now (txn_is c) works present short)
-          w.work.ensures.short)
+          w.visit_statement.ensures.short)
       | in-Working+in-None w ↦
           let works : now.phase ≡ Working w.in-Working.visited w.in-Working.count = ap (λ (v : Open). v.phase) (sym c.now.view_is) ∙ w.in-Working.is in
           let none : slice_get txn.statements (length now.replies) ≡ None =
@@ -169,7 +169,7 @@ pub invariant_of-self : goal.invariant_of-self
 invariant_of-self c =
     let room = room_stays c.self.inside.now c.in-Some-now.now c.in-Some-now.is c.self.invariant.1 in
     elim c.match-now.branch [
-      | in-Working+in-Some-get w ↦ subst Holds (sym w.self-inside-is) (c.self.invariant.0, room w.work.new.now)
+      | in-Working+in-Some-get w ↦ subst Holds (sym w.self-inside-is) (c.self.invariant.0, room w.visit_statement.new.now)
       | in-Working+in-None w ↦ subst Holds (sym w.self-inside-is) (c.self.invariant.0, room w.undo.new.now)
       | in-Stamping w ↦ subst Holds (sym w.self-inside-is) (c.self.invariant.0, room w.stamp.new.now)
       | in-Undoing w ↦ subst Holds (sym w.self-inside-is) (c.self.invariant.0, room w.undo-in-Undoing.new.now)

@@ -16,17 +16,17 @@ returns-clause-after c =
     let session = c.args.self.now in
     let now = c.in-Some.now in
     let label = c.label-label.result in
-    let wrote = c.written_by.result in
-    let placed = c.placed_each-placed.result in
+    let wrote = c.places_by_phase.result in
+    let placed = c.count_placed_each-placed.result in
     let done = c.push_reserved.new.self.items in
     let opened : session.now ≡ Some now = ap (λ (s : SessionData). s.now) (sym c.self.view_is) ∙ sym c.in-Some.ensures.value in
     let labelled : label ≡ label_of session = c.label-label.ensures ∙ ap label_of c.self.view_is in
     let wrote_is : wrote ≡ (if is_stamping now.phase then now.wrote else c.args.places) =
-    c.written_by.ensures ∙ ap (λ (v : Open). if is_stamping v.phase then v.wrote else c.args.places) c.now.view_is in
+    c.places_by_phase.ensures ∙ ap (λ (v : Open). if is_stamping v.phase then v.wrote else c.args.places) c.now.view_is in
     let counted : List Bound → List (Option ℕ) → ℕ → List ℕ =
     λ statements took tables. map (λ table. placed_in table statements took) (range_with_len 0 tables) in
     let placed_is : placed ≡ placed_of session now =
-    c.placed_each-placed.ensures
+    c.count_placed_each-placed.ensures
     ∙ (ap (λ (all : List Bound). counted all c.as_slice.result.now c.len-tables.result)
     (c.statements.ensures ∙ ap (λ (s : SessionData). statements_in (txn_at s)) c.self.view_is)
     ∙ (ap (λ (took : List (Option ℕ)). counted (statements_in (txn_at session)) took c.len-tables.result)

@@ -49,6 +49,6 @@ returns-in-None-clause-event c = λ session is opened.
     (c.in_ok-pos.ensures.done session now is (has_noted _ now c.now.view_is)) in
     places_not session now _ c.args.visitor.now insertion.present.visited insertion.present.statement.now insertion.table old new is opened
     insertion.row.now notes c.args.number c.in_ok-visited.visited did one
-    (reserved_so _ now notes c.reserve_answer.new.replies.items c.reserve_answer.new.took.items c.reserve_answer.new.log.entries c.passed-now-inside.result
+    (reserved_so _ now notes c.reserve_answer.new.replies.items c.reserve_answer.new.took.items c.reserve_answer.new.log.entries c.next_phase-now-inside.result
     c.now.view_is c.reserve_answer.ensures.replies c.reserve_answer.ensures.took c.reserve_answer.ensures.log
-    ∙ ap (λ (p : Phase). moved_to now notes p) c.passed-now-inside.ensures)
+    ∙ ap (λ (p : Phase). moved_to now notes p) c.next_phase-now-inside.ensures)

@@ -29,14 +29,14 @@ returns-in-Ok-clause-event c = λ session is opened.
     writes_last session now _ c.args.visitor.now write.present.visited write.present.statement.now write.table old new is opened
     write.present.count (sets_of write.kind.now) write.pred.now notes c.in-Ok.rows did c.requires.last
     (answered_by _ now notes c.push_answer.new.replies.items c.push_answer.new.took.items c.push_answer.new.log.entries _
-    c.told.result (told_by (sets_of write.kind.now) (write.present.count + c.in-Ok.rows)) None
+    c.reply_of.result (told_by (sets_of write.kind.now) (write.present.count + c.in-Ok.rows)) None
     c.in_ok-records.records (records_of shapes (suc (length now.replies)) write.present.statement.now [])
     c.now.view_is
-    (c.push_answer.ensures.replies ∙ ap (λ (r : List Reply). r ++ c.told.result ∷ []) c.reserve_answer.ensures.replies)
+    (c.push_answer.ensures.replies ∙ ap (λ (r : List Reply). r ++ c.reply_of.result ∷ []) c.reserve_answer.ensures.replies)
     (c.push_answer.ensures.took ∙ ap (λ (t : List (Option ℕ)). t ++ None ∷ []) c.reserve_answer.ensures.took)
     (c.push_answer.ensures.log ∙ ap (λ (l : List Record). l ++ c.in_ok-records.records) c.reserve_answer.ensures.log)
     c.clear.ensures.items
-    (c.told.ensures ∙ ap (λ (n : ℕ). told_by (sets_of write.kind.now) (write.present.count + n)) c.from.ensures)
+    (c.reply_of.ensures ∙ ap (λ (n : ℕ). told_by (sets_of write.kind.now) (write.present.count + n)) c.from.ensures)
     (c.in_ok-records.ensures ∙ ap (λ (n : ℕ). records_of shapes (suc n) write.present.statement.now []) many))
 
 pub returns-in-Err-clause-event : goal.returns-in-Err-clause-event
@@ -51,6 +51,6 @@ returns-in-Err-clause-event c = λ session is opened.
     (c.in_ok-rows.ensures.done session now is (has_noted _ now c.now.view_is)) in
     refuses session now _ c.args.visitor.now write.present.visited write.present.statement.now write.table old new is opened
     write.present.count (sets_of write.kind.now) write.pred.now notes c.in-Err.refusal did
-    (reserved_so _ now notes c.reserve_answer.new.replies.items c.reserve_answer.new.took.items c.reserve_answer.new.log.entries (Undoing 0 c.ending-refused.result)
+    (reserved_so _ now notes c.reserve_answer.new.replies.items c.reserve_answer.new.took.items c.reserve_answer.new.log.entries (Undoing 0 c.refusal_ending-refused.result)
     c.now.view_is c.reserve_answer.ensures.replies c.reserve_answer.ensures.took c.reserve_answer.ensures.log
-    ∙ ap (λ (e : Ending). moved_to now notes (Undoing 0 e)) c.ending-refused.ensures)
+    ∙ ap (λ (e : Ending). moved_to now notes (Undoing 0 e)) c.refusal_ending-refused.ensures)

@@ -36,5 +36,5 @@ returns-in-Err-clause-event c = λ session is opened.
     (c.in_ok-rows.ensures.done session now is (has_noted _ now c.now.view_is)) in
     refuses session now _ c.args.visitor.now write.present.visited write.present.statement.now write.table old new is opened
     write.present.count (sets_of write.kind.now) write.pred.now notes c.in-Err.refusal did
-    (ap (λ (v : Open). moved_to v notes (Undoing 0 c.ending-cause.result)) c.now.view_is
-    ∙ ap (λ (e : Ending). moved_to now notes (Undoing 0 e)) c.ending-cause.ensures)
+    (ap (λ (v : Open). moved_to v notes (Undoing 0 c.refusal_ending-cause.result)) c.now.view_is
+    ∙ ap (λ (e : Ending). moved_to now notes (Undoing 0 e)) c.refusal_ending-cause.ensures)

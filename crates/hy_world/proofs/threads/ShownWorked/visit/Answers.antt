@@ -11,6 +11,6 @@ returns-clause-visited g c =
     let part = c.args.part.now in
     let after = c.visit_part.new.session in
     let new = c.visit_part.new.part in
-    subst (λ (visited : Visited). Visits (IsVisit c.args.number) HasToWait visited session part after new) (sym c.visited.ensures)
+    subst (λ (visited : Visited). Visits (IsVisit c.args.number) HasToWait visited session part after new) (sym c.to_visited.ensures)
     (visit_told c.args.number session part c.in_ok-visit_part.field-0 after new (numbered session c.args.number c.requires.need)
     c.in_ok-visit_part.ensures.visit c.visit_part.ensures.types)

@@ -2,7 +2,7 @@ use Rattle.std.proofs.Common.{◌≡◌, Option, Some, ap, sym, subst, option_co
 use Rattle.hy_journal.specs.declared.Entry.{Entry}
 use Rattle.hy_world.specs.Logged.{IsKept, IsKeptButTheLast, Logs, with_next}
 use Rattle.hy_world.proofs.Logs.{appended, append_cut}
-use Rattle.hy_world.proofs.logging.keep.Goals as goal
+use Rattle.hy_world.proofs.logging.log_entry.Goals as goal
 
 pub returns-clause-logs : goal.returns-clause-logs
 returns-clause-logs g c =

@@ -5,7 +5,7 @@ use Rattle.hy_bound.specs.declared.WriteKind.{WriteKind}
 use Rattle.hy_session.specs.Preparing.{kind_of}
 use Rattle.hy_session.proofs.Dispatch.{as_delete, as_update}
 use Rattle.hy_session.proofs.Results.{ok_maps}
-use Rattle.hy_session.proofs.visits.work.Goals as goal
+use Rattle.hy_session.proofs.visits.visit_statement.Goals as goal
 
 pub returns-in-Some-clause-event : goal.returns-in-Some-clause-event
 returns-in-Some-clause-event c =

@@ -1,5 +1,5 @@
 use Rattle.hy_top.proofs.Answering.{made_fits, made_runs}
-use Rattle.hy_top.proofs.made_script.Goals as goal
+use Rattle.hy_top.proofs.make_script.Goals as goal
 
 pub returns-clause-runs : goal.returns-clause-runs
 returns-clause-runs c =

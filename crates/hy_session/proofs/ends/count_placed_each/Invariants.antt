@@ -1,7 +1,7 @@
 use Rattle.std.proofs.Common.{◌≡◌, ◌≤◌, ◌++◌, ◌-◌, ℕ, map, vec_len, vec_capacity}
 use Rattle.std.specs.List.{range_with_len}
 use Rattle.hy_event.specs.Ended.{placed_in}
-use Rattle.hy_session.proofs.ends.placed_each.Given as goal
+use Rattle.hy_session.proofs.ends.count_placed_each.Given as goal
 
 abbrev pub invariant-loop-table : goal.invariant-loop-table
 invariant-loop-table l = record {

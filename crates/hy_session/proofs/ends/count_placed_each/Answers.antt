@@ -2,7 +2,7 @@ use Rattle.std.proofs.Common.{arith, ℕ}
 use Rattle.std.proofs.lemmas.Grind.{common_steps}
 use Rattle.hy_event.specs.Ended.{placed_in}
 use Rattle.hy_session.proofs.RangeSeeks.{mapped_more}
-use Rattle.hy_session.proofs.ends.placed_each.Goals as goal
+use Rattle.hy_session.proofs.ends.count_placed_each.Goals as goal
 
 pub loop-table-preserved : goal.loop-table-preserved
 loop-table-preserved c =

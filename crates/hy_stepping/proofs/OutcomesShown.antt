@@ -20,7 +20,7 @@ use Rattle.hy_machine.specs.Kept.{Kept, IsNow}
 use Rattle.hy_lawful.specs.Kept.{ReachedAreKept}
 use Rattle.hy_refinement.specs.Numbers.{EntryShows}
 use Rattle.hy_refinement.specs.Places.{IsNewcomer}
-use Rattle.hy_stepping.specs.Outcomes.{last_viewer, told_entry, told, OutcomesAreTold}
+use Rattle.hy_stepping.specs.Outcomes.{last_viewer, told_entry, told_outcome, OutcomesAreTold}
 use Rattle.hy_stepping.proofs.OpenOnes.{kept_of}
 use Rattle.hy_stepping.proofs.OutcomesPairs.{EachFrom, each_from}
 use Rattle.hy_stepping.proofs.OutcomesEnds.{ShowsOne, shown_each, ends_are, none_open}
@@ -98,7 +98,7 @@ outcomes_are reached one setting state parts sessions shown done =
     kept = kept_of reached setting state parts sessions shown
 
     tables_told : List (List (List Value))
-    tables_told = (told (length setting.shapes) setting.chunks core parts sessions).tables
+    tables_told = (told_outcome (length setting.shapes) setting.chunks core parts sessions).tables
 
     none : (number : ℕ) (current : Current) → IsNow state number current → ⊥
     none = none_open setting state kept.fits (sym (ends_are reached setting state parts sessions shown) ∙ done)

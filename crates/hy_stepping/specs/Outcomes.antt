@@ -64,8 +64,8 @@ abbrev pub told_rows : CoreData → List Part → ℕ → ℕ → List (List Val
 told_rows core parts chunks table = sorted (flat_map (chunk_rows core parts chunks table) (range_with_len 0 chunks))
 
 -- what is told of the core, the parts and the sessions, of so many tables of so many chunks
-abbrev pub told : ℕ → ℕ → CoreData → List Part → List SessionData → Outcome
-told tables chunks core parts sessions = record {
+abbrev pub told_outcome : ℕ → ℕ → CoreData → List Part → List SessionData → Outcome
+told_outcome tables chunks core parts sessions = record {
   txns = flat_map (λ session. session.done) sessions;
   order = map told_entry core.entries;
   tables = map (told_rows core parts chunks) (range_with_len 0 tables);
@@ -76,4 +76,4 @@ abbrev pub OutcomesAreTold : Type 0
 OutcomesAreTold =
     (setting : Setting) (state : State) (parts : List Part) (sessions : List SessionData)
     → (shown : IsShown setting state parts sessions) → are_done sessions ≡ true
-    → told (length setting.shapes) setting.chunks shown.shows.core parts sessions ≡ outcome_of setting state
+    → told_outcome (length setting.shapes) setting.chunks shown.shows.core parts sessions ≡ outcome_of setting state

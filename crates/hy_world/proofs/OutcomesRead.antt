@@ -27,7 +27,7 @@ use Rattle.hy_lawful.specs.Views.{TablesAreFitted, ReachedTablesFit}
 use Rattle.hy_render.specs.declared.Committed.{Committed}
 use Rattle.hy_render.specs.declared.Outcome.{Outcome}
 use Rattle.hy_render.specs.declared.TxnOutcome.{TxnOutcome}
-use Rattle.hy_stepping.specs.Outcomes.{OutcomesAreTold, last_viewer, told, told_entry, told_rows}
+use Rattle.hy_stepping.specs.Outcomes.{OutcomesAreTold, last_viewer, told_outcome, told_entry, told_rows}
 use Rattle.hy_stepping.specs.Runnable.{IsRunnable, IsShown}
 use Rattle.hy_stepping.specs.Typed.{kinds_of}
 use Rattle.hy_refinement.specs.Parts.{PartsAre}
@@ -155,7 +155,7 @@ widths_are shapes tables per_table chunks core sessions is =
 table_is : ReachedTablesFit → (setting : Setting) (state : State) (shapes : List Shape) (tables per_table : ℕ) (chunks : List Whole) (core : CoreData)
     (sessions : List SessionData) (table : ℕ) → IsWorld shapes tables per_table chunks core sessions
     → (shows : ShowsState setting state (world_of tables per_table chunks core sessions)) → table < length setting.shapes
-    → told (length setting.shapes) setting.chunks core (parts_of (plain chunks) core) sessions ≡ outcome_of setting state
+    → told_outcome (length setting.shapes) setting.chunks core (parts_of (plain chunks) core) sessions ≡ outcome_of setting state
     → table_back (last_viewer core) chunks shapes setting.chunks table ≡ told_rows core (parts_of (plain chunks) core) setting.chunks table
 table_is law setting state shapes tables per_table chunks core sessions table is shows there e =
     let parts = parts_of (plain chunks) core in
@@ -179,8 +179,8 @@ pub tells : OutcomesAreTold → ReachedTablesFit → (shapes : List Shape) (tabl
 tells are law shapes tables per_table chunks core sessions outcome is txns order back = λ setting state shows done.
     let parts = parts_of (plain chunks) core in
     let count = length setting.shapes in
-    let by_law : told count setting.chunks core parts sessions ≡ outcome_of setting state =
-    ap (λ (core : CoreData). told count setting.chunks core parts sessions) (sym (core_same setting state tables per_table chunks core sessions shows))
+    let by_law : told_outcome count setting.chunks core parts sessions ≡ outcome_of setting state =
+    ap (λ (core : CoreData). told_outcome count setting.chunks core parts sessions) (sym (core_same setting state tables per_table chunks core sessions shows))
     ∙ are setting state parts sessions shows.shown done in
     let many : length shapes ≡ count = tables_are shapes tables per_table chunks core sessions is ∙ sym shows.tables in
     let each : (table : ℕ) → table < 0 + count
@@ -190,4 +190,4 @@ tells are law shapes tables per_table chunks core sessions outcome is txns order
     back ∙ (ap (λ (per : ℕ). tables_back (last_viewer core) chunks shapes per (length shapes)) (sym shows.per_table)
     ∙ (ap (tables_back (last_viewer core) chunks shapes setting.chunks) many
     ∙ same_mapped (table_back (last_viewer core) chunks shapes setting.chunks) (told_rows core parts setting.chunks) 0 count each)) in
-    outcome_is outcome (told count setting.chunks core parts sessions) txns order all ∙ by_law
+    outcome_is outcome (told_outcome count setting.chunks core parts sessions) txns order all ∙ by_law

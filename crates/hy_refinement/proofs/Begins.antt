@@ -12,7 +12,7 @@ use Rattle.hy_event.specs.declared.Open.{Open}
 use Rattle.hy_event.specs.CoreTurns.{beginning}
 use Rattle.hy_event.specs.Events.{Part, CorePart}
 use Rattle.hy_machine.specs.declared.Setting.{Setting}
-use Rattle.hy_machine.specs.States.{State, Open as Current}
+use Rattle.hy_machine.specs.States.{State, Open as MachineOpen}
 use Rattle.hy_machine.specs.Sessions.{session_at}
 use Rattle.hy_refinement.specs.Sessions.{NowShows}
 use Rattle.hy_refinement.specs.Shows.{Shows}
@@ -41,7 +41,7 @@ module _ (setting : Setting) (state : State) (parts : List Part) (sessions : Lis
       (subst (λ (here : Option Open). NowShows setting state core number here (session_at state number).now) at.rests
       (at.shown.shows.sessions_show.each number session at.found).now_shows)
     where
-      by_now : (there : Option Current) → NowShows setting state core number None there → there ≡ None
+      by_now : (there : Option MachineOpen) → NowShows setting state core number None there → there ≡ None
       by_now None shows = refl
       by_now (Some current) shows = absurd shows
 

@@ -15,7 +15,7 @@ use Rattle.hy_event.specs.declared.Phase.{Phase}
 use Rattle.hy_event.specs.declared.Phase.TheVariants as phase
 use Rattle.hy_event.specs.CoreTurns.{beginning}
 use Rattle.hy_machine.specs.declared.Setting.{Setting}
-use Rattle.hy_machine.specs.States.{State, Open as Current}
+use Rattle.hy_machine.specs.States.{State, Open as MachineOpen}
 use Rattle.hy_machine.specs.Sessions.{session_at, label_of}
 use Rattle.hy_refinement.specs.Transactions.{IsOpen, OfOpen}
 use Rattle.hy_refinement.specs.Numbers.{IsStart, StampingShows, CoreShows}
@@ -54,9 +54,9 @@ module _ (setting : Setting) (state : State) (core : CoreData) (sessions : List 
   sessions_after = sessions_on sessions number session (beginning core)
 
   -- what holds of the one that begins and of the others holds of every open transaction
-  pub each_then : (holds : ℕ → SessionData → Open → Current → Type 0)
+  pub each_then : (holds : ℕ → SessionData → Open → MachineOpen → Type 0)
       → holds number (went_on session (beginning core)) (beginning core) (begun_there setting state)
-      → ((other : ℕ) (another : SessionData) (its : Open) (present : Current) → IsOpen state sessions other another its present
+      → ((other : ℕ) (another : SessionData) (its : Open) (present : MachineOpen) → IsOpen state sessions other another its present
       → holds other another its present)
       → OfOpen after sessions_after holds
   each_then holds mine others other another its present open' =
@@ -65,13 +65,13 @@ module _ (setting : Setting) (state : State) (core : CoreData) (sessions : List 
       by : OpenThen setting state core sessions number session other another its present → holds other another its present
       by (stays apart was) = others other another its present was
       by (begins e f g h) =
-          subst (λ (one : Current). holds other another its one) (sym h)
+          subst (λ (one : MachineOpen). holds other another its one) (sym h)
           (subst (λ (one : Open). holds other another one (begun_there setting state)) (sym g)
           (subst (λ (one : SessionData). holds other one (beginning core) (begun_there setting state)) (sym f)
           (subst (λ (n : ℕ). holds n (went_on session (beginning core)) (beginning core) (begun_there setting state)) (sym e) mine)))
 
   -- who was open is open still
-  pub still : (other : ℕ) (another : SessionData) (its : Open) (present : Current) → IsOpen state sessions other another its present
+  pub still : (other : ℕ) (another : SessionData) (its : Open) (present : MachineOpen) → IsOpen state sessions other another its present
       → IsOpen after sessions_after other another its present
   still other another its present is =
       opens_still setting state core sessions number session other another its present

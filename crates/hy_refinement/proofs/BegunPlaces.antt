@@ -17,7 +17,7 @@ use Rattle.hy_event.specs.declared.Open.{Open}
 use Rattle.hy_event.specs.Sessions.{label_of, viewer_of}
 use Rattle.hy_event.specs.CoreTurns.{beginning}
 use Rattle.hy_machine.specs.declared.Setting.{Setting}
-use Rattle.hy_machine.specs.States.{State, Open as Current}
+use Rattle.hy_machine.specs.States.{State, Open as MachineOpen}
 use Rattle.hy_machine.specs.Tables.{Entry as Entered, opening_tables}
 use Rattle.hy_machine.specs.Positions.{item_at, last_some}
 use Rattle.hy_machine.specs.Sessions.{snapshot, view}
@@ -72,7 +72,7 @@ module _ (setting : Setting) (state : State) (core : CoreData) (sessions : List 
   id_above one = omega (arith, below)
 
   -- no open transaction has the identifier of the one that begins
-  new_id : (other : ℕ) (another : SessionData) (its : Open) (present : Current) → IsOpen state sessions other another its present
+  new_id : (other : ℕ) (another : SessionData) (its : Open) (present : MachineOpen) → IsOpen state sessions other another its present
       → id_of (label_of another) ≡ mine → ⊥
   new_id other another its present was e =
       let same : label_of another ≡ label_of session =

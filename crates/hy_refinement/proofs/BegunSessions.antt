@@ -23,7 +23,7 @@ use Rattle.hy_event.specs.declared.Phase.TheVariants as phase
 use Rattle.hy_event.specs.Gathering.{select_read_plan}
 use Rattle.hy_event.specs.CoreTurns.{beginning}
 use Rattle.hy_machine.specs.declared.Setting.{Setting}
-use Rattle.hy_machine.specs.States.{State, Session, Finished, Open as Current}
+use Rattle.hy_machine.specs.States.{State, Session, Finished, Open as MachineOpen}
 use Rattle.hy_machine.specs.Positions.{item_at}
 use Rattle.hy_machine.specs.Tables.{Tables}
 use Rattle.hy_machine.specs.Sessions.{session_at, fresh, program_of, snapshot, view, pair_of, least_with, least_prefix, txn_at}
@@ -45,14 +45,14 @@ use Rattle.hy_refinement.proofs.BegunCores.{Beginning}
 -- the least of a number and of open prefixes is that number, or one of those
 pub data LeastIs (sessions : List Session) (least : ℕ) : ℕ → Type 0 where
   the_number : LeastIs sessions least least
-  of_one : (k : ℕ) (session : Session) (current : Current) → slice_get sessions k ≡ Some session → session.now ≡ Some current
+  of_one : (k : ℕ) (session : Session) (current : MachineOpen) → slice_get sessions k ≡ Some session → session.now ≡ Some current
       → LeastIs sessions least current.begun.prefix
 
 -- it is one of these, and none of them is less
 pub record LeastOf (sessions : List Session) (least found : ℕ) : Type 0 where
   pub is : LeastIs sessions least found
   pub at_most : found ≤ least
-  pub below : (k : ℕ) (session : Session) (current : Current) → slice_get sessions k ≡ Some session → session.now ≡ Some current → found ≤ current.begun.prefix
+  pub below : (k : ℕ) (session : Session) (current : MachineOpen) → slice_get sessions k ≡ Some session → session.now ≡ Some current → found ≤ current.begun.prefix
 
 min_left : (a b : ℕ) → min a b ≤ a
 min_left a b = omega arith
@@ -69,7 +69,7 @@ least_of (first ∷ sessions) least =
     later _ the_number = the_number
     later _ (of_one k session current e f) = of_one (suc k) session current e f
 
-    here_or_later : (current : Current) → first.now ≡ Some current → (found : ℕ) → LeastIs sessions (min current.begun.prefix least) found
+    here_or_later : (current : MachineOpen) → first.now ≡ Some current → (found : ℕ) → LeastIs sessions (min current.begun.prefix least) found
         → LeastIs (first ∷ sessions) least found
     here_or_later current is _ the_number = elim (cases_lt current.begun.prefix least) [
       | inl less ↦
@@ -81,7 +81,7 @@ least_of (first ∷ sessions) least =
     ]
     here_or_later current is _ (of_one k session other e f) = of_one (suc k) session other e f
 
-    by_now : (now : Option Current) → first.now ≡ now → LeastOf sessions (least_with least now) (least_prefix (least_with least now) sessions)
+    by_now : (now : Option MachineOpen) → first.now ≡ now → LeastOf sessions (least_with least now) (least_prefix (least_with least now) sessions)
         → LeastOf (first ∷ sessions) least (least_prefix (least_with least now) sessions)
     by_now None is rest = record {
       is = later (least_prefix least sessions) rest.is;
@@ -89,7 +89,7 @@ least_of (first ∷ sessions) least =
       below = λ k session current e f. none_first k session current e f;
     }
       where
-        none_first : (k : ℕ) (session : Session) (current : Current) → slice_get (first ∷ sessions) k ≡ Some session → session.now ≡ Some current
+        none_first : (k : ℕ) (session : Session) (current : MachineOpen) → slice_get (first ∷ sessions) k ≡ Some session → session.now ≡ Some current
             → least_prefix least sessions ≤ current.begun.prefix
         none_first zero session current e f =
             absurd (let g : None ≡ Some current = sym is ∙ (ap (λ (one : Session). one.now) (same_Some first session e) ∙ f) in cc)
@@ -100,11 +100,11 @@ least_of (first ∷ sessions) least =
       below = λ k session other e f. some_first k session other e f;
     }
       where
-        some_first : (k : ℕ) (session : Session) (other : Current) → slice_get (first ∷ sessions) k ≡ Some session → session.now ≡ Some other
+        some_first : (k : ℕ) (session : Session) (other : MachineOpen) → slice_get (first ∷ sessions) k ≡ Some session → session.now ≡ Some other
             → least_prefix (min current.begun.prefix least) sessions ≤ other.begun.prefix
         some_first zero session other e f =
             let one : current.begun.prefix ≡ other.begun.prefix =
-            ap (λ (c : Current). c.begun.prefix) (same_Some current other (sym is ∙ (ap (λ (one : Session). one.now) (same_Some first session e) ∙ f))) in
+            ap (λ (c : MachineOpen). c.begun.prefix) (same_Some current other (sym is ∙ (ap (λ (one : Session). one.now) (same_Some first session e) ∙ f))) in
             let most = rest.at_most in
             let left = min_left current.begun.prefix least in
             omega (arith, one, most, left)
@@ -255,7 +255,7 @@ module _ (setting : Setting) (state : State) (core : CoreData) (sessions : List 
     ];
   }
 
-  open_stays : (other : ℕ) (its : Open) (present : Current) → OpenShows setting state core other its present → OpenShows setting after (core_begun core) other its present
+  open_stays : (other : ℕ) (its : Open) (present : MachineOpen) → OpenShows setting state core other its present → OpenShows setting after (core_begun core) other its present
   open_stays other its present show = record {
     prefix_counts = show.prefix_counts;
     low_counts = show.low_counts;
@@ -267,7 +267,7 @@ module _ (setting : Setting) (state : State) (core : CoreData) (sessions : List 
         (statement_at (slice_get (program_of setting other) (length done)) (length its.replies))) (done_same other) (show.gathered_shows visited count e);
   }
 
-  now_stays : (other : ℕ) (here : Option Open) (there : Option Current) → NowShows setting state core other here there
+  now_stays : (other : ℕ) (here : Option Open) (there : Option MachineOpen) → NowShows setting state core other here there
       → NowShows setting after (core_begun core) other here there
   now_stays other None None show = tt
   now_stays other None (Some present) show = show

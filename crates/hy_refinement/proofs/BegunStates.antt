@@ -14,7 +14,7 @@ use Rattle.hy_event.specs.declared.SessionData.{SessionData}
 use Rattle.hy_event.specs.declared.Open.{Open}
 use Rattle.hy_event.specs.CoreTurns.{beginning}
 use Rattle.hy_machine.specs.declared.Setting.{Setting}
-use Rattle.hy_machine.specs.States.{State, Session, Open as Current, Working}
+use Rattle.hy_machine.specs.States.{State, Session, Open as MachineOpen, Working}
 use Rattle.hy_machine.specs.Positions.{item_at}
 use Rattle.hy_machine.specs.Tables.{capacity, chunk_of}
 use Rattle.hy_machine.specs.Writes.{blank_own, written_chunks, is_among}
@@ -31,7 +31,7 @@ use Rattle.hy_refinement.proofs.FramesLists.{got_set, got_other}
 -- ---- the transaction
 
 -- the machine's, as it begins
-abbrev pub begun_there : Setting → State → Current
+abbrev pub begun_there : Setting → State → MachineOpen
 begun_there setting state = record { begun = beginning_there setting state; phase = Working 0 0 }
 
 -- the state after it began
@@ -84,7 +84,7 @@ others_there setting state number other apart =
 
 -- who is open is the one that begins, or was open, and is another
 pub data OpenThen (setting : Setting) (state : State) (core : CoreData) (sessions : List SessionData) (number : ℕ) (session : SessionData)
-    (other : ℕ) (another : SessionData) (its : Open) (present : Current) : Type 0 where
+    (other : ℕ) (another : SessionData) (its : Open) (present : MachineOpen) : Type 0 where
   begins : other ≡ number → another ≡ went_on session (beginning core) → its ≡ beginning core → present ≡ begun_there setting state
       → OpenThen setting state core sessions number session other another its present
   stays : other ≢ number → IsOpen state sessions other another its present
@@ -92,7 +92,7 @@ pub data OpenThen (setting : Setting) (state : State) (core : CoreData) (session
 
 pub open_then : (setting : Setting) (state : State) (core : CoreData) (sessions : List SessionData) (number : ℕ) (session : SessionData)
     → slice_get sessions number ≡ Some session → number < length state.sessions
-    → (other : ℕ) (another : SessionData) (its : Open) (present : Current)
+    → (other : ℕ) (another : SessionData) (its : Open) (present : MachineOpen)
     → IsOpen (begun_state setting state number) (sessions_on sessions number session (beginning core)) other another its present
     → OpenThen setting state core sessions number session other another its present
 open_then setting state core sessions number session found within other another its present open' = elim (cases_eq other number) [
@@ -125,14 +125,14 @@ opens_it setting state core sessions number session found within = record {
 }
 
 -- who was open is another, and is so then
-pub not_open : (state : State) (sessions : List SessionData) (number other : ℕ) (session another : SessionData) (its : Open) (present : Current)
+pub not_open : (state : State) (sessions : List SessionData) (number other : ℕ) (session another : SessionData) (its : Open) (present : MachineOpen)
     → slice_get sessions number ≡ Some session → session.now ≡ None → IsOpen state sessions other another its present → other ≢ number
 not_open state sessions number other session another its present found rests is e =
     let one : session ≡ another = same_Some session another (sym found ∙ (ap (slice_get sessions) (sym e) ∙ is.found)) in
     absurd (let f : None ≡ Some its = sym rests ∙ (ap (λ (s : SessionData). s.now) one ∙ is.open_here) in cc)
 
 pub opens_still : (setting : Setting) (state : State) (core : CoreData) (sessions : List SessionData) (number : ℕ) (session : SessionData)
-    → (other : ℕ) (another : SessionData) (its : Open) (present : Current) → other ≢ number → IsOpen state sessions other another its present
+    → (other : ℕ) (another : SessionData) (its : Open) (present : MachineOpen) → other ≢ number → IsOpen state sessions other another its present
     → IsOpen (begun_state setting state number) (sessions_on sessions number session (beginning core)) other another its present
 opens_still setting state core sessions number session other another its present apart is = record {
   found = got_other sessions number other (went_on session (beginning core)) apart ∙ is.found;
@@ -177,4 +177,4 @@ pub held_alike : (setting : Setting) (state : State) (number table pos : ℕ) �
 held_alike setting state number table pos within rests =
     any_alike (λ (one : Session). holds setting table pos one.now) state.sessions number fresh
     (record { done = (session_at state number).done; now = Some (begun_there setting state) }) within
-    (holds_none setting state table pos ∙ sym (ap (λ (now : Option Current). holds setting table pos now) rests))
+    (holds_none setting state table pos ∙ sym (ap (λ (now : Option MachineOpen). holds setting table pos now) rests))

@@ -19,7 +19,7 @@ use Rattle.hy_event.specs.Sessions.{place_noted, written_in, written}
 use Rattle.hy_event.specs.Turns.{with_ended as ended_here}
 use Rattle.hy_event.specs.Events.{Part, CorePart}
 use Rattle.hy_machine.specs.declared.Setting.{Setting}
-use Rattle.hy_machine.specs.States.{State, Open as Current, Phase as Stage}
+use Rattle.hy_machine.specs.States.{State, Open as MachineOpen, Phase as Stage}
 use Rattle.hy_machine.specs.States as stage
 use Rattle.hy_machine.specs.Turns.{Ends}
 use Rattle.hy_machine.specs.Writes.{written as written_there}
@@ -41,7 +41,7 @@ use Rattle.hy_refinement.proofs.Endings.{ended_shown}
 
 -- until its entry has them it has noted the places that the machine's has written, in that order
 pub wrote_is : (setting : Setting) (state : State) (parts : List Part) (sessions : List SessionData) (number : ℕ) (session : SessionData)
-    (now : Open) (current : Current)
+    (now : Open) (current : MachineOpen)
     → AtOpen setting state parts sessions number session now current → is_stamping current.phase ≡ false
     → written now ≡ written_there current.begun.own
 wrote_is setting state parts sessions number session now current at quiet =

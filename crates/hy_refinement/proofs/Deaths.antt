@@ -10,7 +10,7 @@ use Rattle.hy_journal.specs.declared.CoreData.{CoreData}
 use Rattle.hy_journal.specs.declared.Entry.{Entry as Noted}
 use Rattle.hy_event.specs.declared.SessionData.{SessionData}
 use Rattle.hy_machine.specs.declared.Setting.{Setting}
-use Rattle.hy_machine.specs.States.{State, Open as Current}
+use Rattle.hy_machine.specs.States.{State, Open as MachineOpen}
 use Rattle.hy_machine.specs.Tables.{Entry, Cell, opening_tables}
 use Rattle.hy_machine.specs.Positions.{item_at}
 use Rattle.hy_machine.specs.Sessions.{session_at, snapshot}
@@ -29,7 +29,7 @@ use Rattle.hy_refinement.proofs.Rivals.{all_or_marked}
 -- ---- entries that count
 
 -- all entries before a start count in every chunk
-pub counted_since : (setting : Setting) (state : State) (table chunk : ℕ) → Kept setting state → (number : ℕ) (current : Current)
+pub counted_since : (setting : Setting) (state : State) (table chunk : ℕ) → Kept setting state → (number : ℕ) (current : MachineOpen)
     → (session_at state number).now ≡ Some current
     → (current.begun.prefix ≤ entries_counted setting state table chunk) × (entries_counted setting state table chunk ≤ length state.order)
 counted_since setting state table chunk kept number current is =
@@ -89,7 +89,7 @@ module _ (setting : Setting) (state : State) (core : CoreData) (sessions : List 
 -- it had a first row, or an entry wrote it, exactly where it has a row or was emptied
 pub row_or_emptied : (setting : Setting) (state : State) (core : CoreData) (sessions : List SessionData) (table chunk pos : ℕ) (place : Place)
     → ShownAt setting state core sessions table chunk pos place → HasPosition (opening_tables setting) table pos
-    → (number : ℕ) (current : Current) → (session_at state number).now ≡ Some current
+    → (number : ℕ) (current : MachineOpen) → (session_at state number).now ≡ Some current
     → ((rank : ℕ) (entry : Entry) → current.begun.prefix ≤ rank → slice_get state.order rank ≡ Some entry → has_pair table pos entry ≡ false)
     → (is_some (item_at (snapshot setting state (entries_counted setting state table chunk)) table pos)
     || not (death_of setting state core table chunk pos == 0))

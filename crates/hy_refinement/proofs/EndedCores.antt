@@ -19,7 +19,7 @@ use Rattle.hy_event.specs.Sessions.{written}
 use Rattle.hy_event.specs.Ended.{outcome_of}
 use Rattle.hy_event.specs.Turns.{with_ended as ended_here, done_with as done_here}
 use Rattle.hy_machine.specs.declared.Setting.{Setting}
-use Rattle.hy_machine.specs.States.{State, Session, Open as Current}
+use Rattle.hy_machine.specs.States.{State, Session, Open as MachineOpen}
 use Rattle.hy_machine.specs.Writes.{written as written_there}
 use Rattle.hy_machine.specs.Sessions.{fresh, session_at, program_of, txn_at, view}
 use Rattle.hy_machine.specs.Steps.{with_ended, done_with}
@@ -39,7 +39,7 @@ use Rattle.hy_refinement.proofs.FramesLists.{got_set, got_other}
 use Rattle.hy_refinement.proofs.EndedOpens.{ended, sessions_ended, ended_other, ended_itself, of_open_ended, still_open}
 
 module _ (setting : Setting) (state : State) (core : CoreData) (sessions : List SessionData) (core_shows : CoreShows state core sessions)
-    (sessions_show : SessionsShow setting state core sessions) (number : ℕ) (session : SessionData) (now : Open) (current : Current) (ending : Ending)
+    (sessions_show : SessionsShow setting state core sessions) (number : ℕ) (session : SessionData) (now : Open) (current : MachineOpen) (ending : Ending)
     (is : IsOpen state sessions number session now current) (unmarked : (other : ℕ) → (other ≡ number → ⊥) → state.mark ≢ Some other) where
   -- ---- the core
 
@@ -52,7 +52,7 @@ module _ (setting : Setting) (state : State) (core : CoreData) (sessions : List 
       (slice_get_within state.sessions number (session_at state number) there) in
       let now_one : count_open (session_at state number).now ≡ 1 = ap count_open is.open_there in
       let one_more : length (done_with ending (session_at state number).done (session_at state number).now) ≡ length (session_at state number).done + 1 =
-      ap (λ (o : Option Current). length (done_with ending (session_at state number).done o)) is.open_there
+      ap (λ (o : Option MachineOpen). length (done_with ending (session_at state number).done o)) is.open_there
       ∙ length-append (session_at state number).done (record { begun = current.begun; ending = ending } ∷ []) in
       omega (arith, counts, now_one, one_more)
 
@@ -60,16 +60,16 @@ module _ (setting : Setting) (state : State) (core : CoreData) (sessions : List 
   times_apart =
       let was = core_shows.times_apart in record {
         times = was.times;
-        starts = of_open_ended (λ (other : ℕ) (one : SessionData) (present : Open) (there : Current). present.start < core.next)
+        starts = of_open_ended (λ (other : ℕ) (one : SessionData) (present : Open) (there : MachineOpen). present.start < core.next)
             state sessions number session now current ending is (λ other one present there apart open'. was.starts other one present there open');
-        apart = of_open_ended (λ (other : ℕ) (one : SessionData) (present : Open) (there : Current).
+        apart = of_open_ended (λ (other : ℕ) (one : SessionData) (present : Open) (there : MachineOpen).
             (rank : ℕ) (entry : Entry) → slice_get core.entries rank ≡ Some entry → entry.time ≡ present.start → ⊥)
             state sessions number session now current ending is (λ other one present there apart open'. was.apart other one present there open');
-        one_each = of_open_ended (λ (other : ℕ) (one : SessionData) (present : Open) (there : Current).
+        one_each = of_open_ended (λ (other : ℕ) (one : SessionData) (present : Open) (there : MachineOpen).
             OfOpen (ended state number ending) (sessions_ended sessions number session ending)
-            (λ (third : ℕ) (another : SessionData) (last : Open) (at : Current). present.start ≡ last.start → other ≡ third))
+            (λ (third : ℕ) (another : SessionData) (last : Open) (at : MachineOpen). present.start ≡ last.start → other ≡ third))
             state sessions number session now current ending is (λ other one present there apart open'.
-            of_open_ended (λ (third : ℕ) (another : SessionData) (last : Open) (at : Current). present.start ≡ last.start → other ≡ third)
+            of_open_ended (λ (third : ℕ) (another : SessionData) (last : Open) (at : MachineOpen). present.start ≡ last.start → other ≡ third)
             state sessions number session now current ending is (λ third another last at away open''.
             was.one_each other one present there open' third another last at open''));
         next = let next = was.next in omega (arith, next, same_begun);
@@ -79,7 +79,7 @@ module _ (setting : Setting) (state : State) (core : CoreData) (sessions : List 
   active_is =
       let was = core_shows.active_is in record {
         rises = rise_without now.start core.active was.rises;
-        has = of_open_ended (λ (other : ℕ) (one : SessionData) (present : Open) (there : Current). Contains (without now.start core.active) present.start)
+        has = of_open_ended (λ (other : ℕ) (one : SessionData) (present : Open) (there : MachineOpen). Contains (without now.start core.active) present.start)
             state sessions number session now current ending is (λ other one present there apart open'.
             still_in now.start present.start core.active
             (λ same. apart (core_shows.times_apart.one_each other one present there open' number session now current is same))
@@ -113,7 +113,7 @@ module _ (setting : Setting) (state : State) (core : CoreData) (sessions : List 
     active_is = active_is;
     mark_shows = record {
       mark = refl;
-      stamping = of_open_ended (λ (other : ℕ) (one : SessionData) (present : Open) (there : Current).
+      stamping = of_open_ended (λ (other : ℕ) (one : SessionData) (present : Open) (there : MachineOpen).
           (visited time : ℕ) → present.phase ≡ phase.Stamping visited time → StampingShows (core_left core now.start) present there time)
           state sessions number session now current ending is (λ other one present there apart open' visited time e.
           let was = core_shows.mark_shows.stamping other one present there open' visited time e in record {
@@ -127,7 +127,7 @@ module _ (setting : Setting) (state : State) (core : CoreData) (sessions : List 
 
   -- ---- the other sessions
 
-  other_now : (other : ℕ) → (other ≡ number → ⊥) → (here : Option Open) (there : Option Current) → NowShows setting state core other here there
+  other_now : (other : ℕ) → (other ≡ number → ⊥) → (here : Option Open) (there : Option MachineOpen) → NowShows setting state core other here there
       → NowShows setting (ended state number ending) (core_left core now.start) other here there
   other_now other apart None None shows = tt
   other_now other apart None (Some there) shows = absurd shows
@@ -191,7 +191,7 @@ module _ (setting : Setting) (state : State) (core : CoreData) (sessions : List 
         ++ txn_outcome_of setting number n (record { begun = current.begun; ending = ending }) ∷ [])
         (let e : length (session_at state number).done ≡ 0 + length (session_at state number).done = omega arith in e)
         ∙ (sym (one_more_outcome setting number 0 (session_at state number).done (record { begun = current.begun; ending = ending }))
-        ∙ ap (λ (o : Option Current). outcomes_from setting number 0 (done_with ending (session_at state number).done o)) (sym is.open_there)))))
+        ∙ ap (λ (o : Option MachineOpen). outcomes_from setting number 0 (done_with ending (session_at state number).done o)) (sym is.open_there)))))
 
     itself_shows : SessionShows setting (ended state number ending) (core_left core now.start) number (ended_here ending session)
     itself_shows = record {

@@ -9,7 +9,7 @@ use Rattle.hy_render.specs.declared.Ending.{Ending}
 use Rattle.hy_event.specs.declared.SessionData.{SessionData}
 use Rattle.hy_event.specs.declared.Open.{Open}
 use Rattle.hy_event.specs.Turns.{with_ended as ended_here}
-use Rattle.hy_machine.specs.States.{State, Session, Open as Current}
+use Rattle.hy_machine.specs.States.{State, Session, Open as MachineOpen}
 use Rattle.hy_machine.specs.Sessions.{fresh, session_at}
 use Rattle.hy_machine.specs.Steps.{with_session, with_ended, without_mark}
 use Rattle.hy_refinement.specs.Transactions.{IsOpen, OfOpen}
@@ -28,17 +28,17 @@ pub ended_other : (state : State) (number other : ℕ) (ending : Ending) → (ot
     → session_at (ended state number ending) other ≡ session_at state other
 ended_other state number other ending apart = get_or-set_other state.sessions number other (with_ended ending (session_at state number)) fresh apart
 
-pub ended_itself : (state : State) (number : ℕ) (current : Current) (ending : Ending) → (session_at state number).now ≡ Some current
+pub ended_itself : (state : State) (number : ℕ) (current : MachineOpen) (ending : Ending) → (session_at state number).now ≡ Some current
     → session_at (ended state number ending) number ≡ with_ended ending (session_at state number)
 ended_itself state number current ending is =
     get_or-set_same state.sessions number (with_ended ending (session_at state number)) fresh
     (slice_get_within state.sessions number (session_at state number) (is_there state number current is))
 
 -- what holds of the other open transactions holds of every open one then
-pub of_open_ended : (holds : ℕ → SessionData → Open → Current → Type 0) (state : State) (sessions : List SessionData) (number : ℕ) (session : SessionData)
-    (now : Open) (current : Current) (ending : Ending)
+pub of_open_ended : (holds : ℕ → SessionData → Open → MachineOpen → Type 0) (state : State) (sessions : List SessionData) (number : ℕ) (session : SessionData)
+    (now : Open) (current : MachineOpen) (ending : Ending)
     → IsOpen state sessions number session now current
-    → ((other : ℕ) (one : SessionData) (present : Open) (there : Current) → (other ≡ number → ⊥) → IsOpen state sessions other one present there
+    → ((other : ℕ) (one : SessionData) (present : Open) (there : MachineOpen) → (other ≡ number → ⊥) → IsOpen state sessions other one present there
     → holds other one present there)
     → OfOpen (ended state number ending) (sessions_ended sessions number session ending) holds
 of_open_ended holds state sessions number session now current ending is others other one present there open' =
@@ -57,7 +57,7 @@ of_open_ended holds state sessions number session now current ending is others o
 
 -- the others are open still
 pub still_open : (state : State) (sessions : List SessionData) (number : ℕ) (session : SessionData) (ending : Ending)
-    (other : ℕ) (one : SessionData) (present : Open) (there : Current) → (other ≡ number → ⊥) → IsOpen state sessions other one present there
+    (other : ℕ) (one : SessionData) (present : Open) (there : MachineOpen) → (other ≡ number → ⊥) → IsOpen state sessions other one present there
     → IsOpen (ended state number ending) (sessions_ended sessions number session ending) other one present there
 still_open state sessions number session ending other one present there apart open' = record {
   found = got_other sessions number other (ended_here ending session) apart ∙ open'.found;

@@ -17,7 +17,7 @@ use Rattle.hy_event.specs.declared.Open.{Open}
 use Rattle.hy_event.specs.Sessions.{txn_at, label_of, written}
 use Rattle.hy_event.specs.Ended.{inserts_into, placed_in, statements_in, outcome_of}
 use Rattle.hy_machine.specs.declared.Setting.{Setting}
-use Rattle.hy_machine.specs.States.{Open as Current, Finished}
+use Rattle.hy_machine.specs.States.{Open as MachineOpen, Finished}
 use Rattle.hy_machine.specs.Writes.{written as written_there}
 use Rattle.hy_machine.specs.Sessions.{program_of}
 use Rattle.hy_machine.specs.Outcomes.{inserts_into as inserts_there, placed_by, placed_in as placed_there, placed_from, statements_in as statements_there}
@@ -83,7 +83,7 @@ same_outcome label start replies ending wrote placed label' start' replies' wrot
     λ i. record { label = l i; start = s i; replies = r i; ending = ending; wrote = w i; placed = p i }
 
 -- what a transaction comes to, where its parts are the machine's
-pub outcome_is : (setting : Setting) (number before : ℕ) (session : SessionData) (now : Open) (current : Current) (ending : Ending)
+pub outcome_is : (setting : Setting) (number before : ℕ) (session : SessionData) (now : Open) (current : MachineOpen) (ending : Ending)
     → label_of session ≡ record { session = number; txn = suc before } → now.prefix ≡ current.begun.prefix → now.replies ≡ current.begun.replies
     → now.took ≡ current.begun.took → written now ≡ written_there current.begun.own
     → txn_at session ≡ slice_get (program_of setting number) before → length setting.first ≡ length session.shapes

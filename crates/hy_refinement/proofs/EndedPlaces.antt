@@ -20,7 +20,7 @@ use Rattle.hy_event.specs.declared.SessionData.{SessionData}
 use Rattle.hy_event.specs.declared.Open.{Open}
 use Rattle.hy_event.specs.Sessions.{label_of}
 use Rattle.hy_machine.specs.declared.Setting.{Setting}
-use Rattle.hy_machine.specs.States.{State, Session, Open as Current}
+use Rattle.hy_machine.specs.States.{State, Session, Open as MachineOpen}
 use Rattle.hy_machine.specs.Tables.{Entry, opening_tables}
 use Rattle.hy_machine.specs.Positions.{item_at}
 use Rattle.hy_machine.specs.Sessions.{session_at, snapshot}
@@ -57,7 +57,7 @@ same_start one other same version (undo ∷ chain) a b =
 -- a transaction leaves nothing behind at a position: the entries that begin to count did not write it, its identifier
 -- is not on top, and where it holds the position an entry wrote it
 pub record LeavesNothing (setting : Setting) (state : State) (table chunk pos : ℕ) (place : Place) (number : ℕ) (session : SessionData)
-    (current : Current) : Type 0 where
+    (current : MachineOpen) : Type 0 where
   pub quiet : (rank : ℕ) (entry : Entry) → entries_counted setting state table chunk ≤ rank → slice_get state.order rank ≡ Some entry
       → has_pair table pos entry ≡ false
   pub not_own : HasNotStamped setting state number table chunk → is_own (id_of (label_of session)) (newest place.chain) ≡ false
@@ -65,7 +65,7 @@ pub record LeavesNothing (setting : Setting) (state : State) (table chunk pos : 
 
 module _ (setting : Setting) (state : State) (core : CoreData) (sessions : List SessionData) (table chunk pos : ℕ) (place : Place)
     (shown : ShownAt setting state core sessions table chunk pos place)
-    (number : ℕ) (session : SessionData) (now : Open) (current : Current) (ending : Ending) (is : IsOpen state sessions number session now current)
+    (number : ℕ) (session : SessionData) (now : Open) (current : MachineOpen) (ending : Ending) (is : IsOpen state sessions number session now current)
     (unmarked : (other : ℕ) → (other ≡ number → ⊥) → state.mark ≢ Some other)
     (leaves : LeavesNothing setting state table chunk pos place number session current) where
   fewer : entries_counted setting state table chunk ≤ length state.order

@@ -12,7 +12,7 @@ use Rattle.hy_event.specs.declared.Open.{Open}
 use Rattle.hy_event.specs.Sessions.{written}
 use Rattle.hy_event.specs.Events.{Part, CorePart}
 use Rattle.hy_machine.specs.declared.Setting.{Setting}
-use Rattle.hy_machine.specs.States.{State, Open as Current}
+use Rattle.hy_machine.specs.States.{State, Open as MachineOpen}
 use Rattle.hy_machine.specs.Writes.{written as written_there}
 use Rattle.hy_refinement.specs.Parts.{IsChunkPart, PartsAre}
 use Rattle.hy_refinement.specs.Rivals.{ShownAt}
@@ -58,7 +58,7 @@ module _ (setting : Setting) (parts : List Part) (core new : CoreData) where
 -- ---- all of it
 
 pub ended_shown : (setting : Setting) (state : State) (parts : List Part) (sessions : List SessionData) (number : ℕ) (session : SessionData)
-    (now : Open) (current : Current) (ending : Ending) (at : AtOpen setting state parts sessions number session now current)
+    (now : Open) (current : MachineOpen) (ending : Ending) (at : AtOpen setting state parts sessions number session now current)
     → ((other : ℕ) → (other ≡ number → ⊥) → state.mark ≢ Some other) → written now ≡ written_there current.begun.own
     → ((table chunk index : ℕ) (part : ChunkData) (place : Place) → IsChunkPart setting parts table chunk part → slice_get part.places index ≡ Some place
     → ShownAt setting state at.shown.shows.core sessions table chunk (chunk * setting.rows + index) place

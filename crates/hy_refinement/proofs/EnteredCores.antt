@@ -13,7 +13,7 @@ use Rattle.hy_event.specs.declared.Open.{Open}
 use Rattle.hy_event.specs.declared.Phase.TheVariants as phase
 use Rattle.hy_event.specs.Sessions.{label_of as label_here, written}
 use Rattle.hy_machine.specs.declared.Setting.{Setting}
-use Rattle.hy_machine.specs.States.{State, Finished, Open as Current}
+use Rattle.hy_machine.specs.States.{State, Finished, Open as MachineOpen}
 use Rattle.hy_machine.specs.Tables.{Entry}
 use Rattle.hy_machine.specs.Writes.{written as written_there}
 use Rattle.hy_machine.specs.Sessions.{snapshot, entry_of}
@@ -34,7 +34,7 @@ use Rattle.hy_refinement.proofs.EnteredStates.{entered_here, entered_there, with
 
 module _ (setting : Setting) (state : State) (core : CoreData) (sessions : List SessionData) (kept : Kept setting state)
     (core_shows : CoreShows state core sessions) (sessions_show : SessionsShow setting state core sessions) (number : ℕ) (session : SessionData) (now : Open)
-    (current : Current) (is : IsOpen state sessions number session now current) (unmarked : state.mark ≡ None)
+    (current : MachineOpen) (is : IsOpen state sessions number session now current) (unmarked : state.mark ≡ None)
     (wrote_is : written now ≡ written_there current.begun.own) where
   abbrev time : ℕ
   time = core.next
@@ -42,7 +42,7 @@ module _ (setting : Setting) (state : State) (core : CoreData) (sessions : List 
   abbrev then : Open
   then = entered_here time now
 
-  abbrev later : Current
+  abbrev later : MachineOpen
   later = entered_there current
 
   abbrev entry : Entry
@@ -197,7 +197,7 @@ module _ (setting : Setting) (state : State) (core : CoreData) (sessions : List 
       time_of : {a b c d : ℕ} → phase.Stamping a b ≡ phase.Stamping c d → b ≡ d
       time_of f = cc
 
-  stamping_by : (other : ℕ) (one : SessionData) (present : Open) (there : Current)
+  stamping_by : (other : ℕ) (one : SessionData) (present : Open) (there : MachineOpen)
       → WasOpen state sessions number session then later other one present there
       → (visited at : ℕ) → present.phase ≡ phase.Stamping visited at → StampingShows core_then present there at
   stamping_by other one present there (another apart open') visited at e =
@@ -206,7 +206,7 @@ module _ (setting : Setting) (state : State) (core : CoreData) (sessions : List 
       (ap is_stamping (stage_of visited at present.phase there.phase e its.open_shows.phase))))
   stamping_by other one present there (itself same one_is present_is there_is) visited at e =
       subst (λ (w : Open). StampingShows core_then w there at) (sym present_is)
-      (subst (λ (c : Current). StampingShows core_then then c at) (sym there_is)
+      (subst (λ (c : MachineOpen). StampingShows core_then then c at) (sym there_is)
       (stamping_now visited at (ap (λ (w : Open). w.phase) (sym present_is) ∙ e)))
 
   mark_shows : MarkShows after core_then news

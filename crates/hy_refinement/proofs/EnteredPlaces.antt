@@ -23,7 +23,7 @@ use Rattle.hy_event.specs.declared.SessionData.{SessionData}
 use Rattle.hy_event.specs.declared.Open.{Open}
 use Rattle.hy_event.specs.Sessions.{label_of as label_here, viewer_of}
 use Rattle.hy_machine.specs.declared.Setting.{Setting}
-use Rattle.hy_machine.specs.States.{State, Session, Open as Current}
+use Rattle.hy_machine.specs.States.{State, Session, Open as MachineOpen}
 use Rattle.hy_machine.specs.Tables.{Entry, Tables, opening_tables, chunk_of, over}
 use Rattle.hy_machine.specs.Positions.{item_at, last_some}
 use Rattle.hy_machine.specs.Writes.{written_chunks, is_among}
@@ -77,12 +77,12 @@ newest_same time (stamp ∷ chain) apart =
 
 module _ (setting : Setting) (state : State) (core : CoreData) (sessions : List SessionData) (table chunk pos : ℕ) (place : Place)
     (shown : ShownAt setting state core sessions table chunk pos place)
-    (number : ℕ) (session : SessionData) (now : Open) (current : Current) (is : IsOpen state sessions number session now current)
+    (number : ℕ) (session : SessionData) (now : Open) (current : MachineOpen) (is : IsOpen state sessions number session now current)
     (unmarked : state.mark ≡ None) (none_undone : undone current.phase ≡ 0) where
   abbrev then : Open
   then = entered_here core.next now
 
-  abbrev later : Current
+  abbrev later : MachineOpen
   later = entered_there current
 
   abbrev entry : Entry
@@ -109,13 +109,13 @@ module _ (setting : Setting) (state : State) (core : CoreData) (sessions : List 
   unstamped_by : (other : ℕ) → HasNotStamped setting state other table chunk
   unstamped_by other = inl (λ e. absurd (let f : None ≡ Some other = sym unmarked ∙ e in cc))
 
-  was : (other : ℕ) (one : SessionData) (present : Open) (there : Current) → IsOpen after news other one present there
+  was : (other : ℕ) (one : SessionData) (present : Open) (there : MachineOpen) → IsOpen after news other one present there
       → WasOpen state sessions number session then later other one present there
   was other one present there open' =
       was_open state sessions number session now then current later is other one present there
       (open_gone setting state news number current other one present there open')
 
-  open_then : (other : ℕ) (one : SessionData) (present : Open) (there : Current) → IsOpen state sessions other one present there
+  open_then : (other : ℕ) (one : SessionData) (present : Open) (there : MachineOpen) → IsOpen state sessions other one present there
       → HasOpen after news other one present.start
   open_then other one present there open' =
       let had = open_after state sessions number session now then current later is refl other one present there open' in record {
@@ -154,7 +154,7 @@ module _ (setting : Setting) (state : State) (core : CoreData) (sessions : List 
       ap (λ (n : ℕ). is_some (item_at current.begun.own table pos)
       && is_among (drop n (written_chunks setting current.begun.own)) table (chunk_of setting pos)) (sym none_undone)
 
-  cell_same : (there : Current) → there.begun.prefix ≤ length state.order → cell_held setting after table pos there ≡ cell_held setting state table pos there
+  cell_same : (there : MachineOpen) → there.begun.prefix ≤ length state.order → cell_held setting after table pos there ≡ cell_held setting state table pos there
   cell_same there within =
       let same = snapshot_before setting state number current there.begun.prefix within in
       ap (λ (tables : Tables). cond (holds setting table pos (Some there)) (item_at (over tables there.begun.own) table pos) (item_at tables table pos)) same
@@ -164,7 +164,7 @@ module _ (setting : Setting) (state : State) (core : CoreData) (sessions : List 
       ap (λ (b : Bool). cond b (item_at (view setting state current.begun) table pos) (item_at (snapshot setting state current.begun.prefix) table pos))
       holds_same
 
-  prefix_within : (other : ℕ) (there : Current) → (session_at state other).now ≡ Some there → there.begun.prefix ≤ length state.order
+  prefix_within : (other : ℕ) (there : MachineOpen) → (session_at state other).now ≡ Some there → there.begun.prefix ≤ length state.order
   prefix_within other there e = (shown.kept.starts.opens other there e).1
 
   -- ---- stamps
@@ -226,7 +226,7 @@ module _ (setting : Setting) (state : State) (core : CoreData) (sessions : List 
       }
 
   last_on_top : (rank : ℕ) (entered : Entry) (noted : Noted) → IsLastWriter setting after table chunk pos rank entered
-      → slice_get core_then.entries rank ≡ Some noted → (other : ℕ) (one : SessionData) (present : Open) (there : Current)
+      → slice_get core_then.entries rank ≡ Some noted → (other : ℕ) (one : SessionData) (present : Open) (there : MachineOpen)
       → WasOpen state sessions number session then later other one present there → present.start < noted.time
       → newest_below core.next (stamps place) ≡ Some (record { owner = entered.label; mark = noted.time })
   last_on_top rank entered noted last has other one present there (another apart open') above =
@@ -243,7 +243,7 @@ module _ (setting : Setting) (state : State) (core : CoreData) (sessions : List 
 
   -- ---- heads and views
 
-  own_head : (other : ℕ) (one : SessionData) (present : Open) (there : Current) → WasOpen state sessions number session then later other one present there
+  own_head : (other : ℕ) (one : SessionData) (present : Open) (there : MachineOpen) → WasOpen state sessions number session then later other one present there
       → OwnHead setting table pos place one there
   own_head other one present there (another apart open') = shows.own_heads other one present there open' (unstamped_by other)
   own_head other one present there (itself same one_is present_is there_is) =
@@ -251,11 +251,11 @@ module _ (setting : Setting) (state : State) (core : CoreData) (sessions : List 
       let label : label_here one ≡ label_here session = ap label_here one_is in record {
         holds_it =
             ap (λ (l : Label). is_own (id_of l) (newest place.chain)) label
-            ∙ (head.holds_it ∙ (sym holds_same ∙ ap (λ (c : Current). holds setting table pos (Some c)) (sym there_is)));
+            ∙ (head.holds_it ∙ (sym holds_same ∙ ap (λ (c : MachineOpen). holds setting table pos (Some c)) (sym there_is)));
         owner = λ stamp e mark. head.owner stamp e (mark ∙ ap id_of label) ∙ sym label;
       }
 
-  viewer_sees : (other : ℕ) (one : SessionData) (present : Open) (there : Current) → WasOpen state sessions number session then later other one present there
+  viewer_sees : (other : ℕ) (one : SessionData) (present : Open) (there : MachineOpen) → WasOpen state sessions number session then later other one present there
       → sees (viewer_of one present) place ≡ cell_held setting after table pos there
   viewer_sees other one present there (another apart open') =
       shows.viewer_sees other one present there open' (unstamped_by other) ∙ sym (cell_same there (prefix_within other there open'.open_there))
@@ -264,7 +264,7 @@ module _ (setting : Setting) (state : State) (core : CoreData) (sessions : List 
       ∙ (ap (λ (w : Open). sees (viewer_of session w) place) present_is
       ∙ (shows.viewer_sees number session now current is (unstamped_by number)
       ∙ (sym cell_later
-      ∙ (sym (cell_same later (prefix_within number current is.open_there)) ∙ ap (λ (c : Current). cell_held setting after table pos c) (sym there_is)))))
+      ∙ (sym (cell_same later (prefix_within number current is.open_there)) ∙ ap (λ (c : MachineOpen). cell_held setting after table pos c) (sym there_is)))))
 
   newcomer_sees : (viewer : Viewer) → IsNewcomer after core_then news viewer
       → sees viewer place ≡ item_at (snapshot setting after (entries_counted setting after table chunk)) table pos

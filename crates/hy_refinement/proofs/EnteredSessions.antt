@@ -13,7 +13,7 @@ use Rattle.hy_event.specs.declared.SessionData.{SessionData}
 use Rattle.hy_event.specs.declared.Open.{Open}
 use Rattle.hy_event.specs.Sessions.{label_of as label_here}
 use Rattle.hy_machine.specs.declared.Setting.{Setting}
-use Rattle.hy_machine.specs.States.{State, Session, Finished, Open as Current}
+use Rattle.hy_machine.specs.States.{State, Session, Finished, Open as MachineOpen}
 use Rattle.hy_machine.specs.Positions.{item_at}
 use Rattle.hy_machine.specs.Tables.{Tables, over}
 use Rattle.hy_machine.specs.Sessions.{session_at, txn_at, view, pair_of}
@@ -48,14 +48,14 @@ counts_more entries entry count bound counts within late = record {
 
 module _ (setting : Setting) (state : State) (core : CoreData) (sessions : List SessionData) (kept : Kept setting state)
     (core_shows : CoreShows state core sessions) (sessions_show : SessionsShow setting state core sessions) (number : ℕ) (session : SessionData) (now : Open)
-    (current : Current) (is : IsOpen state sessions number session now current) (unmarked : state.mark ≡ None) where
+    (current : MachineOpen) (is : IsOpen state sessions number session now current) (unmarked : state.mark ≡ None) where
   abbrev time : ℕ
   time = core.next
 
   abbrev then : Open
   then = entered_here time now
 
-  abbrev later : Current
+  abbrev later : MachineOpen
   later = entered_there current
 
   abbrev note : Noted
@@ -76,7 +76,7 @@ module _ (setting : Setting) (state : State) (core : CoreData) (sessions : List 
   mine : OpenShows setting state core number now current
   mine = open_shown setting state core sessions number session now current sessions_show is
 
-  counts_same : (other : ℕ) (one : SessionData) (present : Open) (there : Current) → IsOpen state sessions other one present there
+  counts_same : (other : ℕ) (one : SessionData) (present : Open) (there : MachineOpen) → IsOpen state sessions other one present there
       → OpenShows setting state core other present there
       → CountsBelow core_then.entries present.prefix present.start × CountsBelow core_then.entries there.begun.low (watermark_of present.cover)
   counts_same other one present there open' its =
@@ -98,7 +98,7 @@ module _ (setting : Setting) (state : State) (core : CoreData) (sessions : List 
     held = record { past = let past = holds.held.past in omega (arith, past); safe = holds.held.safe };
   }
 
-  other_open : (other : ℕ) (one : SessionData) (present : Open) (there : Current) → (other ≡ number → ⊥) → IsOpen state sessions other one present there
+  other_open : (other : ℕ) (one : SessionData) (present : Open) (there : MachineOpen) → (other ≡ number → ⊥) → IsOpen state sessions other one present there
       → OpenShows setting after core_then other present there
   other_open other one present there apart open' =
       let its = open_shown setting state core sessions other one present there sessions_show open' in
@@ -140,7 +140,7 @@ module _ (setting : Setting) (state : State) (core : CoreData) (sessions : List 
       }
 
   -- whether a session has an open transaction
-  now_by : (other : ℕ) (one : SessionData) → slice_get sessions other ≡ Some one → (other ≡ number → ⊥) → (here : Option Open) (there : Option Current)
+  now_by : (other : ℕ) (one : SessionData) → slice_get sessions other ≡ Some one → (other ≡ number → ⊥) → (here : Option Open) (there : Option MachineOpen)
       → one.now ≡ here → (session_at state other).now ≡ there → NowShows setting state core other here there
       → NowShows setting after core_then other here there
   now_by other one found apart None None here_is there_is shows = tt

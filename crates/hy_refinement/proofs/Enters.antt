@@ -14,7 +14,7 @@ use Rattle.hy_event.specs.Sessions.{label_of as label_here, written}
 use Rattle.hy_event.specs.Turns.{after_entry}
 use Rattle.hy_event.specs.Events.{Part, CorePart}
 use Rattle.hy_machine.specs.declared.Setting.{Setting}
-use Rattle.hy_machine.specs.States.{State, Open as Current, Phase as Stage}
+use Rattle.hy_machine.specs.States.{State, Open as MachineOpen, Phase as Stage}
 use Rattle.hy_machine.specs.States as stage
 use Rattle.hy_machine.specs.Turns.{Enters}
 use Rattle.hy_machine.specs.Writes.{written as written_there}
@@ -47,7 +47,7 @@ at_work visited count here there e shows = by_stage there (subst (λ (p : Phase)
     by_stage (stage.Undoing other cause) h = absurd h
 
 module _ (setting : Setting) (state : State) (parts : List Part) (sessions : List SessionData) (number : ℕ) (session : SessionData)
-    (now : Open) (current : Current) (at : AtOpen setting state parts sessions number session now current) (free : IsFreeToGo state number)
+    (now : Open) (current : MachineOpen) (at : AtOpen setting state parts sessions number session now current) (free : IsFreeToGo state number)
     (visited count : ℕ) (phase_is : now.phase ≡ phase.Working visited count) where
   abbrev core : CoreData
   core = at.shown.shows.core
@@ -89,7 +89,7 @@ module _ (setting : Setting) (state : State) (parts : List Part) (sessions : Lis
   -- the machine's state after the turn
   state_is : with_entry_of setting state number current ≡ (after_turn setting state number Enters).0
   state_is =
-      let by : Option Current → State = λ (o : Option Current). record {
+      let by : Option MachineOpen → State = λ (o : Option MachineOpen). record {
         order = order_with setting state number o;
         mark = Some number;
         sessions = slice_set state.sessions number (record { done = (session_at state number).done; now = option_map (after_visit [] (stage.Stamping 0)) o });

@@ -17,7 +17,7 @@ use Rattle.hy_event.specs.declared.Phase.TheVariants as phase
 use Rattle.hy_event.specs.Sessions.{viewer_of}
 use Rattle.hy_event.specs.Events.{Part}
 use Rattle.hy_machine.specs.declared.Setting.{Setting}
-use Rattle.hy_machine.specs.States.{State, Begun, Open as Current}
+use Rattle.hy_machine.specs.States.{State, Begun, Open as MachineOpen}
 use Rattle.hy_machine.specs.Tables.{Entry, Pair, Cell, Tables, capacity, laid_out, after_entry, history, opening_tables}
 use Rattle.hy_machine.specs.Sessions.{snapshot, view}
 use Rattle.hy_refinement.specs.Taken.{AtChunk}
@@ -107,7 +107,7 @@ read_more setting chunk cells test f =
 
 -- what an open transaction that works sees in a chunk are the cells of its view
 pub seen_chunk : (setting : Setting) (state : State) (parts : List Part) (sessions : List SessionData) (number : ℕ) (session : SessionData)
-    (now : Open) (current : Current) (table chunk : ℕ) (old : ChunkData)
+    (now : Open) (current : MachineOpen) (table chunk : ℕ) (old : ChunkData)
     (at : AtChunk setting state parts sessions number session now current table chunk old)
     (visited count : ℕ) (phase_is : now.phase ≡ phase.Working visited count)
     → rows_seen (viewer_of session now) old.places ≡ chunk_cells setting chunk (get_or (view setting state current.begun) table [])

@@ -23,7 +23,7 @@ use Rattle.hy_event.specs.Turns.{Step, after_turn, answer_turn, goes_on, after_v
 use Rattle.hy_event.specs.declared.Phase.TheVariants as phase
 use Rattle.hy_event.specs.Inserting.{sees_key, CheckVisit}
 use Rattle.hy_machine.specs.declared.Setting.{Setting}
-use Rattle.hy_machine.specs.States.{State, Open as Current}
+use Rattle.hy_machine.specs.States.{State, Open as MachineOpen}
 use Rattle.hy_machine.specs.Positions.{item_at}
 use Rattle.hy_machine.specs.Tables.{positions_in}
 use Rattle.hy_machine.specs.Sessions.{session_at, txn_at, view}
@@ -74,7 +74,7 @@ out_now session now statement gathered reply e =
 -- ---- the visit
 
 module _ (own : OwnStepsShow) (setting : Setting) (state : State) (parts : List Part) (sessions : List SessionData) (number : ℕ) (session : SessionData)
-    (now : Open) (current : Current) (table chunk : ℕ) (old : ChunkData) (visited count : ℕ) (row : List Value) (key : ℕ)
+    (now : Open) (current : MachineOpen) (table chunk : ℕ) (old : ChunkData) (visited count : ℕ) (row : List Value) (key : ℕ)
     (progress : Progress) (after : SessionData) (new : ChunkData)
     (at : AtChunk setting state parts sessions number session now current table chunk old)
     (stands : AtStatement setting state number now visited count (Some (Insert table row))) (chunk_is : chunk ≡ visited)

@@ -10,7 +10,7 @@ use Rattle.hy_event.specs.declared.SessionData.{SessionData}
 use Rattle.hy_event.specs.declared.Open.{Open}
 use Rattle.hy_event.specs.declared.Phase.TheVariants as phase
 use Rattle.hy_machine.specs.declared.Setting.{Setting}
-use Rattle.hy_machine.specs.States.{State, Session, Finished, Open as Current}
+use Rattle.hy_machine.specs.States.{State, Session, Finished, Open as MachineOpen}
 use Rattle.hy_machine.specs.Sessions.{session_at, label_of}
 use Rattle.hy_machine.specs.Begun.{count_open, count_begun}
 use Rattle.hy_refinement.specs.Transactions.{IsOpen, OfOpen}
@@ -21,7 +21,7 @@ use Rattle.hy_refinement.proofs.FramesLists.{sum_set}
 use Rattle.hy_refinement.proofs.FramesOpened.{done_stays, opens_here, opens_other, open_once, each_open}
 
 module _ (state : State) (core : CoreData) (sessions : List SessionData) (number : ℕ) (session : SessionData)
-    (now then : Open) (current later : Current)
+    (now then : Open) (current later : MachineOpen)
     (is : IsOpen state sessions number session now current) (keeps : KeepsStart now then current later) (shows : CoreShows state core sessions) where
   abbrev after : State
   after = gone_on state number later
@@ -35,7 +35,7 @@ module _ (state : State) (core : CoreData) (sessions : List SessionData) (number
   begun_same =
       sum_set (λ (one : Session). length one.done + count_open one.now) state.sessions number (session_at state number)
       (record { done = (session_at state number).done; now = Some later }) (is_there state number current is.open_there)
-      (ap (λ (there : Option Current). length (session_at state number).done + count_open there) (sym is.open_there))
+      (ap (λ (there : Option MachineOpen). length (session_at state number).done + count_open there) (sym is.open_there))
 
   starts : OfOpen after sessions_after (λ other another its present. its.start < core.next)
   starts = each_open state sessions number session now then current later is (λ other another its present. its.start < core.next)

@@ -30,7 +30,7 @@ use Rattle.hy_event.specs.Sessions.{viewer_of}
 use Rattle.hy_event.specs.Gathering.{ReadPlan, group_part, group_read_plan}
 use Rattle.hy_event.specs.Reading.{ReadVisit, PlannedVisit, Reads, gathered_with}
 use Rattle.hy_machine.specs.declared.Setting.{Setting}
-use Rattle.hy_machine.specs.States.{State, Open as Current}
+use Rattle.hy_machine.specs.States.{State, Open as MachineOpen}
 use Rattle.hy_machine.specs.Sessions.{view}
 use Rattle.hy_machine.specs.Turns.{rows_seen as rows_there, read_turn as read_turn_there}
 use Rattle.hy_refinement.specs.Sessions.{SessionIs, GatheredBy, gathered_after}
@@ -60,7 +60,7 @@ no_lookups part none (suc turn) other lookup e f = absurd cc
 
 module _ (own : OwnStepsShow) (told : GatheredGroups)
     (setting : Setting) (state : State) (parts : List Part) (sessions : List SessionData) (number : ℕ) (session : SessionData)
-    (now : Open) (current : Current) (table chunk : ℕ) (old : ChunkData) (visited count : ℕ) (pred : Condition) (key : ℕ) (aggregate : Aggregate)
+    (now : Open) (current : MachineOpen) (table chunk : ℕ) (old : ChunkData) (visited count : ℕ) (pred : Condition) (key : ℕ) (aggregate : Aggregate)
     (progress : Progress) (after : SessionData) (new : ChunkData)
     (at : AtChunk setting state parts sessions number session now current table chunk old)
     (stands : AtStatement setting state number now visited count (Some (Group table pred key aggregate))) (chunk_is : chunk ≡ visited)

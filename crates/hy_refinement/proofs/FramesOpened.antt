@@ -8,7 +8,7 @@ use Rattle.std.proofs.lemmas.List.{get_or-set_same, get_or-set_other}
 use Rattle.hy_event.specs.declared.SessionData.{SessionData}
 use Rattle.hy_event.specs.declared.Open.{Open}
 use Rattle.hy_machine.specs.declared.Setting.{Setting}
-use Rattle.hy_machine.specs.States.{State, Session, Open as Current}
+use Rattle.hy_machine.specs.States.{State, Session, Open as MachineOpen}
 use Rattle.hy_machine.specs.Sessions.{fresh, session_at}
 use Rattle.hy_refinement.specs.Stamped.{HasNotStamped, is_unstamped, entries_counted}
 use Rattle.hy_refinement.specs.Transactions.{IsOpen, OfOpen}
@@ -18,19 +18,19 @@ use Rattle.hy_refinement.proofs.FramesLists.{got_set, got_other}
 
 -- ---- the machine's sessions
 
-pub goes_there : (state : State) (number : ℕ) (current later : Current) → (session_at state number).now ≡ Some current
+pub goes_there : (state : State) (number : ℕ) (current later : MachineOpen) → (session_at state number).now ≡ Some current
     → session_at (gone_on state number later) number ≡ record { done = (session_at state number).done; now = Some later }
 goes_there state number current later e =
     get_or-set_same state.sessions number (record { done = (session_at state number).done; now = Some later }) fresh
     (slice_get_within state.sessions number (session_at state number) (is_there state number current e))
 
-pub stays_there : (state : State) (number other : ℕ) (later : Current) → other ≢ number
+pub stays_there : (state : State) (number other : ℕ) (later : MachineOpen) → other ≢ number
     → session_at (gone_on state number later) other ≡ session_at state other
 stays_there state number other later apart =
     get_or-set_other state.sessions number other (record { done = (session_at state number).done; now = Some later }) fresh apart
 
 -- a session's ended transactions stay
-pub done_stays : (state : State) (number other : ℕ) (current later : Current) → (session_at state number).now ≡ Some current
+pub done_stays : (state : State) (number other : ℕ) (current later : MachineOpen) → (session_at state number).now ≡ Some current
     → (session_at (gone_on state number later) other).done ≡ (session_at state other).done
 done_stays state number other current later e = elim (cases_eq other number) [
   | inl same ↦
@@ -43,16 +43,16 @@ done_stays state number other current later e = elim (cases_eq other number) [
 -- ---- open transactions
 
 -- an open transaction is the one that went on, or another one, which stays
-pub data WasOpen (state : State) (sessions : List SessionData) (number : ℕ) (session : SessionData) (then : Open) (later : Current)
-    (other : ℕ) (another : SessionData) (its : Open) (present : Current) : Type 0 where
+pub data WasOpen (state : State) (sessions : List SessionData) (number : ℕ) (session : SessionData) (then : Open) (later : MachineOpen)
+    (other : ℕ) (another : SessionData) (its : Open) (present : MachineOpen) : Type 0 where
   same : other ≡ number → another ≡ went_on session then → its ≡ then → present ≡ later
       → WasOpen state sessions number session then later other another its present
   stays : other ≢ number → IsOpen state sessions other another its present
       → WasOpen state sessions number session then later other another its present
 
-pub was_open : (state : State) (sessions : List SessionData) (number : ℕ) (session : SessionData) (now then : Open) (current later : Current)
+pub was_open : (state : State) (sessions : List SessionData) (number : ℕ) (session : SessionData) (now then : Open) (current later : MachineOpen)
     → IsOpen state sessions number session now current
-    → (other : ℕ) (another : SessionData) (its : Open) (present : Current)
+    → (other : ℕ) (another : SessionData) (its : Open) (present : MachineOpen)
     → IsOpen (gone_on state number later) (sessions_on sessions number session then) other another its present
     → WasOpen state sessions number session then later other another its present
 was_open state sessions number session now then current later is other another its present open' = elim (cases_eq other number) [
@@ -78,7 +78,7 @@ was_open state sessions number session now then current later is other another i
         (sym (same_Some later present there))
 
 -- it is open after it went on
-pub opens_here : (state : State) (sessions : List SessionData) (number : ℕ) (session : SessionData) (now then : Open) (current later : Current)
+pub opens_here : (state : State) (sessions : List SessionData) (number : ℕ) (session : SessionData) (now then : Open) (current later : MachineOpen)
     → IsOpen state sessions number session now current
     → IsOpen (gone_on state number later) (sessions_on sessions number session then) number (went_on session then) then later
 opens_here state sessions number session now then current later is = record {
@@ -88,8 +88,8 @@ opens_here state sessions number session now then current later is = record {
 }
 
 -- others are open still
-pub opens_other : (state : State) (sessions : List SessionData) (number : ℕ) (session : SessionData) (then : Open) (later : Current)
-    → (other : ℕ) (another : SessionData) (its : Open) (present : Current) → other ≢ number
+pub opens_other : (state : State) (sessions : List SessionData) (number : ℕ) (session : SessionData) (then : Open) (later : MachineOpen)
+    → (other : ℕ) (another : SessionData) (its : Open) (present : MachineOpen) → other ≢ number
     → IsOpen state sessions other another its present
     → IsOpen (gone_on state number later) (sessions_on sessions number session then) other another its present
 opens_other state sessions number session then later other another its present apart is = record {
@@ -99,12 +99,12 @@ opens_other state sessions number session then later other another its present a
 }
 
 -- what is open under one number is one
-pub record IsOne (session another : SessionData) (now then : Open) (current later : Current) : Type 0 where
+pub record IsOne (session another : SessionData) (now then : Open) (current later : MachineOpen) : Type 0 where
   pub session_is : another ≡ session
   pub now_is : then ≡ now
   pub current_is : later ≡ current
 
-pub open_once : (state : State) (sessions : List SessionData) (number other : ℕ) (session another : SessionData) (now then : Open) (current later : Current)
+pub open_once : (state : State) (sessions : List SessionData) (number other : ℕ) (session another : SessionData) (now then : Open) (current later : MachineOpen)
     → IsOpen state sessions number session now current → IsOpen state sessions other another then later → other ≡ number
     → IsOne session another now then current later
 open_once state sessions number other session another now then current later is open' e =
@@ -118,7 +118,7 @@ open_once state sessions number other session another now then current later is 
 -- ---- what counts in a chunk
 
 -- where it has stamped the chunk or not as before, so have all
-pub not_stamped_before : (setting : Setting) (state : State) (number other table chunk : ℕ) (later : Current)
+pub not_stamped_before : (setting : Setting) (state : State) (number other table chunk : ℕ) (later : MachineOpen)
     → is_unstamped setting (gone_on state number later) table chunk ≡ is_unstamped setting state table chunk
     → HasNotStamped setting (gone_on state number later) other table chunk → HasNotStamped setting state other table chunk
 not_stamped_before setting state number other table chunk later e not_stamped = elim not_stamped [
@@ -126,7 +126,7 @@ not_stamped_before setting state number other table chunk later e not_stamped = 
   | inr un ↦ inr (sym e ∙ un)
 ]
 
-pub not_stamped_after : (setting : Setting) (state : State) (number other table chunk : ℕ) (later : Current)
+pub not_stamped_after : (setting : Setting) (state : State) (number other table chunk : ℕ) (later : MachineOpen)
     → is_unstamped setting (gone_on state number later) table chunk ≡ is_unstamped setting state table chunk
     → HasNotStamped setting state other table chunk → HasNotStamped setting (gone_on state number later) other table chunk
 not_stamped_after setting state number other table chunk later e not_stamped = elim not_stamped [
@@ -134,17 +134,17 @@ not_stamped_after setting state number other table chunk later e not_stamped = e
   | inr un ↦ inr (e ∙ un)
 ]
 
-pub counted_same : (setting : Setting) (state : State) (number table chunk : ℕ) (later : Current)
+pub counted_same : (setting : Setting) (state : State) (number table chunk : ℕ) (later : MachineOpen)
     → is_unstamped setting (gone_on state number later) table chunk ≡ is_unstamped setting state table chunk
     → entries_counted setting (gone_on state number later) table chunk ≡ entries_counted setting state table chunk
 counted_same setting state number table chunk later e =
     ap (λ (b : Bool). cond b (length state.order - 1) (length state.order)) e
 
 -- what holds of the one that went on and of the others holds of every open transaction
-pub each_open : (state : State) (sessions : List SessionData) (number : ℕ) (session : SessionData) (now then : Open) (current later : Current)
-    → IsOpen state sessions number session now current → (holds : ℕ → SessionData → Open → Current → Type 0)
+pub each_open : (state : State) (sessions : List SessionData) (number : ℕ) (session : SessionData) (now then : Open) (current later : MachineOpen)
+    → IsOpen state sessions number session now current → (holds : ℕ → SessionData → Open → MachineOpen → Type 0)
     → holds number (went_on session then) then later
-    → ((other : ℕ) (another : SessionData) (its : Open) (present : Current) → IsOpen state sessions other another its present
+    → ((other : ℕ) (another : SessionData) (its : Open) (present : MachineOpen) → IsOpen state sessions other another its present
     → holds other another its present)
     → OfOpen (gone_on state number later) (sessions_on sessions number session then) holds
 each_open state sessions number session now then current later is holds mine others other another its present open' =
@@ -153,7 +153,7 @@ each_open state sessions number session now then current later is holds mine oth
     by : WasOpen state sessions number session then later other another its present → holds other another its present
     by (stays apart was) = others other another its present was
     by (same e f g h) =
-        subst (λ (one : Current). holds other another its one) (sym h)
+        subst (λ (one : MachineOpen). holds other another its one) (sym h)
         (subst (λ (one : Open). holds other another one later) (sym g)
         (subst (λ (one : SessionData). holds other one then later) (sym f)
         (subst (λ (n : ℕ). holds n (went_on session then) then later) (sym e) mine)))

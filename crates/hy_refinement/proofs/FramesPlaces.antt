@@ -13,7 +13,7 @@ use Rattle.hy_event.specs.declared.SessionData.{SessionData}
 use Rattle.hy_event.specs.declared.Open.{Open}
 use Rattle.hy_event.specs.Sessions.{label_of, viewer_of}
 use Rattle.hy_machine.specs.declared.Setting.{Setting}
-use Rattle.hy_machine.specs.States.{State, Session, Open as Current}
+use Rattle.hy_machine.specs.States.{State, Session, Open as MachineOpen}
 use Rattle.hy_machine.specs.Tables.{Entry as Entered, opening_tables}
 use Rattle.hy_machine.specs.Positions.{item_at, last_some}
 use Rattle.hy_machine.specs.Sessions.{session_at, snapshot}
@@ -29,7 +29,7 @@ use Rattle.hy_refinement.proofs.FramesOpened.{WasOpen, same, stays, was_open, op
 use Rattle.hy_refinement.proofs.FramesOpened.{not_stamped_before, not_stamped_after, counted_same}
 
 module _ (setting : Setting) (state : State) (core : CoreData) (sessions : List SessionData) (number : ℕ) (session : SessionData)
-    (now then : Open) (current later : Current) (table chunk pos : ℕ) (place : Place)
+    (now then : Open) (current later : MachineOpen) (table chunk pos : ℕ) (place : Place)
     (is : IsOpen state sessions number session now current) (keeps : KeepsStart now then current later)
     (stands : StandsAsBefore setting state number table chunk pos current later)
     (shows : PlaceShows setting state core sessions table chunk pos place) where
@@ -64,7 +64,7 @@ module _ (setting : Setting) (state : State) (core : CoreData) (sessions : List 
       by (stays apart was) = shows.own_heads other another its present was (unstamped_before other not_stamped)
       by (same e f g h) =
           subst (λ (one : SessionData). OwnHead setting table pos place one present) (sym f)
-          (subst (λ (one : Current). OwnHead setting table pos place (went_on session then) one) (sym h)
+          (subst (λ (one : MachineOpen). OwnHead setting table pos place (went_on session then) one) (sym h)
           (mine (subst (λ (n : ℕ). HasNotStamped setting state n table chunk) e (unstamped_before other not_stamped))))
 
   own_stamp : (stamp : Stamp) → IsOwnStamp setting state sessions table chunk stamp → IsOwnStamp setting after sessions_after table chunk stamp

@@ -18,7 +18,7 @@ use Rattle.hy_event.specs.Gathering.{ReadPlan}
 use Rattle.hy_event.specs.Reading.{Reads, with_gathered}
 use Rattle.hy_event.specs.Turns.{Step, after_turn, answer_turn, goes_on, with_changed, after_visit as visited_by, after_answer as answered_by}
 use Rattle.hy_machine.specs.declared.Setting.{Setting}
-use Rattle.hy_machine.specs.States.{State, Open as Current}
+use Rattle.hy_machine.specs.States.{State, Open as MachineOpen}
 use Rattle.hy_machine.specs.Sessions.{view}
 use Rattle.hy_machine.specs.Turns.{answers as answers_there, goes_on as goes_on_there}
 use Rattle.hy_refinement.specs.Sessions.{OpenShows, SessionIs, GatheredBy}
@@ -28,7 +28,7 @@ use Rattle.hy_refinement.proofs.FramesSeen.{was_shown}
 use Rattle.hy_refinement.proofs.FramesReads.{same_records, read_on, read_out, read_moves, read_answers}
 
 module _ (own : OwnStepsShow) (setting : Setting) (state : State) (parts : List Part) (sessions : List SessionData) (number : ℕ) (session : SessionData)
-    (now : Open) (current : Current) (table chunk : ℕ) (old : ChunkData) (visited count : ℕ) (statement : Bound) (plan : ReadPlan)
+    (now : Open) (current : MachineOpen) (table chunk : ℕ) (old : ChunkData) (visited count : ℕ) (statement : Bound) (plan : ReadPlan)
     (progress : Progress) (after : SessionData) (new : ChunkData)
     (at : AtChunk setting state parts sessions number session now current table chunk old)
     (stands : AtStatement setting state number now visited count (Some statement)) (same : new ≡ old)

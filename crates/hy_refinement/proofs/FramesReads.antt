@@ -20,7 +20,7 @@ use Rattle.hy_event.specs.Events.{Part, ChunkPart}
 use Rattle.hy_event.specs.Gathering.{select_read_plan, group_read_plan}
 use Rattle.hy_event.specs.Turns.{Step, after_visit as visited_by, after_answer as answered_by}
 use Rattle.hy_machine.specs.declared.Setting.{Setting}
-use Rattle.hy_machine.specs.States.{State, Open as Current}
+use Rattle.hy_machine.specs.States.{State, Open as MachineOpen}
 use Rattle.hy_machine.specs.States as stage
 use Rattle.hy_machine.specs.Turns.{Visits, Answers}
 use Rattle.hy_machine.specs.Tables.{Tables}
@@ -53,7 +53,7 @@ none_gathered setting tables (Some (Update table sets pred)) = refl
 none_gathered setting tables (Some (Delete table pred)) = refl
 
 -- what is recorded in the machine is what is recorded here
-pub same_records : (setting : Setting) (session : SessionData) (now : Open) (current : Current) (statement : Bound) (gathered : List Table)
+pub same_records : (setting : Setting) (session : SessionData) (now : Open) (current : MachineOpen) (statement : Bound) (gathered : List Table)
     → session.shapes ≡ setting.shapes → now.replies ≡ current.begun.replies
     → records_of session.shapes (suc (length now.replies)) statement gathered
     ≡ records_of setting.shapes (suc (length current.begun.replies)) statement gathered
@@ -72,7 +72,7 @@ read_out reply records now = answered_by [] reply None records now
 next_of : (a b c d : ℕ) → ◌≡◌ {A = Phase} (phase.Working a b) (phase.Working c d) → c ≡ a
 next_of a b c d e = cc
 
-goes_to : (setting : Setting) (state : State) (core : CoreData) (number : ℕ) (now : Open) (current : Current) (visited : ℕ) (gathered : List Table)
+goes_to : (setting : Setting) (state : State) (core : CoreData) (number : ℕ) (now : Open) (current : MachineOpen) (visited : ℕ) (gathered : List Table)
     → OpenShows setting state core number now current
     → GatheredBy setting (view setting state current.begun) (suc visited) gathered
     (statement_at (txn_at setting number (session_at state number)) (length now.replies))
@@ -92,7 +92,7 @@ goes_to setting state core number now current visited gathered was has = record 
   stamping = λ other time e. absurd cc;
 }
 
-pub answers_to : (setting : Setting) (state : State) (core : CoreData) (number : ℕ) (now : Open) (current : Current) (reply : Reply) (took : Option ℕ)
+pub answers_to : (setting : Setting) (state : State) (core : CoreData) (number : ℕ) (now : Open) (current : MachineOpen) (reply : Reply) (took : Option ℕ)
     (here there : List Record) → OpenShows setting state core number now current → here ≡ there
     → WentOn setting state core number (answered_by [] reply took here now) (after_answer [] reply took there current)
 answers_to setting state core number now current reply took here there was same = record {
@@ -115,7 +115,7 @@ answers_to setting state core number now current reply took here there was same 
 -- ---- visits
 
 module _ (own : OwnStepsShow) (setting : Setting) (state : State) (parts : List Part) (sessions : List SessionData) (number : ℕ) (session : SessionData)
-    (now : Open) (current : Current) (table chunk : ℕ) (old : ChunkData)
+    (now : Open) (current : MachineOpen) (table chunk : ℕ) (old : ChunkData)
     (at : AtChunk setting state parts sessions number session now current table chunk old)
     (visited count : ℕ) (phase_is : now.phase ≡ phase.Working visited count)
     (progress : Progress) (after : SessionData) (new : ChunkData) (same : new ≡ old) where
@@ -129,7 +129,7 @@ module _ (own : OwnStepsShow) (setting : Setting) (state : State) (parts : List 
   works_there = subst (λ (here : Phase). PhaseShows here current.phase) phase_is was.open_shows.phase
 
   -- all is shown where it stands as before
-  still_shown : (then : Open) (later : Current) → KeepsStart now then current later → WentOn setting state core number then later → IsStill current later
+  still_shown : (then : Open) (later : MachineOpen) → KeepsStart now then current later → WentOn setting state core number then later → IsStill current later
       → Shows setting (gone_on state number later) (set parts (chunk_number setting table chunk) (ChunkPart new)) (sessions_on sessions number session then)
   still_shown then later keeps on still =
       subst (λ (others : List Part). Shows setting (gone_on state number later) others (sessions_on sessions number session then))

@@ -7,7 +7,7 @@ use Rattle.hy_event.specs.declared.Phase.TheVariants as phase
 use Rattle.hy_event.specs.Events.{Part}
 use Rattle.hy_event.specs.Turns.{after_visit as visited_by}
 use Rattle.hy_machine.specs.declared.Setting.{Setting}
-use Rattle.hy_machine.specs.States.{State, Cause, Open as Current}
+use Rattle.hy_machine.specs.States.{State, Cause, Open as MachineOpen}
 use Rattle.hy_machine.specs.States as stage
 use Rattle.hy_machine.specs.Turns.{ending_of}
 use Rattle.hy_machine.specs.Steps.{after_visit}
@@ -23,13 +23,13 @@ use Rattle.hy_refinement.proofs.FramesStill.{IsStill, stands_still, works}
 abbrev pub refused_here : Cause → Open → Open
 refused_here cause now = visited_by [] (phase.Undoing 0 (ending_of cause)) now
 
-abbrev pub refused_there : Cause → Current → Current
+abbrev pub refused_there : Cause → MachineOpen → MachineOpen
 refused_there cause current = after_visit [] (stage.Undoing 0 cause) current
 
-pub refused_keeps : (cause : Cause) (now : Open) (current : Current) → KeepsStart now (refused_here cause now) current (refused_there cause current)
+pub refused_keeps : (cause : Cause) (now : Open) (current : MachineOpen) → KeepsStart now (refused_here cause now) current (refused_there cause current)
 refused_keeps cause now current = record { start = refl; prefix = refl; cover = refl; prefix_there = refl; low_there = refl }
 
-pub refused_goes : (setting : Setting) (state : State) (core : CoreData) (number : ℕ) (cause : Cause) (now : Open) (current : Current)
+pub refused_goes : (setting : Setting) (state : State) (core : CoreData) (number : ℕ) (cause : Cause) (now : Open) (current : MachineOpen)
     → OpenShows setting state core number now current
     → WentOn setting state core number (refused_here cause now) (refused_there cause current)
 refused_goes setting state core number cause now current was = record {
@@ -45,7 +45,7 @@ refused_goes setting state core number cause now current was = record {
   stamping = λ visited time e. absurd cc;
 }
 
-pub refused_still : (setting : Setting) (state : State) (core : CoreData) (number : ℕ) (cause : Cause) (now : Open) (current : Current) (visited count : ℕ)
+pub refused_still : (setting : Setting) (state : State) (core : CoreData) (number : ℕ) (cause : Cause) (now : Open) (current : MachineOpen) (visited count : ℕ)
     → OpenShows setting state core number now current → now.phase ≡ phase.Working visited count → IsStill current (refused_there cause current)
 refused_still setting state core number cause now current visited count was is =
     let at_work = works visited count current.phase (subst (λ (here : Phase). PhaseShows here current.phase) is was.open_shows.phase) in

@@ -14,7 +14,7 @@ use Rattle.hy_event.specs.declared.Phase.TheVariants as phase
 use Rattle.hy_event.specs.Sessions.{viewer_of}
 use Rattle.hy_event.specs.Events.{Part}
 use Rattle.hy_machine.specs.declared.Setting.{Setting}
-use Rattle.hy_machine.specs.States.{State, Open as Current, Phase as Stage}
+use Rattle.hy_machine.specs.States.{State, Open as MachineOpen, Phase as Stage}
 use Rattle.hy_machine.specs.States as stage
 use Rattle.hy_machine.specs.Positions.{item_at}
 use Rattle.hy_machine.specs.Tables.{chunk_of, positions_in}
@@ -38,7 +38,7 @@ none_there None e = refl
 none_there (Some x) e = absurd cc
 
 -- of what was not undone it holds all that it wrote, so that its cell is the one of its view
-pub held_cell : (setting : Setting) (state : State) (table pos : ℕ) (current : Current) → OwnFits setting current.begun.own → undone current.phase ≡ 0
+pub held_cell : (setting : Setting) (state : State) (table pos : ℕ) (current : MachineOpen) → OwnFits setting current.begun.own → undone current.phase ≡ 0
     → cell_held setting state table pos current ≡ item_at (view setting state current.begun) table pos
 held_cell setting state table pos current fits none = elim (cases_Bool (holds setting table pos (Some current))) [
   | inl yes' ↦
@@ -79,7 +79,7 @@ maps_alike {A} {B} f g (x ∷ xs) first same =
 -- ---- a chunk
 
 module _ (setting : Setting) (state : State) (parts : List Part) (sessions : List SessionData) (number : ℕ) (session : SessionData)
-    (now : Open) (current : Current) (table chunk : ℕ) (old : ChunkData)
+    (now : Open) (current : MachineOpen) (table chunk : ℕ) (old : ChunkData)
     (at : AtChunk setting state parts sessions number session now current table chunk old)
     (visited count : ℕ) (phase_is : now.phase ≡ phase.Working visited count) where
   pub was_shown : OpenShows setting state at.at_open.shown.shows.core number now current
@@ -94,7 +94,7 @@ module _ (setting : Setting) (state : State) (parts : List Part) (sessions : Lis
   unmarked e =
       let marked = at.at_open.shown.kept.ranks.marked number e in
       let one : marked.0 ≡ current = same_Some marked.0 current (sym marked.1.0 ∙ at.at_open.is_open.open_there) in
-      let stamps : true ≡ false = sym marked.1.1 ∙ (ap (λ (it : Current). is_stamping it.phase) one ∙ at_work.1) in
+      let stamps : true ≡ false = sym marked.1.1 ∙ (ap (λ (it : MachineOpen). is_stamping it.phase) one ∙ at_work.1) in
       absurd cc
 
   pub seen_at : (index : ℕ) (place : Place) → slice_get old.places index ≡ Some place

@@ -31,7 +31,7 @@ use Rattle.hy_event.specs.Sessions.{viewer_of}
 use Rattle.hy_event.specs.Gathering.{ReadPlan, select_read_plan}
 use Rattle.hy_event.specs.Reading.{ReadVisit, PlannedVisit, Reads, gathered_with}
 use Rattle.hy_machine.specs.declared.Setting.{Setting}
-use Rattle.hy_machine.specs.States.{State, Open as Current}
+use Rattle.hy_machine.specs.States.{State, Open as MachineOpen}
 use Rattle.hy_machine.specs.Tables.{Tables}
 use Rattle.hy_machine.specs.Sessions.{view}
 use Rattle.hy_machine.specs.Turns.{rows_seen as rows_there, read_turn as read_turn_there}
@@ -57,7 +57,7 @@ pub record Lookups : Type 0 where
 
 module _ (own : OwnStepsShow) (laws : Lookups)
     (setting : Setting) (state : State) (parts : List Part) (sessions : List SessionData) (number : ℕ) (session : SessionData)
-    (now : Open) (current : Current) (table chunk : ℕ) (old : ChunkData) (visited count : ℕ) (numbers : List ℕ)
+    (now : Open) (current : MachineOpen) (table chunk : ℕ) (old : ChunkData) (visited count : ℕ) (numbers : List ℕ)
     (ons : List On) (pred : Condition) (items : Items)
     (progress : Progress) (after : SessionData) (new : ChunkData)
     (at : AtChunk setting state parts sessions number session now current table chunk old)

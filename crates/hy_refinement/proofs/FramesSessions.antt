@@ -9,7 +9,7 @@ use Rattle.hy_journal.specs.declared.CoreData.{CoreData}
 use Rattle.hy_event.specs.declared.SessionData.{SessionData}
 use Rattle.hy_event.specs.declared.Open.{Open}
 use Rattle.hy_machine.specs.declared.Setting.{Setting}
-use Rattle.hy_machine.specs.States.{State, Session, Finished, Open as Current}
+use Rattle.hy_machine.specs.States.{State, Session, Finished, Open as MachineOpen}
 use Rattle.hy_machine.specs.Sessions.{session_at, program_of, view}
 use Rattle.hy_machine.specs.Outcomes.{outcomes_from}
 use Rattle.hy_refinement.specs.Transactions.{IsOpen}
@@ -21,7 +21,7 @@ use Rattle.hy_refinement.proofs.FramesLists.{got_set, got_other, set_length}
 use Rattle.hy_refinement.proofs.FramesOpened.{goes_there, stays_there, done_stays}
 
 module _ (setting : Setting) (state : State) (core : CoreData) (sessions : List SessionData) (number : ℕ) (session : SessionData)
-    (now then : Open) (current later : Current)
+    (now then : Open) (current later : MachineOpen)
     (is : IsOpen state sessions number session now current) (keeps : KeepsStart now then current later)
     (on : WentOn setting state core number then later) (shows : SessionsShow setting state core sessions) where
   abbrev after : State
@@ -30,17 +30,17 @@ module _ (setting : Setting) (state : State) (core : CoreData) (sessions : List 
   done_same : (other : ℕ) → (session_at state other).done ≡ (session_at after other).done
   done_same other = sym (done_stays state number other current later is.open_there)
 
-  notes_stay : (its : Open) (present : Current) → NotesShow setting state its present → NotesShow setting after its present
+  notes_stay : (its : Open) (present : MachineOpen) → NotesShow setting state its present → NotesShow setting after its present
   notes_stay its present show = record { notes = show.notes; ascends = show.ascends }
 
-  gathered_stay : (other : ℕ) (its : Open) (present : Current) → GatheredShows setting state other its present → GatheredShows setting after other its present
+  gathered_stay : (other : ℕ) (its : Open) (present : MachineOpen) → GatheredShows setting state other its present → GatheredShows setting after other its present
   gathered_stay other its present show visited count e =
       subst (λ (done : List Finished). GatheredBy setting (view setting state present.begun) visited its.gathered
       (statement_at (slice_get (program_of setting other) (length done)) (length its.replies))) (done_same other) (show visited count e)
 
   -- ---- the others
 
-  open_stays : (other : ℕ) (its : Open) (present : Current) → OpenShows setting state core other its present → OpenShows setting after core other its present
+  open_stays : (other : ℕ) (its : Open) (present : MachineOpen) → OpenShows setting state core other its present → OpenShows setting after core other its present
   open_stays other its present show = record {
     prefix_counts = show.prefix_counts;
     low_counts = show.low_counts;
@@ -50,7 +50,7 @@ module _ (setting : Setting) (state : State) (core : CoreData) (sessions : List 
     gathered_shows = gathered_stay other its present show.gathered_shows;
   }
 
-  now_stays : (other : ℕ) (here : Option Open) (there : Option Current) → NowShows setting state core other here there
+  now_stays : (other : ℕ) (here : Option Open) (there : Option MachineOpen) → NowShows setting state core other here there
       → NowShows setting after core other here there
   now_stays other None None show = tt
   now_stays other None (Some present) show = show

@@ -4,7 +4,7 @@ use Rattle.std.specs.Prelude.{◌&&◌}
 use Rattle.std.proofs.lemmas.Bool.{cases_eq}
 use Rattle.hy_event.specs.declared.Phase.TheVariants as phase
 use Rattle.hy_machine.specs.declared.Setting.{Setting}
-use Rattle.hy_machine.specs.States.{State, Session, Open as Current, Phase as Stage}
+use Rattle.hy_machine.specs.States.{State, Session, Open as MachineOpen, Phase as Stage}
 use Rattle.hy_machine.specs.States as stage
 use Rattle.hy_machine.specs.Positions.{item_at}
 use Rattle.hy_machine.specs.Tables.{Own, over, chunk_of}
@@ -17,7 +17,7 @@ use Rattle.hy_refinement.specs.Frames.{gone_on, StandsAsBefore}
 use Rattle.hy_refinement.proofs.FramesOpened.{goes_there, stays_there}
 
 -- where it has stamped the same chunks, the marked session has stamped a chunk or not as before
-pub unstamped_still : (setting : Setting) (state : State) (number table chunk : ℕ) (current later : Current)
+pub unstamped_still : (setting : Setting) (state : State) (number table chunk : ℕ) (current later : MachineOpen)
     → (session_at state number).now ≡ Some current → stamped_chunks setting (Some later) ≡ stamped_chunks setting (Some current)
     → is_unstamped setting (gone_on state number later) table chunk ≡ is_unstamped setting state table chunk
 unstamped_still setting state number table chunk current later is same = by state.mark
@@ -36,7 +36,7 @@ unstamped_still setting state number table chunk current later is same = by stat
     by (Some marked) = ap (λ (chunks : List (ℕ × ℕ)). not (is_among chunks table chunk)) (at marked)
 
 -- it wrote the same, and holds and has stamped as much of it
-pub record IsStill (current later : Current) : Type 0 where
+pub record IsStill (current later : MachineOpen) : Type 0 where
   pub own : later.begun.own ≡ current.begun.own
   pub prefix : later.begun.prefix ≡ current.begun.prefix
   pub undone_same : undone later.phase ≡ undone current.phase
@@ -45,14 +45,14 @@ pub record IsStill (current later : Current) : Type 0 where
 holds_by : Setting → ℕ → ℕ → Own → ℕ → Bool
 holds_by setting table pos own count = is_some (item_at own table pos) && is_among (drop count (written_chunks setting own)) table (chunk_of setting pos)
 
-holds_still : (setting : Setting) (table pos : ℕ) (current later : Current) → IsStill current later
+holds_still : (setting : Setting) (table pos : ℕ) (current later : MachineOpen) → IsStill current later
     → holds setting table pos (Some later) ≡ holds setting table pos (Some current)
 unfolding holds_by
 holds_still setting table pos current later still =
     ap (λ (own : Own). holds_by setting table pos own (undone later.phase)) still.own
     ∙ ap (λ (count : ℕ). holds_by setting table pos current.begun.own count) still.undone_same
 
-pub stands_still : (setting : Setting) (state : State) (number table chunk pos : ℕ) (current later : Current)
+pub stands_still : (setting : Setting) (state : State) (number table chunk pos : ℕ) (current later : MachineOpen)
     → (session_at state number).now ≡ Some current → IsStill current later
     → StandsAsBefore setting state number table chunk pos current later
 stands_still setting state number table chunk pos current later is still = record {

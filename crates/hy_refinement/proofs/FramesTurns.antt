@@ -12,7 +12,7 @@ use Rattle.hy_event.specs.Turns.{Step, with_changed, after_visit as visited_by, 
 use Rattle.hy_event.specs.Changing.{OnlyPlaces}
 use Rattle.hy_event.specs.Events.{Part, ChunkPart}
 use Rattle.hy_machine.specs.declared.Setting.{Setting}
-use Rattle.hy_machine.specs.States.{State, Open as Current}
+use Rattle.hy_machine.specs.States.{State, Open as MachineOpen}
 use Rattle.hy_machine.specs.Sessions.{session_at}
 use Rattle.hy_machine.specs.Steps.{with_session, with_changed as changed_there, after_visit, after_answer}
 use Rattle.hy_refinement.specs.Transactions.{IsOpen}
@@ -28,19 +28,19 @@ use Rattle.hy_refinement.proofs.FramesLists.{set_same}
 
 -- a session whose open transaction is another one went on
 pub gone_shown : (setting : Setting) (state : State) (parts : List Part) (sessions : List SessionData) (number : ℕ) (session : SessionData)
-    (now then : Open) (current : Current) (change : Current → Current) (after : SessionData)
+    (now then : Open) (current : MachineOpen) (change : MachineOpen → MachineOpen) (after : SessionData)
     → IsOpen state sessions number session now current → after ≡ went_on session then
     → Shows setting (gone_on state number (change current)) parts (sessions_on sessions number session then)
     → Shows setting (with_session state number (changed_there change (session_at state number))) parts (set sessions number after)
 gone_shown setting state parts sessions number session now then current change after is e shows =
-    subst (λ (there : Option Current).
+    subst (λ (there : Option MachineOpen).
     Shows setting (with_session state number (record { done = (session_at state number).done; now = option_map change there })) parts
     (set sessions number after))
     (sym is.open_there)
     (subst (λ (one : SessionData). Shows setting (gone_on state number (change current)) parts (set sessions number one)) (sym e) shows)
 
 went_shown : (setting : Setting) (state : State) (parts : List Part) (sessions : List SessionData) (number : ℕ) (session : SessionData)
-    (now : Open) (current : Current) (change : Current → Current) (alter : Open → Open) (after : SessionData)
+    (now : Open) (current : MachineOpen) (change : MachineOpen → MachineOpen) (alter : Open → Open) (after : SessionData)
     → IsOpen state sessions number session now current → after ≡ with_changed alter session
     → Shows setting (gone_on state number (change current)) parts (sessions_on sessions number session (alter now))
     → Shows setting (with_session state number (changed_there change (session_at state number))) parts (set sessions number after)

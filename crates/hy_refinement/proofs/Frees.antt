@@ -21,7 +21,7 @@ use Rattle.hy_event.specs.declared.SessionData.{SessionData}
 use Rattle.hy_event.specs.declared.Open.{Open}
 use Rattle.hy_event.specs.Sessions.{viewer_of, label_of as label_here}
 use Rattle.hy_machine.specs.declared.Setting.{Setting}
-use Rattle.hy_machine.specs.States.{State, Session, Open as Current}
+use Rattle.hy_machine.specs.States.{State, Session, Open as MachineOpen}
 use Rattle.hy_machine.specs.Tables.{Entry, Cell, history, opening_tables}
 use Rattle.hy_machine.specs.Positions.{item_at}
 use Rattle.hy_machine.specs.Sessions.{fresh, session_at, snapshot}
@@ -110,7 +110,7 @@ stopped viewer version (undo ∷ chain) early =
 
 module _ (setting : Setting) (state : State) (core : CoreData) (sessions : List SessionData) (table chunk pos : ℕ) (place : Place)
     (shown : ShownAt setting state core sessions table chunk pos place) (has : HasPosition (opening_tables setting) table pos)
-    (number : ℕ) (session : SessionData) (now : Open) (current : Current) (is : IsOpen state sessions number session now current)
+    (number : ℕ) (session : SessionData) (now : Open) (current : MachineOpen) (is : IsOpen state sessions number session now current)
     (unmarked : state.mark ≡ Some number → ⊥) where
   abbrev watermark : ℕ
   watermark = watermark_of now.cover

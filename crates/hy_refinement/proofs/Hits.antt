@@ -20,7 +20,7 @@ use Rattle.hy_validate.specs.Statements.{statement_at, statement_hit}
 use Rattle.hy_event.specs.CoreTurns.{invalid_by, statement_of}
 use Rattle.hy_event.specs.declared.Open.{Open}
 use Rattle.hy_machine.specs.declared.Setting.{Setting}
-use Rattle.hy_machine.specs.States.{State, Open as Current}
+use Rattle.hy_machine.specs.States.{State, Open as MachineOpen}
 use Rattle.hy_machine.specs.Sessions.{session_at}
 use Rattle.hy_machine.specs.Tables.{Entry as Entered}
 use Rattle.hy_machine.specs.Positions.{by_place}
@@ -132,12 +132,12 @@ behind (suc count) (entered ∷ order) (entry ∷ entries) shows = behind count 
 })
 
 -- what an open transaction has done so far
-done_so_far : (setting : Setting) (state : State) (core : CoreData) (number : ℕ) (here : Option Open) (there : Option Current)
-    → NowShows setting state core number here there → (now : Open) (current : Current) → here ≡ Some now → there ≡ Some current → DoneSoFar now current
+done_so_far : (setting : Setting) (state : State) (core : CoreData) (number : ℕ) (here : Option Open) (there : Option MachineOpen)
+    → NowShows setting state core number here there → (now : Open) (current : MachineOpen) → here ≡ Some now → there ≡ Some current → DoneSoFar now current
 done_so_far setting state core number None there shows now current e f = absurd cc
 done_so_far setting state core number (Some one) None shows now current e f = absurd shows
 done_so_far setting state core number (Some one) (Some other) shows now current e f =
-    subst (λ (n : Open). DoneSoFar n current) (same_Some one now e) (subst (λ (c : Current). DoneSoFar one c) (same_Some other current f) shows.open_shows)
+    subst (λ (n : Open). DoneSoFar n current) (same_Some one now e) (subst (λ (c : MachineOpen). DoneSoFar one c) (same_Some other current f) shows.open_shows)
 
 pub hits_are : HitLaws → HitsAreTheMachines
 hits_are laws setting state parts sessions number session now current at =

@@ -11,7 +11,7 @@ use Rattle.hy_event.specs.declared.SessionData.{SessionData}
 use Rattle.hy_event.specs.declared.Open.{Open}
 use Rattle.hy_event.specs.Sessions.{label_of as label_here}
 use Rattle.hy_machine.specs.declared.Setting.{Setting}
-use Rattle.hy_machine.specs.States.{State, Session, Finished, Open as Current}
+use Rattle.hy_machine.specs.States.{State, Session, Finished, Open as MachineOpen}
 use Rattle.hy_machine.specs.Sessions.{fresh, session_at, label_of}
 use Rattle.hy_machine.specs.Holding.{holds, holder_from}
 use Rattle.hy_machine.specs.Outcomes.{outcomes_from}
@@ -83,12 +83,12 @@ holder_cases setting number table pos first (session ∷ sessions) =
 -- ---- sessions
 
 -- a session that holds a position has an open transaction
-pub holder_open : (setting : Setting) (table pos : ℕ) (now : Option Current) → holds setting table pos now ≡ true → (current : Current) × (now ≡ Some current)
+pub holder_open : (setting : Setting) (table pos : ℕ) (now : Option MachineOpen) → holds setting table pos now ≡ true → (current : MachineOpen) × (now ≡ Some current)
 holder_open setting table pos None e = absurd cc
 holder_open setting table pos (Some current) e = (current, refl)
 
 -- a session with an open transaction is there
-pub is_there : (state : State) (number : ℕ) (current : Current) → (session_at state number).now ≡ Some current
+pub is_there : (state : State) (number : ℕ) (current : MachineOpen) → (session_at state number).now ≡ Some current
     → slice_get state.sessions number ≡ Some (session_at state number)
 is_there state number current e = elim (cases_lt number (length state.sessions)) [
   | inl below ↦ slice_get-get_or state.sessions number fresh below
@@ -102,12 +102,12 @@ is_there state number current e = elim (cases_lt number (length state.sessions))
     get_or_past (session ∷ sessions) (suc number) past = get_or_past sessions number (omega (arith, past))
 
 -- the machine's open transactions are the engine's
-pub record Opened (state : State) (sessions : List SessionData) (number : ℕ) (current : Current) : Type 0 where
+pub record Opened (state : State) (sessions : List SessionData) (number : ℕ) (current : MachineOpen) : Type 0 where
   pub session : SessionData
   pub now : Open
   pub is_open : IsOpen state sessions number session now current
 
-pub opened : (setting : Setting) (state : State) (core : CoreData) (sessions : List SessionData) (number : ℕ) (current : Current)
+pub opened : (setting : Setting) (state : State) (core : CoreData) (sessions : List SessionData) (number : ℕ) (current : MachineOpen)
     → Fits setting state → SessionsShow setting state core sessions → (session_at state number).now ≡ Some current → Opened state sessions number current
 opened setting state core sessions number current fits shows e =
     let within = slice_get_within state.sessions number (session_at state number) (is_there state number current e) in
@@ -117,7 +117,7 @@ opened setting state core sessions number current fits shows e =
     let session : SessionData = get_or sessions number nobody_here in
     let found : slice_get sessions number ≡ Some session = slice_get-get_or sessions number nobody_here (omega (arith, within, count, same)) in
     by_now session found session.now refl
-    (subst (λ (there : Option Current). NowShows setting state core number session.now there) e (shows.each number session found).now_shows)
+    (subst (λ (there : Option MachineOpen). NowShows setting state core number session.now there) e (shows.each number session found).now_shows)
   where
     by_now : (session : SessionData) → slice_get sessions number ≡ Some session → (now : Option Open) → session.now ≡ now
         → NowShows setting state core number now (Some current)

@@ -24,7 +24,7 @@ use Rattle.hy_event.specs.Turns.{with_ended as ended_here}
 use Rattle.hy_event.specs.CoreTurns.{TakesAtCore, leave_turn}
 use Rattle.hy_event.specs.Events.{Part, CorePart}
 use Rattle.hy_machine.specs.declared.Setting.{Setting}
-use Rattle.hy_machine.specs.States.{State, Open as Current}
+use Rattle.hy_machine.specs.States.{State, Open as MachineOpen}
 use Rattle.hy_machine.specs.Tables.{Entry, chunk_of}
 use Rattle.hy_machine.specs.States as stage
 use Rattle.hy_machine.specs.Turns.{Ends}
@@ -52,7 +52,7 @@ use Rattle.hy_refinement.proofs.EndedPlaces.{LeavesNothing}
 use Rattle.hy_refinement.proofs.Endings.{ended_shown}
 
 module _ (setting : Setting) (state : State) (parts : List Part) (sessions : List SessionData) (number : ℕ) (session : SessionData)
-    (now : Open) (current : Current) (visited time : ℕ) (at : AtOpen setting state parts sessions number session now current)
+    (now : Open) (current : MachineOpen) (visited time : ℕ) (at : AtOpen setting state parts sessions number session now current)
     (phase_is : now.phase ≡ phase.Stamping visited time) (all_visited : length (written_chunks setting current.begun.own) ≤ visited) where
   abbrev core : CoreData
   core = at.shown.shows.core

@@ -17,7 +17,7 @@ use Rattle.hy_event.specs.declared.Phase.TheVariants as phase
 use Rattle.hy_event.specs.Sessions.{place_noted, written_in, written}
 use Rattle.hy_event.specs.Events.{Part}
 use Rattle.hy_machine.specs.declared.Setting.{Setting}
-use Rattle.hy_machine.specs.States.{State, Open as Current, Phase as Stage}
+use Rattle.hy_machine.specs.States.{State, Open as MachineOpen, Phase as Stage}
 use Rattle.hy_machine.specs.States as stage
 use Rattle.hy_machine.specs.Positions.{item_at, by_position, by_table}
 use Rattle.hy_machine.specs.Tables.{Own}
@@ -125,16 +125,16 @@ written_places own table pos =
 -- ---- what an open transaction wrote
 
 -- one that isn't stamping is not marked
-pub not_marked : (setting : Setting) (state : State) (number : ℕ) (current : Current) → Kept setting state → (session_at state number).now ≡ Some current
+pub not_marked : (setting : Setting) (state : State) (number : ℕ) (current : MachineOpen) → Kept setting state → (session_at state number).now ≡ Some current
     → is_stamping current.phase ≡ false → state.mark ≡ Some number → ⊥
 not_marked setting state number current kept is quiet marked =
     let one = kept.ranks.marked number marked in
     let same : one.0 ≡ current = same_Some one.0 current (sym one.1.0 ∙ is) in
-    absurd (let e = sym one.1.1 ∙ (ap (λ (c : Current). is_stamping c.phase) same ∙ quiet) in cc)
+    absurd (let e = sym one.1.1 ∙ (ap (λ (c : MachineOpen). is_stamping c.phase) same ∙ quiet) in cc)
 
 -- by its notes, or by the places that it keeps
 pub places_are : (setting : Setting) (state : State) (parts : List Part) (sessions : List SessionData) (number : ℕ) (session : SessionData)
-    (now : Open) (current : Current)
+    (now : Open) (current : MachineOpen)
     → AtOpen setting state parts sessions number session now current → PlacesAre (written now) current.begun.own
 places_are setting state parts sessions number session now current at = by now.phase current.phase refl refl open_is.open_shows.phase
   where

@@ -13,7 +13,7 @@ use Rattle.hy_undo.specs.Places.{Place, cell_of, stamps}
 use Rattle.hy_event.specs.declared.SessionData.{SessionData}
 use Rattle.hy_event.specs.declared.Open.{Open}
 use Rattle.hy_machine.specs.declared.Setting.{Setting}
-use Rattle.hy_machine.specs.States.{Session, Open as Current}
+use Rattle.hy_machine.specs.States.{Session, Open as MachineOpen}
 use Rattle.hy_machine.specs.Positions.{item_at}
 use Rattle.hy_machine.specs.Tables.{opening_tables}
 use Rattle.hy_machine.specs.Sessions.{fresh, session_at}
@@ -50,7 +50,7 @@ none_held setting table pos [] = refl
 none_held setting table pos (txns ∷ programs) = none_held setting table pos programs
 
 -- so no transaction is open
-none_open : (setting : Setting) (sessions : List SessionData) (number : ℕ) (session : SessionData) (now : Open) (current : Current)
+none_open : (setting : Setting) (sessions : List SessionData) (number : ℕ) (session : SessionData) (now : Open) (current : MachineOpen)
     → IsOpen (opening_of setting) sessions number session now current → ⊥
 none_open setting sessions number session now current is =
     absurd (let e : None ≡ Some current = sym (ap (λ (one : Session). one.now) (fresh_at setting number)) ∙ is.open_there in cc)

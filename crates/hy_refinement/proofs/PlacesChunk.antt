@@ -14,7 +14,7 @@ use Rattle.hy_event.specs.declared.Open.{Open}
 use Rattle.hy_event.specs.Sessions.{label_of, viewer_of}
 use Rattle.hy_event.specs.Changing.{OnlyPlaces, OnlyAt}
 use Rattle.hy_machine.specs.declared.Setting.{Setting}
-use Rattle.hy_machine.specs.States.{State, Open as Current}
+use Rattle.hy_machine.specs.States.{State, Open as MachineOpen}
 use Rattle.hy_machine.specs.Writes.{Write, with_write}
 use Rattle.hy_machine.specs.Positions.{item_at}
 use Rattle.hy_machine.specs.Tables.{Own, capacity}
@@ -31,7 +31,7 @@ use Rattle.hy_refinement.proofs.PlacesAlone.{free_there}
 use Rattle.hy_refinement.proofs.PlacesShown.{placed_shows}
 
 module _ (setting : Setting) (state : State) (core : CoreData) (sessions : List SessionData) (number : ℕ) (session : SessionData)
-    (now then : Open) (current later : Current) (table chunk index : ℕ) (row : List Value)
+    (now then : Open) (current later : MachineOpen) (table chunk index : ℕ) (row : List Value)
     (work : AtWork setting state core sessions number session now current table chunk)
     (inside : index < setting.rows) (keeps : KeepsStart now then current later)
     (own : later.begun.own ≡ with_write current.begun.own (record { table = table; pos = chunk * setting.rows + index; cell = Some row }))

@@ -20,7 +20,7 @@ use Rattle.hy_event.specs.declared.SessionData.{SessionData}
 use Rattle.hy_event.specs.declared.Open.{Open}
 use Rattle.hy_event.specs.Sessions.{label_of, viewer_of}
 use Rattle.hy_machine.specs.declared.Setting.{Setting}
-use Rattle.hy_machine.specs.States.{State, Session, Open as Current}
+use Rattle.hy_machine.specs.States.{State, Session, Open as MachineOpen}
 use Rattle.hy_machine.specs.Tables.{Entry as Entered, opening_tables}
 use Rattle.hy_machine.specs.Positions.{item_at, last_some}
 use Rattle.hy_machine.specs.Sessions.{session_at, snapshot, view}
@@ -45,7 +45,7 @@ use Rattle.hy_refinement.proofs.WritesViews.{held_is_view}
 use Rattle.hy_refinement.proofs.PlacesAlone.{alike, IsFreeThere}
 
 module _ (setting : Setting) (state : State) (core : CoreData) (sessions : List SessionData) (table chunk pos : ℕ)
-    (number : ℕ) (session : SessionData) (now : Open) (current : Current)
+    (number : ℕ) (session : SessionData) (now : Open) (current : MachineOpen)
     (work : AtWork setting state core sessions number session now current table chunk)
     (free : IsFreeThere setting state current.begun table pos) where
   -- ---- nobody wrote it since the low prefix
@@ -67,14 +67,14 @@ module _ (setting : Setting) (state : State) (core : CoreData) (sessions : List 
       cell_stays setting state table pos current.begun.low prefix le within (λ rank entry l m e. not_since rank entry l e) ∙ free.empty
 
   -- an open transaction began at the low prefix or later
-  low_below : (other : ℕ) (present : Current) → (session_at state other).now ≡ Some present → current.begun.low ≤ present.begun.prefix
+  low_below : (other : ℕ) (present : MachineOpen) → (session_at state other).now ≡ Some present → current.begun.low ≤ present.begun.prefix
   low_below other present there =
       work.kept.lows_lie_low other present there present.begun.prefix (omega arith) current.begun (at_work number current work.is_open.open_there)
 
-  prefix_within : (other : ℕ) (present : Current) → (session_at state other).now ≡ Some present → present.begun.prefix ≤ length state.order
+  prefix_within : (other : ℕ) (present : MachineOpen) → (session_at state other).now ≡ Some present → present.begun.prefix ≤ length state.order
   prefix_within other present there = (work.kept.starts.opens other present there).1
 
-  nobody_holds : (other : ℕ) (present : Current) → (session_at state other).now ≡ Some present → holds setting table pos (Some present) ≡ false
+  nobody_holds : (other : ℕ) (present : MachineOpen) → (session_at state other).now ≡ Some present → holds setting table pos (Some present) ≡ false
   nobody_holds other present there = elim (cases_Bool (holds setting table pos (Some present))) [
     | inr none ↦ none
     | inl held ↦ absurd (
@@ -117,7 +117,7 @@ module _ (setting : Setting) (state : State) (core : CoreData) (sessions : List 
       (nobody_holds number current work.is_open.open_there)
       ∙ no_row current.begun.prefix (low_below number current work.is_open.open_there) (prefix_within number current work.is_open.open_there))
 
-  module _ (old new : Place) (then : Open) (later : Current) (row : List Value)
+  module _ (old new : Place) (then : Open) (later : MachineOpen) (row : List Value)
       (shows : PlaceShows setting state core sessions table chunk pos old)
       (goes : GoesOn setting state sessions table pos number session now then current later)
       (view_is : item_at (view setting state later.begun) table pos ≡ Some row)
@@ -151,7 +151,7 @@ module _ (setting : Setting) (state : State) (core : CoreData) (sessions : List 
     itself_on : IsOpen state_on on number (went_on session then) then later
     itself_on = opens_here state sessions number session now then current later work.is_open
 
-    was : (other : ℕ) (one : SessionData) (there : Open) (present : Current) → IsOpen state_on on other one there present
+    was : (other : ℕ) (one : SessionData) (there : Open) (present : MachineOpen) → IsOpen state_on on other one there present
         → WasOpen state sessions number session then later other one there present
     was = was_open state sessions number session now then current later work.is_open
 
@@ -189,13 +189,13 @@ module _ (setting : Setting) (state : State) (core : CoreData) (sessions : List 
     own_newest : newest new.chain ≡ Some mine
     own_newest = first_newest new.chain mine [] placed.stamps
 
-    own_head : (other : ℕ) (one : SessionData) (there : Open) (present : Current) → WasOpen state sessions number session then later other one there present
+    own_head : (other : ℕ) (one : SessionData) (there : Open) (present : MachineOpen) → WasOpen state sessions number session then later other one there present
         → OwnHead setting table pos new one present
     own_head other one there present (itself same one_is there_is present_is) =
         let label : label_of one ≡ label_of session = ap label_of one_is in
         record {
           holds_it = ap (λ (l : Label). is_own (id_of l) (newest new.chain)) label ∙ (ap (is_own id) own_newest
-              ∙ (eq-eqb id id refl ∙ sym (ap (λ (c : Current). holds setting table pos (Some c)) present_is ∙ goes.holds_it)));
+              ∙ (eq-eqb id id refl ∙ sym (ap (λ (c : MachineOpen). holds setting table pos (Some c)) present_is ∙ goes.holds_it)));
           owner = λ stamp e mark. ap (λ (s : Stamp). s.owner) (same_Some stamp mine (sym e ∙ own_newest)) ∙ sym label;
         }
     own_head other one there present (another apart open') =
@@ -220,7 +220,7 @@ module _ (setting : Setting) (state : State) (core : CoreData) (sessions : List 
     -- the last writer's time is above no open start
     early : (rank : ℕ) (entered : Entered) (entry : Entry) → IsLastWriter setting state_on table chunk pos rank entered
         → slice_get core.entries rank ≡ Some entry
-        → (other : ℕ) (one : SessionData) (there : Open) (present : Current) → IsOpen state sessions other one there present
+        → (other : ℕ) (one : SessionData) (there : Open) (present : MachineOpen) → IsOpen state sessions other one there present
         → there.start < entry.time → ⊥
     early rank entered entry last has other one there present open' less = elim (cases_lt rank current.begun.low) [
       | inr late ↦ absurd (let e = sym (not_since rank entered late last.stands) ∙ last.wrote in cc)
@@ -234,7 +234,7 @@ module _ (setting : Setting) (state : State) (core : CoreData) (sessions : List 
 
     no_last : (rank : ℕ) (entered : Entered) (entry : Entry) → IsLastWriter setting state_on table chunk pos rank entered
         → slice_get core.entries rank ≡ Some entry
-        → (other : ℕ) (one : SessionData) (there : Open) (present : Current) → WasOpen state sessions number session then later other one there present
+        → (other : ℕ) (one : SessionData) (there : Open) (present : MachineOpen) → WasOpen state sessions number session then later other one there present
         → there.start < entry.time → ⊥
     no_last rank entered entry last has other one there present (itself same one_is there_is present_is) less =
         let at = ap (λ (n : Open). n.start) there_is in
@@ -243,14 +243,14 @@ module _ (setting : Setting) (state : State) (core : CoreData) (sessions : List 
     no_last rank entered entry last has other one there present (another apart open') less =
         early rank entered entry last has other one there present open' less
 
-    viewer_sees : (other : ℕ) (one : SessionData) (there : Open) (present : Current) → WasOpen state sessions number session then later other one there present
+    viewer_sees : (other : ℕ) (one : SessionData) (there : Open) (present : MachineOpen) → WasOpen state sessions number session then later other one there present
         → sees (viewer_of one there) new ≡ cell_held setting state_on table pos present
     viewer_sees other one there present (itself same one_is there_is present_is) =
         ap (λ (s : ℕ). sees (record { id = id_of (label_of one); start = s }) new) (ap (λ (n : Open). n.start) there_is ∙ goes.start)
         ∙ (ap (λ (l : Label). sees (record { id = id_of l; start = now.start }) new) (ap label_of one_is)
         ∙ (placed.own ∙ (sym view_is ∙ (sym (ap (λ (b : Bool). cond b (item_at (view setting state later.begun) table pos) (item_at
         (snapshot setting state later.begun.prefix) table pos)) goes.holds_it)
-        ∙ sym (ap (λ (c : Current). cell_held setting state_on table pos c) present_is)))))
+        ∙ sym (ap (λ (c : MachineOpen). cell_held setting state_on table pos c) present_is)))))
     viewer_sees other one there present (another apart open') =
         let start = work.core_shows.times_apart.starts other one there present open' in
         let ids = work.below_ids in

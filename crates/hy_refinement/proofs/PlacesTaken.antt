@@ -33,7 +33,7 @@ use Rattle.hy_event.specs.Turns.{Takes, answer_turn, goes_on as goes_on_here, re
 use Rattle.hy_event.specs.Turns.{after_visit as visited_by, after_answer as answered_by, Visits as visits_here}
 use Rattle.hy_event.specs.Inserting.{PlaceVisit, Comes, place_turn as place_turn_here}
 use Rattle.hy_machine.specs.declared.Setting.{Setting}
-use Rattle.hy_machine.specs.States.{State, Open as Current, Phase as Stage, Full}
+use Rattle.hy_machine.specs.States.{State, Open as MachineOpen, Phase as Stage, Full}
 use Rattle.hy_machine.specs.States as stage
 use Rattle.hy_machine.specs.Turns.{Visits, Answers, place_turn, goes_on, refused, answers}
 use Rattle.hy_machine.specs.Writes.{Write}
@@ -70,7 +70,7 @@ pub record Laws : Type 0 where
   pub taken : GoingOnIsTaken
 
 module _ (laws : Laws) (setting : Setting) (state : State) (parts : List Part) (sessions : List SessionData) (number : ℕ) (session : SessionData)
-    (now : Open) (current : Current) (table chunk : ℕ) (old : ChunkData) (visited count : ℕ) (row : List Value)
+    (now : Open) (current : MachineOpen) (table chunk : ℕ) (old : ChunkData) (visited count : ℕ) (row : List Value)
     (at : AtChunk setting state parts sessions number session now current table chunk old)
     (stands_at : AtStatement setting state number now visited count (Some (Insert table row))) where
   abbrev core : CoreData
@@ -105,7 +105,7 @@ module _ (laws : Laws) (setting : Setting) (state : State) (parts : List Part) (
     abbrev then : Open
     then = visited_by [] stands_then now
 
-    abbrev later : Current
+    abbrev later : MachineOpen
     later = after_visit [] stands_later current
 
     keeps : KeepsStart now then current later
@@ -187,7 +187,7 @@ module _ (laws : Laws) (setting : Setting) (state : State) (parts : List Part) (
     abbrev then_placed : Open
     then_placed = answered_by changes reply.Inserted (Some pos) records now
 
-    abbrev later_placed : Current
+    abbrev later_placed : MachineOpen
     later_placed = after_answer (write ∷ []) reply.Inserted (Some pos) records current
 
     inside : index < setting.rows

@@ -16,7 +16,7 @@ use Rattle.hy_event.specs.Gathering.{select_read_plan, group_read_plan}
 use Rattle.hy_event.specs.Sessions.{label_of}
 use Rattle.hy_event.specs.Events.{Part}
 use Rattle.hy_machine.specs.declared.Setting.{Setting}
-use Rattle.hy_machine.specs.States.{State, Open as Current, Phase as Stage}
+use Rattle.hy_machine.specs.States.{State, Open as MachineOpen, Phase as Stage}
 use Rattle.hy_machine.specs.States as stage
 use Rattle.hy_machine.specs.Tables.{Tables}
 use Rattle.hy_machine.specs.Holding.{undone}
@@ -56,7 +56,7 @@ working_there visited count (stage.Stamping other) e = absurd e
 working_there visited count (stage.Undoing other cause) e = absurd e
 
 module _ (one_id : (a b : Label) → IsLabel a → IsLabel b → id_of a ≡ id_of b → a ≡ b) (setting : Setting) (state : State) (parts : List Part)
-    (sessions : List SessionData) (number : ℕ) (session : SessionData) (now : Open) (current : Current) (table chunk : ℕ) (old : ChunkData)
+    (sessions : List SessionData) (number : ℕ) (session : SessionData) (now : Open) (current : MachineOpen) (table chunk : ℕ) (old : ChunkData)
     (visited count : ℕ) (at : AtChunk setting state parts sessions number session now current table chunk old)
     (phase_is : now.phase ≡ phase.Working visited count) where
   abbrev core : CoreData
@@ -74,9 +74,9 @@ module _ (one_id : (a b : Label) → IsLabel a → IsLabel b → id_of a ≡ id_
   unmarked e =
       let marked = at.at_open.shown.kept.ranks.marked number e in
       let same : marked.0 ≡ current = same_Some marked.0 current (sym marked.1.0 ∙ is.open_there) in
-      absurd (let f : true ≡ false = sym marked.1.1 ∙ (ap (λ (c : Current). is_stamping c.phase) same ∙ ap is_stamping works) in cc)
+      absurd (let f : true ≡ false = sym marked.1.1 ∙ (ap (λ (c : MachineOpen). is_stamping c.phase) same ∙ ap is_stamping works) in cc)
 
-  ids_apart : (other : ℕ) (another : SessionData) (there : Open) (present : Current) → (other ≡ number → ⊥)
+  ids_apart : (other : ℕ) (another : SessionData) (there : Open) (present : MachineOpen) → (other ≡ number → ⊥)
       → IsOpen state sessions other another there present → id_of (label_of session) ≡ id_of (label_of another) → ⊥
   ids_apart other another there present apart one e =
       let shown = at.at_open.shown in

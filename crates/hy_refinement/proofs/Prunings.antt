@@ -18,7 +18,7 @@ use Rattle.hy_event.specs.declared.SessionData.{SessionData}
 use Rattle.hy_event.specs.declared.Open.{Open}
 use Rattle.hy_event.specs.Sessions.{label_of, viewer_of}
 use Rattle.hy_machine.specs.declared.Setting.{Setting}
-use Rattle.hy_machine.specs.States.{State, Open as Current}
+use Rattle.hy_machine.specs.States.{State, Open as MachineOpen}
 use Rattle.hy_refinement.specs.Transactions.{IsOpen}
 use Rattle.hy_refinement.specs.Numbers.{CoreShows}
 use Rattle.hy_refinement.specs.Sessions.{IsHeld}
@@ -90,7 +90,7 @@ module _ (setting : Setting) (state : State) (core : CoreData) (sessions : List 
         ]
       ]
 
-  safe_open : (number : ℕ) (session : SessionData) (now : Open) (current : Current) → IsOpen state sessions number session now current
+  safe_open : (number : ℕ) (session : SessionData) (now : Open) (current : MachineOpen) → IsOpen state sessions number session now current
       → IsSafe cover old.chain (viewer_of session now)
   safe_open number session now current is = record {
     id = let past = held.past in omega (arith, id_above core session low, past);
@@ -153,7 +153,7 @@ module _ (setting : Setting) (state : State) (core : CoreData) (sessions : List 
     ]
   ]
 
-  own_head : (number : ℕ) (session : SessionData) (now : Open) (current : Current) → OwnHead setting table pos old session current
+  own_head : (number : ℕ) (session : SessionData) (now : Open) (current : MachineOpen) → OwnHead setting table pos old session current
       → OwnHead setting table pos new session current
   own_head number session now current had = record {
     holds_it = own_stays session ∙ had.holds_it;

@@ -17,7 +17,7 @@ use Rattle.hy_event.specs.declared.SessionData.{SessionData}
 use Rattle.hy_event.specs.declared.Open.{Open}
 use Rattle.hy_event.specs.Sessions.{viewer_of}
 use Rattle.hy_machine.specs.declared.Setting.{Setting}
-use Rattle.hy_machine.specs.States.{State, Open as Current}
+use Rattle.hy_machine.specs.States.{State, Open as MachineOpen}
 use Rattle.hy_machine.specs.Tables.{Entry as Entered}
 use Rattle.hy_machine.specs.Sessions.{session_at}
 use Rattle.hy_machine.specs.Holding.{has_pair}
@@ -63,10 +63,10 @@ top_or_none (Some stamp) = inr (stamp, refl)
 -- ---- an open transaction that is shown
 
 pub open_shown : (setting : Setting) (state : State) (core : CoreData) (sessions : List SessionData) (number : ℕ) (session : SessionData) (now : Open)
-    (current : Current)
+    (current : MachineOpen)
     → SessionsShow setting state core sessions → IsOpen state sessions number session now current → OpenShows setting state core number now current
 open_shown setting state core sessions number session now current shows is =
-    subst (λ (there : Option Current). NowShows setting state core number (Some now) there) is.open_there
+    subst (λ (there : Option MachineOpen). NowShows setting state core number (Some now) there) is.open_there
     (subst (λ (here : Option Open). NowShows setting state core number here (session_at state number).now) is.open_here
     (shows.each number session is.found).now_shows)
 
@@ -101,7 +101,7 @@ writer_top setting state core sessions table chunk pos place shown none stamp e 
 -- the last writer since a start is the rival
 pub rival_of_writer : (setting : Setting) (state : State) (core : CoreData) (sessions : List SessionData) (table chunk pos : ℕ) (place : Place)
     → ShownAt setting state core sessions table chunk pos place → NoneOwn setting state sessions table chunk place
-    → (number : ℕ) (session : SessionData) (now : Open) (current : Current) → IsOpen state sessions number session now current
+    → (number : ℕ) (session : SessionData) (now : Open) (current : MachineOpen) → IsOpen state sessions number session now current
     → (rank : ℕ) (entered : Entered) → IsLastWriter setting state table chunk pos rank entered → current.begun.prefix ≤ rank
     → rival (viewer_of session now) place.chain ≡ Some entered.label
 rival_of_writer setting state core sessions table chunk pos place shown none number session now current is rank entered last since =
@@ -139,7 +139,7 @@ rival_of_writer setting state core sessions table chunk pos place shown none num
 -- where nobody wrote since a start there is no rival
 pub rival_none : (setting : Setting) (state : State) (core : CoreData) (sessions : List SessionData) (table chunk pos : ℕ) (place : Place)
     → ShownAt setting state core sessions table chunk pos place → NoneOwn setting state sessions table chunk place
-    → (number : ℕ) (session : SessionData) (now : Open) (current : Current) → IsOpen state sessions number session now current
+    → (number : ℕ) (session : SessionData) (now : Open) (current : MachineOpen) → IsOpen state sessions number session now current
     → ((rank : ℕ) (entered : Entered) → current.begun.prefix ≤ rank → slice_get state.order rank ≡ Some entered → has_pair table pos entered ≡ false)
     → rival (viewer_of session now) place.chain ≡ None
 rival_none setting state core sessions table chunk pos place shown none number session now current is quiet =

@@ -17,7 +17,7 @@ use Rattle.hy_event.specs.declared.SessionData.{SessionData}
 use Rattle.hy_event.specs.declared.Open.{Open}
 use Rattle.hy_event.specs.Sessions.{viewer_of, label_of as label_here}
 use Rattle.hy_machine.specs.declared.Setting.{Setting}
-use Rattle.hy_machine.specs.States.{State, Session, Open as Current, Phase, Working, Stamping, Undoing}
+use Rattle.hy_machine.specs.States.{State, Session, Open as MachineOpen, Phase, Working, Stamping, Undoing}
 use Rattle.hy_machine.specs.Tables.{Entry, Cell, chunk_of}
 use Rattle.hy_machine.specs.Positions.{item_at, last_some}
 use Rattle.hy_machine.specs.Writes.{written_chunks, is_among}
@@ -45,7 +45,7 @@ own_there before None e = absurd cc
 own_there before (Some cell) e = refl
 
 -- its entry is the last one, and has what it wrote
-pub record LastEntry (setting : Setting) (state : State) (marked : ℕ) (current : Current) : Type 0 where
+pub record LastEntry (setting : Setting) (state : State) (marked : ℕ) (current : MachineOpen) : Type 0 where
   pub entry : Entry
   pub stands : slice_get state.order (length state.order - 1) ≡ Some entry
   pub label : entry.label ≡ label_of marked (session_at state marked)
@@ -53,7 +53,7 @@ pub record LastEntry (setting : Setting) (state : State) (marked : ℕ) (current
   pub cells : (table pos : ℕ)
       → item_at entry.cells table pos ≡ pair_of (item_at (snapshot setting state (length state.order - 1)) table pos) (item_at current.begun.own table pos)
 
-pub last_entry : (setting : Setting) (state : State) (marked : ℕ) (current : Current) → Kept setting state → state.mark ≡ Some marked
+pub last_entry : (setting : Setting) (state : State) (marked : ℕ) (current : MachineOpen) → Kept setting state → state.mark ≡ Some marked
     → (session_at state marked).now ≡ Some current
     → LastEntry setting state marked current
 last_entry setting state marked current kept mark is =
@@ -73,7 +73,7 @@ last_entry setting state marked current kept mark is =
     }
 
 -- what it wrote it holds
-pub marked_holds : (setting : Setting) (state : State) (marked : ℕ) (current : Current) (table pos : ℕ) → Kept setting state
+pub marked_holds : (setting : Setting) (state : State) (marked : ℕ) (current : MachineOpen) (table pos : ℕ) → Kept setting state
     → (session_at state marked).now ≡ Some current
     → is_stamping current.phase ≡ true → is_some (item_at current.begun.own table pos) ≡ true → holds setting table pos (Some current) ≡ true
 marked_holds setting state marked current table pos kept is stamping own =
@@ -102,8 +102,8 @@ top_holds setting state core sessions table chunk pos place shown stamp e own =
 
 pub held_by_other : (setting : Setting) (state : State) (core : CoreData) (sessions : List SessionData) (table chunk pos : ℕ) (place : Place)
     → ShownAt setting state core sessions table chunk pos place
-    → (number : ℕ) (session : SessionData) (now : Open) (current : Current) → IsOpen state sessions number session now current → (state.mark ≡ Some number → ⊥)
-    → (other : ℕ) (present : Current) → (other ≡ number → ⊥) → (session_at state other).now ≡ Some present → holds setting table pos (Some present) ≡ true
+    → (number : ℕ) (session : SessionData) (now : Open) (current : MachineOpen) → IsOpen state sessions number session now current → (state.mark ≡ Some number → ⊥)
+    → (other : ℕ) (present : MachineOpen) → (other ≡ number → ⊥) → (session_at state other).now ≡ Some present → holds setting table pos (Some present) ≡ true
     → rival (viewer_of session now) place.chain ≡ Some (label_of other (session_at state other))
 held_by_other setting state core sessions table chunk pos place shown number session now current is unmarked other present apart there held =
     elim (stamped_or_not setting state other table chunk) [
@@ -166,7 +166,7 @@ held_by_other setting state core sessions table chunk pos place shown number ses
 -- it holds the position itself
 held_by_self : (setting : Setting) (state : State) (core : CoreData) (sessions : List SessionData) (table chunk pos : ℕ) (place : Place)
     → ShownAt setting state core sessions table chunk pos place
-    → (number : ℕ) (session : SessionData) (now : Open) (current : Current) → IsOpen state sessions number session now current → (state.mark ≡ Some number → ⊥)
+    → (number : ℕ) (session : SessionData) (now : Open) (current : MachineOpen) → IsOpen state sessions number session now current → (state.mark ≡ Some number → ⊥)
     → holds setting table pos (Some current) ≡ true
     → rival (viewer_of session now) place.chain ≡ last_some (changer_at table pos) (drop current.begun.prefix state.order)
 held_by_self setting state core sessions table chunk pos place shown number session now current is unmarked held =
@@ -217,7 +217,7 @@ writer_counts setting state table chunk pos kept none rank entry e wrote =
 
 held_by_none : (setting : Setting) (state : State) (core : CoreData) (sessions : List SessionData) (table chunk pos : ℕ) (place : Place)
     → ShownAt setting state core sessions table chunk pos place
-    → (number : ℕ) (session : SessionData) (now : Open) (current : Current) → IsOpen state sessions number session now current
+    → (number : ℕ) (session : SessionData) (now : Open) (current : MachineOpen) → IsOpen state sessions number session now current
     → ((other : ℕ) → holds setting table pos (session_at state other).now ≡ true → ⊥)
     → (row : List Value) → item_at (snapshot setting state current.begun.prefix) table pos ≡ Some row
     → rival (viewer_of session now) place.chain ≡ last_some (changer_at table pos) (drop current.begun.prefix state.order)

@@ -21,7 +21,7 @@ use Rattle.hy_event.specs.declared.SessionData.{SessionData}
 use Rattle.hy_event.specs.declared.Open.{Open}
 use Rattle.hy_event.specs.Sessions.{viewer_of, label_of as label_here}
 use Rattle.hy_machine.specs.declared.Setting.{Setting}
-use Rattle.hy_machine.specs.States.{State, Open as Current}
+use Rattle.hy_machine.specs.States.{State, Open as MachineOpen}
 use Rattle.hy_machine.specs.Tables.{Entry, Pair, Cell, opening_tables, chunk_of}
 use Rattle.hy_machine.specs.Positions.{item_at, last_some}
 use Rattle.hy_machine.specs.Writes.{written_chunks, is_among}
@@ -84,7 +84,7 @@ after_is before (Some cell) pair e = ap (λ (one : Pair). Some one.after) (same_
 
 module _ (setting : Setting) (state : State) (core : CoreData) (sessions : List SessionData) (table chunk pos : ℕ) (old new : Place)
     (shown : ShownAt setting state core sessions table chunk pos old) (has : HasPosition (opening_tables setting) table pos)
-    (number : ℕ) (session : SessionData) (now then : Open) (current later : Current) (is : IsOpen state sessions number session now current)
+    (number : ℕ) (session : SessionData) (now then : Open) (current later : MachineOpen) (is : IsOpen state sessions number session now current)
     (mark : state.mark ≡ Some number) (noted_last : Noted) (has_noted : slice_get core.entries (length state.order - 1) ≡ Some noted_last)
     (unstamped : is_unstamped setting state table chunk ≡ true) (stamped : is_unstamped setting (gone_on state number later) table chunk ≡ false)
     (used : is_used setting (gone_on state number later) table pos ≡ is_used setting state table pos)
@@ -123,7 +123,7 @@ module _ (setting : Setting) (state : State) (core : CoreData) (sessions : List 
   time_below = shown.core_shows.times_apart.times rank noted_last has_noted
 
   -- every open transaction began before it
-  begun_before : (other : ℕ) (one : SessionData) (present : Open) (there : Current) → IsOpen state sessions other one present there → present.start ≤ time
+  begun_before : (other : ℕ) (one : SessionData) (present : Open) (there : MachineOpen) → IsOpen state sessions other one present there → present.start ≤ time
   begun_before other one present there open' =
       let opened = open_shown setting state core sessions other one present there shown.sessions_show open' in
       let since = shown.kept.none_began_since number mark other there open'.open_there in
@@ -240,7 +240,7 @@ module _ (setting : Setting) (state : State) (core : CoreData) (sessions : List 
   marked_is other apart e = apart (same_Some other number (sym e ∙ mark))
 
   -- no other holds it
-  not_held : (other : ℕ) (one : SessionData) (present : Open) (there : Current) → (other ≡ number → ⊥) → IsOpen state sessions other one present there
+  not_held : (other : ℕ) (one : SessionData) (present : Open) (there : MachineOpen) → (other ≡ number → ⊥) → IsOpen state sessions other one present there
       → holds setting table pos (Some there) ≡ false
   not_held other one present there apart open' = elim (cases_Bool (holds setting table pos (Some there))) [
     | inr free ↦ free
@@ -249,7 +249,7 @@ module _ (setting : Setting) (state : State) (core : CoreData) (sessions : List 
   ]
 
   -- nor has another its identifier
-  ids_apart : (other : ℕ) (one : SessionData) (present : Open) (there : Current) → (other ≡ number → ⊥) → IsOpen state sessions other one present there
+  ids_apart : (other : ℕ) (one : SessionData) (present : Open) (there : MachineOpen) → (other ≡ number → ⊥) → IsOpen state sessions other one present there
       → id ≡ id_of (label_here one) → ⊥
   ids_apart other one present there apart open' same =
       let its_head = shows.own_heads other one present there open' (inl (marked_is other apart)) in
@@ -260,7 +260,7 @@ module _ (setting : Setting) (state : State) (core : CoreData) (sessions : List 
   stamped_it other same (inl unlike) = unlike (mark ∙ ap (λ (n : ℕ). Some n) (sym same))
   stamped_it other same (inr un) = absurd (let e = sym un ∙ stamped in cc)
 
-  own_head : (other : ℕ) (one : SessionData) (present : Open) (there : Current) → WasOpen state sessions number session then later other one present there
+  own_head : (other : ℕ) (one : SessionData) (present : Open) (there : MachineOpen) → WasOpen state sessions number session then later other one present there
       → HasNotStamped setting after other table chunk → OwnHead setting table pos new one there
   own_head other one present there (itself same one_is present_is there_is) not_stamped = absurd (stamped_it other same not_stamped)
   own_head other one present there (another apart open') not_stamped = record {
@@ -270,7 +270,7 @@ module _ (setting : Setting) (state : State) (core : CoreData) (sessions : List 
     owner = λ stamp e m. absurd (id_apart one (ap (λ (s : Stamp). s.mark) (same_Some stamp_now stamp (sym newest_now ∙ e)) ∙ m));
   }
 
-  viewer_sees : (other : ℕ) (one : SessionData) (present : Open) (there : Current) → WasOpen state sessions number session then later other one present there
+  viewer_sees : (other : ℕ) (one : SessionData) (present : Open) (there : MachineOpen) → WasOpen state sessions number session then later other one present there
       → HasNotStamped setting after other table chunk → sees (viewer_of one present) new ≡ cell_held setting state table pos there
   viewer_sees other one present there (itself same one_is present_is there_is) not_stamped = absurd (stamped_it other same not_stamped)
   viewer_sees other one present there (another apart open') not_stamped =

@@ -3,7 +3,7 @@ use Rattle.std.proofs.Common.{◌≡◌, ℕ, Option, Some, take, not, sym, ap, 
 use Rattle.hy_event.specs.declared.Phase.{Phase}
 use Rattle.hy_event.specs.declared.Phase.TheVariants as phase
 use Rattle.hy_machine.specs.declared.Setting.{Setting}
-use Rattle.hy_machine.specs.States.{State, Open as Current, Phase as Stage}
+use Rattle.hy_machine.specs.States.{State, Open as MachineOpen, Phase as Stage}
 use Rattle.hy_machine.specs.States as stage
 use Rattle.hy_machine.specs.Writes.{written_chunks, is_among}
 use Rattle.hy_machine.specs.Sessions.{session_at}
@@ -20,10 +20,10 @@ stage_of visited time here there e shows = by_stage there (subst (λ (p : Phase)
     by_stage (stage.Undoing other cause) h = absurd h
 
 -- the chunks that are not stamped are those behind the stamped ones
-pub unstamped_is : (setting : Setting) (state : State) (number visited table chunk : ℕ) (current : Current) → state.mark ≡ Some number
+pub unstamped_is : (setting : Setting) (state : State) (number visited table chunk : ℕ) (current : MachineOpen) → state.mark ≡ Some number
     → (session_at state number).now ≡ Some current → current.phase ≡ stage.Stamping visited
     → is_unstamped setting state table chunk ≡ not (is_among (take visited (written_chunks setting current.begun.own)) table chunk)
 unstamped_is setting state number visited table chunk current mark there stage_is =
     ap (λ (mark : Option ℕ). is_unstamped_by setting state mark table chunk) mark
-    ∙ (ap (λ (now : Option Current). not (is_among (stamped_chunks setting now) table chunk)) there
+    ∙ (ap (λ (now : Option MachineOpen). not (is_among (stamped_chunks setting now) table chunk)) there
     ∙ ap (λ (s : Stage). not (is_among (take (stamped s) (written_chunks setting current.begun.own)) table chunk)) stage_is)

@@ -20,7 +20,7 @@ use Rattle.hy_event.specs.Sessions.{label_of as label_here}
 use Rattle.hy_event.specs.Stamping.{StampVisit}
 use Rattle.hy_event.specs.Events.{Part, ChunkPart}
 use Rattle.hy_machine.specs.declared.Setting.{Setting}
-use Rattle.hy_machine.specs.States.{State, Session, Open as Current}
+use Rattle.hy_machine.specs.States.{State, Session, Open as MachineOpen}
 use Rattle.hy_machine.specs.Tables.{Entry, opening_tables, chunk_of}
 use Rattle.hy_machine.specs.States as stage
 use Rattle.hy_machine.specs.Turns.{Visits}
@@ -55,7 +55,7 @@ use Rattle.hy_refinement.proofs.UnwrittenPlaces.{StoodSo, shows_still}
 use Rattle.hy_refinement.proofs.ChunkPlaces.{has_position}
 
 module _ (setting : Setting) (state : State) (parts : List Part) (sessions : List SessionData) (number : ℕ) (session : SessionData)
-    (now : Open) (current : Current) (table chunk : ℕ) (old : ChunkData) (visited time : ℕ) (progress : Progress) (gone : SessionData) (new : ChunkData)
+    (now : Open) (current : MachineOpen) (table chunk : ℕ) (old : ChunkData) (visited time : ℕ) (progress : Progress) (gone : SessionData) (new : ChunkData)
     (at : AtChunk setting state parts sessions number session now current table chunk old)
     (phase_is : now.phase ≡ phase.Stamping visited time)
     (turn_of : slice_get (written_chunks setting current.begun.own) visited ≡ Some (table, chunk))
@@ -63,7 +63,7 @@ module _ (setting : Setting) (state : State) (parts : List Part) (sessions : Lis
   abbrev then : Open
   then = record now { phase = phase.Stamping (suc visited) time }
 
-  abbrev later : Current
+  abbrev later : MachineOpen
   later = record { begun = current.begun; phase = stage.Stamping (suc visited) }
 
   abbrev after : State
@@ -219,7 +219,7 @@ module _ (setting : Setting) (state : State) (parts : List Part) (sessions : Lis
           let same : entry ≡ last.entry = same_Some entry last.entry (sym e ∙ (ap (slice_get state.order) is_last ∙ last.stands)) in
           ap (has_pair table pos) same ∙ not_wrote
 
-      stood : (other : ℕ) (one : SessionData) (present : Open) (there : Current) → WasOpen state sessions number session then later other one present there
+      stood : (other : ℕ) (one : SessionData) (present : Open) (there : MachineOpen) → WasOpen state sessions number session then later other one present there
           → StoodSo setting state after sessions table chunk pos other one present there
       stood other one present there (another apart open') = record {
         was = one;
@@ -240,8 +240,8 @@ module _ (setting : Setting) (state : State) (parts : List Part) (sessions : Lis
         label = ap label_here one_is;
         start = ap (λ (w : Open). w.start) present_is;
         not_stamped = λ h. inr unstamped;
-        holds_it = λ h. ap (λ (c : Current). holds setting table pos (Some c)) there_is ∙ holds_same table pos;
-        cell = λ h. ap (λ (c : Current). cell_held setting state table pos c) there_is ∙ cell_same table pos;
+        holds_it = λ h. ap (λ (c : MachineOpen). holds setting table pos (Some c)) there_is ∙ holds_same table pos;
+        cell = λ h. ap (λ (c : MachineOpen). cell_held setting state table pos c) there_is ∙ cell_same table pos;
       }
 
       own_stays : (stamp : Stamp) → newest place.chain ≡ Some stamp → IsOwnStamp setting state sessions table chunk stamp

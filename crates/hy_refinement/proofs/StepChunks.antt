@@ -6,7 +6,7 @@ use Rattle.std.specs.List.{AllByRecursion, list_any, range_with_len}
 use Rattle.std.proofs.lemmas.Bool.{cond_both, and_left, and_right, or_parts}
 use Rattle.std.proofs.lemmas.Option.{same_Some}
 use Rattle.hy_machine.specs.declared.Setting.{Setting}
-use Rattle.hy_machine.specs.States.{Open as Current}
+use Rattle.hy_machine.specs.States.{Open as MachineOpen}
 use Rattle.hy_machine.specs.Positions.{item_at}
 use Rattle.hy_machine.specs.Tables.{Cell, Own, chunk_of}
 use Rattle.hy_machine.specs.Writes.{chunks_in_table, chunks_from, written_chunks, has_written_in, is_among, wrote_nothing}
@@ -58,7 +58,7 @@ drop_past (x ∷ xs) zero le = absurd (omega (arith, le))
 drop_past (x ∷ xs) (suc n) le = drop_past xs n (omega (arith, le))
 
 -- where all chunks that were written are undone nothing is held
-pub undone_all : (setting : Setting) (current : Current) → length (written_chunks setting current.begun.own) ≤ undone current.phase
+pub undone_all : (setting : Setting) (current : MachineOpen) → length (written_chunks setting current.begun.own) ≤ undone current.phase
     → HoldsNothing setting current
 undone_all setting current le table pos =
     and_right (is_some (item_at current.begun.own table pos))
@@ -81,7 +81,7 @@ not_true true e = absurd cc
 not_true false e = refl
 
 -- who wrote nothing holds nothing
-pub nothing_held : (setting : Setting) (current : Current) → wrote_nothing current.begun.own ≡ true → HoldsNothing setting current
+pub nothing_held : (setting : Setting) (current : MachineOpen) → wrote_nothing current.begun.own ≡ true → HoldsNothing setting current
 nothing_held setting current e table pos =
     and_left (is_some (item_at current.begun.own table pos))
     (is_among (drop (undone current.phase) (written_chunks setting current.begun.own)) table (chunk_of setting pos))

@@ -21,7 +21,7 @@ use Rattle.hy_event.specs.Turns.{refused as refuses, Takes}
 use Rattle.hy_event.specs.CoreTurns.{CoreTurn, TakesAtCore, unless_blocked as unless_waits, closing_turn as closes_at, commit_turn as commits_at, validated_turn as validates, close_turn, invalid_by}
 use Rattle.hy_event.specs.Events.{Part, CorePart}
 use Rattle.hy_machine.specs.declared.Setting.{Setting}
-use Rattle.hy_machine.specs.States.{State, Open as Current, Cause}
+use Rattle.hy_machine.specs.States.{State, Open as MachineOpen, Cause}
 use Rattle.hy_machine.specs.Turns.{Turn, Ends, Visits, unless_blocked, validated_turn, commit_turn, undo_turn, ending_of}
 use Rattle.hy_machine.specs.States as stage
 use Rattle.hy_machine.specs.Writes.{written_chunks, wrote_nothing}
@@ -35,7 +35,7 @@ use Rattle.hy_refinement.proofs.StepChunks.{nothing_held, undone_all}
 
 -- a session at the core: who blocks it there blocks it in the machine
 pub record AtTheCore (setting : Setting) (state : State) (parts : List Part) (sessions : List SessionData) (number : ℕ)
-    (session : SessionData) (now : Open) (current : Current) : Type 0 where
+    (session : SessionData) (now : Open) (current : MachineOpen) : Type 0 where
   pub at_open : AtOpen setting state parts sessions number session now current
   pub found : slice_get parts (core_number setting) ≡ Some (CorePart at_open.shown.shows.core)
   pub blocked : blocked_by at_open.shown.shows.core (label_of session) ≡ blocker state number
@@ -43,7 +43,7 @@ pub record AtTheCore (setting : Setting) (state : State) (parts : List Part) (se
 -- it takes this turn at the core, unless it is blocked
 unless_step : StepLaws
     → (setting : Setting) (state : State) (parts : List Part) (sessions : List SessionData) (number : ℕ)
-    (session : SessionData) (now : Open) (current : Current)
+    (session : SessionData) (now : Open) (current : MachineOpen)
     → (at : AtTheCore setting state parts sessions number session now current)
     → (here : CoreTurn) (there : Turn)
     → ((progress : Progress) (after : SessionData) (new : CoreData) → blocker state number ≡ None → TakesAtCore session (Some here) progress after new
@@ -76,7 +76,7 @@ full_is note notes b e = sym e ∙ ne_eqb (suc (length notes)) 0 (λ f. absurd (
 
 pub commit_step : StepLaws
     → (setting : Setting) (state : State) (parts : List Part) (sessions : List SessionData) (number : ℕ)
-    (session : SessionData) (now : Open) (current : Current)
+    (session : SessionData) (now : Open) (current : MachineOpen)
     → (at : AtTheCore setting state parts sessions number session now current)
     → (visited count : ℕ) → AtStatement setting state number now visited count None → is_stamping current.phase ≡ false
     → (progress : Progress) (after : SessionData) (new : CoreData)
@@ -136,7 +136,7 @@ commit_step laws setting state parts sessions number session now current at visi
 -- ---- an end
 
 -- the machine's undo visits are over
-undo_over : (setting : Setting) (state : State) (number : ℕ) (current : Current) (visited : ℕ) (cause : Cause)
+undo_over : (setting : Setting) (state : State) (number : ℕ) (current : MachineOpen) (visited : ℕ) (cause : Cause)
     → length (written_chunks setting current.begun.own) ≤ visited
     → unless_blocked (blocker state number) (Ends (ending_of cause)) ≡ undo_turn setting state number current.begun visited cause
 undo_over setting state number current visited cause le =
@@ -146,7 +146,7 @@ undo_over setting state number current visited cause le =
 -- a transaction that is undone whole ends
 pub end_step : StepLaws
     → (setting : Setting) (state : State) (parts : List Part) (sessions : List SessionData) (number : ℕ)
-    (session : SessionData) (now : Open) (current : Current)
+    (session : SessionData) (now : Open) (current : MachineOpen)
     → (at : AtTheCore setting state parts sessions number session now current)
     → (visited : ℕ) (cause : Cause) (ends : Ending) → ends ≡ ending_of cause → is_stamping current.phase ≡ false → undone current.phase ≡ visited
     → length (written_chunks setting current.begun.own) ≤ visited

@@ -26,7 +26,7 @@ use Rattle.hy_event.specs.Undoing.{UndoVisit}
 use Rattle.hy_event.specs.CoreTurns.{TakesAtCore, phase_turn as phase_at, working_turn as working_at, unless_blocked as unless_waits, closing_turn as closes_at}
 use Rattle.hy_event.specs.Events.{Part, ChunkPart, CorePart, PhaseVisit, WorkingVisit, ClosingVisit}
 use Rattle.hy_machine.specs.declared.Setting.{Setting}
-use Rattle.hy_machine.specs.States.{State, Open as Current, Cause, RolledBack, Phase as Stage}
+use Rattle.hy_machine.specs.States.{State, Open as MachineOpen, Cause, RolledBack, Phase as Stage}
 use Rattle.hy_machine.specs.Turns.{Ends, Visits, phase_turn, working_turn, closing_turn, stamp_turn, undo_turn, unless_blocked, ending_of}
 use Rattle.hy_machine.specs.States as stage
 use Rattle.hy_machine.specs.Writes.{written_chunks}
@@ -44,7 +44,7 @@ use Rattle.hy_refinement.proofs.NeededParts.{chunk_part, same_chunk, core_is_no_
 
 -- what is known of an open session before its visit
 pub record Opening (setting : Setting) (state : State) (parts : List Part) (sessions : List SessionData) (number : ℕ)
-    (session : SessionData) (now : Open) (current : Current) (txn : Txn) : Type 0 where
+    (session : SessionData) (now : Open) (current : MachineOpen) (txn : Txn) : Type 0 where
   pub at_core : AtTheCore setting state parts sessions number session now current
   pub txn_is : txn_at setting number (session_at state number) ≡ Some txn
   pub replies : now.replies ≡ current.begun.replies
@@ -54,7 +54,7 @@ pub record Opening (setting : Setting) (state : State) (parts : List Part) (sess
   pub written : chunks_written session now ≡ written_chunks setting current.begun.own
 
 -- the chunk that a stamp or an undo visit needs, or the core where none is left
-pub data Left (setting : Setting) (current : Current) (visited : ℕ) : Need → Type 0 where
+pub data Left (setting : Setting) (current : MachineOpen) (visited : ℕ) : Need → Type 0 where
   chunk_left : (table chunk : ℕ) → slice_get (written_chunks setting current.begun.own) visited ≡ Some (table, chunk)
       → Left setting current visited (Chunk table chunk)
   none_left : length (written_chunks setting current.begun.own) ≤ visited → Left setting current visited Core
@@ -64,7 +64,7 @@ left_by [] visited e = omega arith
 left_by (one ∷ ones) zero e = absurd cc
 left_by (one ∷ ones) (suc visited) e = let le = left_by ones visited e in omega (arith, le)
 
-what_is_left : (setting : Setting) (session : SessionData) (now : Open) (current : Current) (visited : ℕ)
+what_is_left : (setting : Setting) (session : SessionData) (now : Open) (current : MachineOpen) (visited : ℕ)
     → chunks_written session now ≡ written_chunks setting current.begun.own → Left setting current visited (written_need session now visited)
 what_is_left setting session now current visited same =
     subst (λ (ones : List (ℕ × ℕ)). Left setting current visited (chunk_or_core (slice_get ones visited))) (sym same)
@@ -76,7 +76,7 @@ what_is_left setting session now current visited same =
 
 -- a chunk that was written, as a part
 written_part : (setting : Setting) (state : State) (parts : List Part) (sessions : List SessionData) (number : ℕ)
-    (session : SessionData) (now : Open) (current : Current) (txn : Txn)
+    (session : SessionData) (now : Open) (current : MachineOpen) (txn : Txn)
     → (is : Opening setting state parts sessions number session now current txn)
     → (visited table chunk : ℕ) (old : ChunkData) → slice_get (written_chunks setting current.begun.own) visited ≡ Some (table, chunk)
     → slice_get parts (table * setting.chunks + chunk) ≡ Some (ChunkPart old)
@@ -95,7 +95,7 @@ left_within ones visited one e = lt-ltb visited (length ones) (slice_get_within 
 -- an undo visit, at ROLLBACK or later
 undo_chunk : StepLaws
     → (setting : Setting) (state : State) (parts : List Part) (sessions : List SessionData) (number : ℕ)
-    (session : SessionData) (now : Open) (current : Current) (txn : Txn)
+    (session : SessionData) (now : Open) (current : MachineOpen) (txn : Txn)
     → (is : Opening setting state parts sessions number session now current txn)
     → (visited : ℕ) (cause : Cause) (ends : Ending) → ends ≡ ending_of cause → is_stamping current.phase ≡ false → undone current.phase ≡ visited
     → (table chunk : ℕ) (old : ChunkData) → written_need session now visited ≡ Chunk table chunk
@@ -126,7 +126,7 @@ undo_chunk laws setting state parts sessions number session now current txn is v
 
 stamp_chunk : StepLaws
     → (setting : Setting) (state : State) (parts : List Part) (sessions : List SessionData) (number : ℕ)
-    (session : SessionData) (now : Open) (current : Current) (txn : Txn)
+    (session : SessionData) (now : Open) (current : MachineOpen) (txn : Txn)
     → (is : Opening setting state parts sessions number session now current txn)
     → (visited time : ℕ) → now.phase ≡ phase.Stamping visited time
     → (table chunk : ℕ) (old : ChunkData) → written_need session now visited ≡ Chunk table chunk
@@ -157,7 +157,7 @@ stamp_chunk laws setting state parts sessions number session now current txn is 
 -- the kinds of visits of a chunk
 pub chunk_step : StepLaws
     → (setting : Setting) (state : State) (parts : List Part) (sessions : List SessionData) (number : ℕ)
-    (session : SessionData) (now : Open) (current : Current) (txn : Txn)
+    (session : SessionData) (now : Open) (current : MachineOpen) (txn : Txn)
     → (is : Opening setting state parts sessions number session now current txn)
     → (here : Phase) (there : Stage) → now.phase ≡ here → current.phase ≡ there → PhaseShows here there
     → PhaseFits setting (Some txn) current.begun there
@@ -233,7 +233,7 @@ chunk_step laws setting state parts sessions number session now current txn is (
 -- ---- the core
 
 -- what is left at the core is nothing
-over_by : (setting : Setting) (session : SessionData) (now : Open) (current : Current) (visited : ℕ)
+over_by : (setting : Setting) (session : SessionData) (now : Open) (current : MachineOpen) (visited : ℕ)
     → chunks_written session now ≡ written_chunks setting current.begun.own → written_need session now visited ≡ Core
     → length (written_chunks setting current.begun.own) ≤ visited
 over_by setting session now current visited same need = by_left (written_need session now visited) need (what_is_left setting session now current visited same)
@@ -245,7 +245,7 @@ over_by setting session now current visited same need = by_left (written_need se
 
 pub core_step : StepLaws
     → (setting : Setting) (state : State) (parts : List Part) (sessions : List SessionData) (number : ℕ)
-    (session : SessionData) (now : Open) (current : Current) (txn : Txn)
+    (session : SessionData) (now : Open) (current : MachineOpen) (txn : Txn)
     → (is : Opening setting state parts sessions number session now current txn)
     → (here : Phase) (there : Stage) → now.phase ≡ here → current.phase ≡ there → PhaseShows here there
     → phase_need session txn now here ≡ Core

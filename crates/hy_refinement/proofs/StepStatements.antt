@@ -17,7 +17,7 @@ use Rattle.hy_event.specs.Needs.{statement_need, insert_need, checks_of as check
 use Rattle.hy_event.specs.Inserting.{CheckVisit, PlaceVisit, InsertVisit}
 use Rattle.hy_event.specs.Events.{Part, ChunkPart, StatementVisit}
 use Rattle.hy_machine.specs.declared.Setting.{Setting}
-use Rattle.hy_machine.specs.States.{State, Open as Current}
+use Rattle.hy_machine.specs.States.{State, Open as MachineOpen}
 use Rattle.hy_machine.specs.Turns.{Turn, statement_turn, insert_turn, check_turn, place_turn}
 use Rattle.hy_machine.specs.Sessions.{view}
 use Rattle.hy_machine.specs.Visits.{checks_of, sees_key, free_position}
@@ -29,7 +29,7 @@ use Rattle.hy_refinement.proofs.StepLaws.{StepLaws}
 
 -- what is known where a session visits a chunk for its present statement
 pub record Standing (setting : Setting) (state : State) (parts : List Part) (sessions : List SessionData) (number : ℕ)
-    (session : SessionData) (now : Open) (current : Current) (visited count : ℕ) (statement : Bound) (table chunk : ℕ) (old : ChunkData) : Type 0 where
+    (session : SessionData) (now : Open) (current : MachineOpen) (visited count : ℕ) (statement : Bound) (table chunk : ℕ) (old : ChunkData) : Type 0 where
   pub at_open : AtOpen setting state parts sessions number session now current
   pub stands : AtStatement setting state number now visited count (Some statement)
   pub reads_fit : ReadsFit setting (view setting state current.begun) (Some statement)
@@ -40,7 +40,7 @@ pub record Standing (setting : Setting) (state : State) (parts : List Part) (ses
 
 -- a chunk that is visited is one
 at_chunk : (setting : Setting) (state : State) (parts : List Part) (sessions : List SessionData) (number : ℕ)
-    (session : SessionData) (now : Open) (current : Current) (visited count : ℕ) (statement : Bound) (table chunk : ℕ) (old : ChunkData)
+    (session : SessionData) (now : Open) (current : MachineOpen) (visited count : ℕ) (statement : Bound) (table chunk : ℕ) (old : ChunkData)
     → Standing setting state parts sessions number session now current visited count statement table chunk old
     → chunk < setting.chunks → AtChunk setting state parts sessions number session now current table chunk old
 at_chunk setting state parts sessions number session now current visited count statement table chunk old is below = record {
@@ -49,7 +49,7 @@ at_chunk setting state parts sessions number session now current visited count s
 }
 
 has_chunks : (setting : Setting) (state : State) (parts : List Part) (sessions : List SessionData) (number : ℕ)
-    (session : SessionData) (now : Open) (current : Current) (visited count : ℕ) (statement : Bound) (table chunk : ℕ) (old : ChunkData)
+    (session : SessionData) (now : Open) (current : MachineOpen) (visited count : ℕ) (statement : Bound) (table chunk : ℕ) (old : ChunkData)
     → Standing setting state parts sessions number session now current visited count statement table chunk old → 0 < setting.chunks
 has_chunks setting state parts sessions number session now current visited count statement table chunk old is =
     some_chunks setting parts is.at_open.shown.shows.core (table * setting.chunks + chunk) old is.at_open.shown.shows.parts_are is.found
@@ -75,7 +75,7 @@ match_false A B b e v = subst (λ (c : Bool). MatchBool c A B) e v
 -- with a key or without one, a check or a position
 insert_step : StepLaws
     → (setting : Setting) (state : State) (parts : List Part) (sessions : List SessionData) (number : ℕ)
-    (session : SessionData) (now : Open) (current : Current) (visited count : ℕ) (inserted : ℕ) (row : List Value) (table chunk : ℕ) (old : ChunkData)
+    (session : SessionData) (now : Open) (current : MachineOpen) (visited count : ℕ) (inserted : ℕ) (row : List Value) (table chunk : ℕ) (old : ChunkData)
     → Standing setting state parts sessions number session now current visited count (Insert inserted row) table chunk old
     → (key : Option ℕ) → (visited ≡ 0) ⊎ (visited < checks_of setting key + setting.chunks)
     → insert_need visited inserted (checks_here session key) ≡ Chunk table chunk
@@ -165,7 +165,7 @@ insert_step laws setting state parts sessions number session now current visited
 
 pub statement_step : StepLaws
     → (setting : Setting) (state : State) (parts : List Part) (sessions : List SessionData) (number : ℕ)
-    (session : SessionData) (now : Open) (current : Current) (visited count : ℕ) (statement : Bound) (table chunk : ℕ) (old : ChunkData)
+    (session : SessionData) (now : Open) (current : MachineOpen) (visited count : ℕ) (statement : Bound) (table chunk : ℕ) (old : ChunkData)
     → Standing setting state parts sessions number session now current visited count statement table chunk old
     → statement_need session visited statement ≡ Chunk table chunk
     → (progress : Progress) (after : SessionData) (new : ChunkData)

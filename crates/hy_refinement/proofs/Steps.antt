@@ -16,7 +16,7 @@ use Rattle.hy_event.specs.Needs.{session_need}
 use Rattle.hy_event.specs.CoreTurns.{TakesAtCore, session_turn as session_at_core, unless_blocked as unless_waits, begin_turn}
 use Rattle.hy_event.specs.Events.{Part, ChunkPart, CorePart, SessionVisit}
 use Rattle.hy_machine.specs.declared.Setting.{Setting}
-use Rattle.hy_machine.specs.States.{State, Open as Current}
+use Rattle.hy_machine.specs.States.{State, Open as MachineOpen}
 use Rattle.hy_machine.specs.Turns.{Begins, turn, session_turn, unless_blocked}
 use Rattle.hy_machine.specs.Sessions.{session_at, txn_at, blocker, view}
 use Rattle.hy_machine.specs.Kept.{PhaseFits}
@@ -43,7 +43,7 @@ the_core setting state parts sessions shown core found =
 
 abbrev opening : StepLaws
     → (setting : Setting) (state : State) (parts : List Part) (sessions : List SessionData) (number : ℕ)
-    (session : SessionData) (now : Open) (current : Current) (txn : Txn)
+    (session : SessionData) (now : Open) (current : MachineOpen) (txn : Txn)
     → (at : AtOpen setting state parts sessions number session now current)
     → SessionShows setting state at.shown.shows.core number session → OpenShows setting state at.shown.shows.core number now current
     → ViewsFit setting state → txn_at setting number (session_at state number) ≡ Some txn
@@ -97,7 +97,7 @@ steps_are laws setting state parts sessions number session part old progress aft
     -- a visit of a chunk
     in_chunk : (table chunk : ℕ) (old new : ChunkData) → slice_get parts (table * setting.chunks + chunk) ≡ Some (ChunkPart old)
         → (txn : Option Txn) → txn_at setting number (session_at state number) ≡ txn
-        → (here : Option Open) → session.now ≡ here → (current : Option Current) → (session_at state number).now ≡ current
+        → (here : Option Open) → session.now ≡ here → (current : Option MachineOpen) → (session_at state number).now ≡ current
         → NowShows setting state core number here current
         → session_need session txn here ≡ Chunk table chunk → SessionVisit session txn here old progress after new
         → IsTaken setting state parts sessions number (session_turn setting state number txn current) (chunk_number setting table chunk) progress after (ChunkPart new)
@@ -116,7 +116,7 @@ steps_are laws setting state parts sessions number session part old progress aft
     -- a visit of the core
     at_core : (new : CoreData)
         → (txn : Option Txn) → txn_at setting number (session_at state number) ≡ txn
-        → (here : Option Open) → session.now ≡ here → (current : Option Current) → (session_at state number).now ≡ current
+        → (here : Option Open) → session.now ≡ here → (current : Option MachineOpen) → (session_at state number).now ≡ current
         → NowShows setting state core number here current
         → session_need session txn here ≡ Core → TakesAtCore session (session_at_core session core txn here) progress after new
         → IsTaken setting state parts sessions number (session_turn setting state number txn current) (core_number setting) progress after (CorePart new)

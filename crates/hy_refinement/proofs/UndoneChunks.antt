@@ -6,7 +6,7 @@ use Rattle.std.proofs.lemmas.Bool.{eqb-true, and_parts, and_right, false_from_ne
 use Rattle.std.proofs.lemmas.Nat.{div-mul-add}
 use Rattle.std.proofs.lemmas.Option.{same_Some}
 use Rattle.hy_machine.specs.declared.Setting.{Setting}
-use Rattle.hy_machine.specs.States.{Open as Current}
+use Rattle.hy_machine.specs.States.{Open as MachineOpen}
 use Rattle.hy_machine.specs.Positions.{item_at}
 use Rattle.hy_machine.specs.Tables.{Own, chunk_of}
 use Rattle.hy_machine.specs.Writes.{written_chunks, is_among}
@@ -48,7 +48,7 @@ pub chunk_is_of : (setting : Setting) (chunk index : ℕ) → index < setting.ro
 chunk_is_of setting chunk index less = div-mul-add chunk setting.rows index less
 
 -- an open transaction that undid one chunk more holds nothing in it
-pub holds_not : (setting : Setting) (table chunk pos k : ℕ) (later : Current) → chunk_of setting pos ≡ chunk → undone later.phase ≡ suc k
+pub holds_not : (setting : Setting) (table chunk pos k : ℕ) (later : MachineOpen) → chunk_of setting pos ≡ chunk → undone later.phase ≡ suc k
     → slice_get (written_chunks setting later.begun.own) k ≡ Some (table, chunk) → holds setting table pos (Some later) ≡ false
 holds_not setting table chunk pos k later of_chunk done e =
     and_right (is_some (item_at later.begun.own table pos))
@@ -58,7 +58,7 @@ holds_not setting table chunk pos k later of_chunk done e =
     ∙ not_again setting later.begun.own k table chunk e))
 
 -- and what it held in the others
-pub holds_still : (setting : Setting) (table chunk other another pos k : ℕ) (current later : Current) → chunk_of setting pos ≡ another
+pub holds_still : (setting : Setting) (table chunk other another pos k : ℕ) (current later : MachineOpen) → chunk_of setting pos ≡ another
     → undone current.phase ≡ k → undone later.phase ≡ suc k → later.begun.own ≡ current.begun.own
     → slice_get (written_chunks setting current.begun.own) k ≡ Some (table, chunk) → ((other ≡ table) × (another ≡ chunk) → ⊥)
     → holds setting other pos (Some later) ≡ holds setting other pos (Some current)

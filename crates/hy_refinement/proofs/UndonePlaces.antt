@@ -17,7 +17,7 @@ use Rattle.hy_event.specs.declared.SessionData.{SessionData}
 use Rattle.hy_event.specs.declared.Open.{Open}
 use Rattle.hy_event.specs.Sessions.{label_of}
 use Rattle.hy_machine.specs.declared.Setting.{Setting}
-use Rattle.hy_machine.specs.States.{State, Open as Current}
+use Rattle.hy_machine.specs.States.{State, Open as MachineOpen}
 use Rattle.hy_machine.specs.Tables.{Entry}
 use Rattle.hy_machine.specs.Positions.{item_at}
 use Rattle.hy_machine.specs.Sessions.{snapshot}
@@ -62,7 +62,7 @@ newest_among chain stamp stamps same e =
 
 -- the newest record of a position, that of the open transaction which holds it, is taken back
 pub record TakesBack (setting : Setting) (state : State) (core : CoreData) (sessions : List SessionData) (table chunk pos : ℕ) (old new : Place)
-    (number : ℕ) (session : SessionData) (now : Open) (current : Current) : Type 0 where
+    (number : ℕ) (session : SessionData) (now : Open) (current : MachineOpen) : Type 0 where
   pub shown : ShownAt setting state core sessions table chunk pos old
   pub is_open : IsOpen state sessions number session now current
   pub unmarked : state.mark ≢ Some number
@@ -74,7 +74,7 @@ pub record TakesBack (setting : Setting) (state : State) (core : CoreData) (sess
   pub undone : Undone (id_of (label_of session)) old new
 
 module _ {setting : Setting} {state : State} {core : CoreData} {sessions : List SessionData} {table chunk pos : ℕ} {old new : Place}
-    {number : ℕ} {session : SessionData} {now : Open} {current : Current}
+    {number : ℕ} {session : SessionData} {now : Open} {current : MachineOpen}
     (back : TakesBack setting state core sessions table chunk pos old new number session now current) where
   shows : OpenShows setting state core number now current
   shows = open_shown setting state core sessions number session now current back.shown.sessions_show back.is_open

@@ -19,7 +19,7 @@ use Rattle.hy_event.specs.declared.SessionData.{SessionData}
 use Rattle.hy_event.specs.declared.Open.{Open}
 use Rattle.hy_event.specs.Sessions.{label_of, viewer_of}
 use Rattle.hy_machine.specs.declared.Setting.{Setting}
-use Rattle.hy_machine.specs.States.{State, Session, Open as Current}
+use Rattle.hy_machine.specs.States.{State, Session, Open as MachineOpen}
 use Rattle.hy_machine.specs.Tables.{Entry, opening_tables}
 use Rattle.hy_machine.specs.Positions.{item_at, last_some}
 use Rattle.hy_machine.specs.Sessions.{fresh, session_at, snapshot, view}
@@ -43,9 +43,9 @@ use Rattle.hy_refinement.proofs.UndonePlaces.{TakesBack, newest_among, quiet, st
 use Rattle.hy_refinement.proofs.UndonePlaces.{image_live}
 
 module _ {setting : Setting} {state : State} {core : CoreData} {sessions : List SessionData} {table chunk pos : ℕ} {old new : Place}
-    {number : ℕ} {session : SessionData} {now : Open} {current : Current}
+    {number : ℕ} {session : SessionData} {now : Open} {current : MachineOpen}
     (back : TakesBack setting state core sessions table chunk pos old new number session now current) (has : HasPosition (opening_tables setting) table pos)
-    (then : Open) (later : Current) (keeps : KeepsStart now then current later) (gone : holds setting table pos (Some later) ≡ false)
+    (then : Open) (later : MachineOpen) (keeps : KeepsStart now then current later) (gone : holds setting table pos (Some later) ≡ false)
     (same_stamped : is_unstamped setting (gone_on state number later) table chunk ≡ is_unstamped setting state table chunk) where
   same_counted : entries_counted setting (gone_on state number later) table chunk ≡ entries_counted setting state table chunk
   same_counted = counted_same setting state number table chunk later same_stamped
@@ -55,7 +55,7 @@ module _ {setting : Setting} {state : State} {core : CoreData} {sessions : List 
       writer_still setting state (gone_on state number later) table chunk pos refl same_counted core core refl stamp (left_writer back stamp c)
 
   -- nobody else holds the position, or has its identifier
-  other_holds_not : (other : ℕ) (there : Current) → (other ≡ number → ⊥) → (session_at state other).now ≡ Some there
+  other_holds_not : (other : ℕ) (there : MachineOpen) → (other ≡ number → ⊥) → (session_at state other).now ≡ Some there
       → holds setting table pos (Some there) ≡ false
   other_holds_not other there apart open' = elim (cases_Bool (holds setting table pos (Some there))) [
     | inr not_held ↦ not_held
@@ -63,7 +63,7 @@ module _ {setting : Setting} {state : State} {core : CoreData} {sessions : List 
         (ap (holds setting table pos) back.is_open.open_there ∙ back.held))
   ]
 
-  other_id : (other : ℕ) (one : SessionData) (present : Open) (there : Current) → (other ≡ number → ⊥) → IsOpen state sessions other one present there
+  other_id : (other : ℕ) (one : SessionData) (present : Open) (there : MachineOpen) → (other ≡ number → ⊥) → IsOpen state sessions other one present there
       → HasNotStamped setting state other table chunk → id_of (label_of session) ≡ id_of (label_of one) → ⊥
   other_id other one present there apart open' not_stamped same =
       let head = back.shown.place_shows.own_heads other one present there open' not_stamped in
@@ -82,7 +82,7 @@ module _ {setting : Setting} {state : State} {core : CoreData} {sessions : List 
         ap (is_own (id_of (label_of one))) top.1 ∙ ne_eqb top.0.mark (id_of (label_of one)) (λ e. absurd (omega (arith, e, early, ids)))
   ]
 
-  head_after : (one : SessionData) (there : Current) → holds setting table pos (Some there) ≡ false → OwnHead setting table pos new one there
+  head_after : (one : SessionData) (there : MachineOpen) → holds setting table pos (Some there) ≡ false → OwnHead setting table pos new one there
   head_after one there free = record {
     holds_it = not_own one ∙ sym free;
     owner = λ stamp e mark. absurd (let f = not_own one in
@@ -93,7 +93,7 @@ module _ {setting : Setting} {state : State} {core : CoreData} {sessions : List 
 
   own_heads : OwnHeads setting (gone_on state number later) (sessions_on sessions number session then) table chunk pos new
   own_heads =
-      each_apart (λ (other : ℕ) (one : SessionData) (present : Open) (there : Current).
+      each_apart (λ (other : ℕ) (one : SessionData) (present : Open) (there : MachineOpen).
       HasNotStamped setting (gone_on state number later) other table chunk → OwnHead setting table pos new one there)
       state sessions number session now then current later back.is_open
       (λ not_stamped. head_after (went_on session then) later gone)
@@ -124,7 +124,7 @@ module _ {setting : Setting} {state : State} {core : CoreData} {sessions : List 
 
   last_writer_on_top : LastWriterOnTop setting (gone_on state number later) core (sessions_on sessions number session then) table chunk pos new
   last_writer_on_top rank entered entry last stands =
-      each_apart (λ (other : ℕ) (one : SessionData) (present : Open) (there : Current).
+      each_apart (λ (other : ℕ) (one : SessionData) (present : Open) (there : MachineOpen).
       present.start < entry.time → newest_below core.next (stamps new) ≡ Some (record { owner = entered.label; mark = entry.time }))
       state sessions number session now then current later back.is_open
       (λ above.
@@ -137,7 +137,7 @@ module _ {setting : Setting} {state : State} {core : CoreData} {sessions : List 
 
   viewer_sees : ViewerSees setting (gone_on state number later) (sessions_on sessions number session then) table chunk pos new
   viewer_sees =
-      each_apart (λ (other : ℕ) (one : SessionData) (present : Open) (there : Current).
+      each_apart (λ (other : ℕ) (one : SessionData) (present : Open) (there : MachineOpen).
       HasNotStamped setting (gone_on state number later) other table chunk
       → sees (viewer_of one present) new ≡ cell_held setting (gone_on state number later) table pos there)
       state sessions number session now then current later back.is_open
@@ -202,7 +202,7 @@ module _ {setting : Setting} {state : State} {core : CoreData} {sessions : List 
             ∙ by_now other apart (session_at state other).now refl
       ])
     where
-      by_now : (other : ℕ) → (other ≡ number → ⊥) → (there : Option Current) → (session_at state other).now ≡ there → holds setting table pos there ≡ false
+      by_now : (other : ℕ) → (other ≡ number → ⊥) → (there : Option MachineOpen) → (session_at state other).now ≡ there → holds setting table pos there ≡ false
       by_now other apart None e = refl
       by_now other apart (Some there) e = other_holds_not other there apart e
 

@@ -16,7 +16,7 @@ use Rattle.hy_event.specs.Sessions.{label_of}
 use Rattle.hy_event.specs.Turns.{after_visit as visited_by}
 use Rattle.hy_event.specs.Events.{Part, ChunkPart}
 use Rattle.hy_machine.specs.declared.Setting.{Setting}
-use Rattle.hy_machine.specs.States.{State, Open as Current, Cause}
+use Rattle.hy_machine.specs.States.{State, Open as MachineOpen, Cause}
 use Rattle.hy_machine.specs.States as stage
 use Rattle.hy_machine.specs.Positions.{item_at}
 use Rattle.hy_machine.specs.Writes.{written_chunks}
@@ -43,14 +43,14 @@ use Rattle.hy_refinement.proofs.UndoneShows.{undone_shows}
 use Rattle.hy_refinement.proofs.UndoneChunks.{chunk_is_of, holds_not, holds_still}
 
 module _ (setting : Setting) (state : State) (parts : List Part) (sessions : List SessionData) (number : ℕ)
-    (session : SessionData) (now : Open) (current : Current) (table chunk : ℕ) (old : ChunkData) (visited : ℕ) (cause : Cause)
+    (session : SessionData) (now : Open) (current : MachineOpen) (table chunk : ℕ) (old : ChunkData) (visited : ℕ) (cause : Cause)
     (at : AtChunk setting state parts sessions number session now current table chunk old)
     (quiet : is_stamping current.phase ≡ false) (done : undone current.phase ≡ visited)
     (here : slice_get (written_chunks setting current.begun.own) visited ≡ Some (table, chunk)) where
   abbrev then : Open
   then = visited_by [] (phase.Undoing (suc visited) (ending_of cause)) now
 
-  abbrev later : Current
+  abbrev later : MachineOpen
   later = after_visit [] (stage.Undoing (suc visited) cause) current
 
   unmarked : state.mark ≢ Some number

@@ -18,7 +18,7 @@ use Rattle.hy_event.specs.declared.SessionData.{SessionData}
 use Rattle.hy_event.specs.declared.Open.{Open}
 use Rattle.hy_event.specs.Sessions.{viewer_of, label_of as label_here}
 use Rattle.hy_machine.specs.declared.Setting.{Setting}
-use Rattle.hy_machine.specs.States.{State, Session, Open as Current}
+use Rattle.hy_machine.specs.States.{State, Session, Open as MachineOpen}
 use Rattle.hy_machine.specs.Tables.{Entry}
 use Rattle.hy_machine.specs.Positions.{item_at, last_some}
 use Rattle.hy_machine.specs.Sessions.{snapshot}
@@ -50,10 +50,10 @@ last_of_more {A} {B} f (y ∷ xs) (suc n) x e =
 
 -- a transaction that is open afterwards was open, and stands at a position as it stood
 pub record StoodSo (setting : Setting) (state after : State) (sessions : List SessionData) (table chunk pos number : ℕ)
-    (session : SessionData) (now : Open) (current : Current) : Type 0 where
+    (session : SessionData) (now : Open) (current : MachineOpen) : Type 0 where
   pub was : SessionData
   pub then : Open
-  pub there : Current
+  pub there : MachineOpen
   pub is_open : IsOpen state sessions number was then there
   pub label : label_here session ≡ label_here was
   pub start : now.start ≡ then.start
@@ -76,7 +76,7 @@ module _ (setting : Setting) (state : State) (core : CoreData) (sessions : List 
 
   -- those who are open afterwards stood so before
   abbrev pub StoodAll : Type 0
-  StoodAll = (number : ℕ) (session : SessionData) (now : Open) (current : Current) → IsOpen after news number session now current
+  StoodAll = (number : ℕ) (session : SessionData) (now : Open) (current : MachineOpen) → IsOpen after news number session now current
       → StoodSo setting state after sessions table chunk pos number session now current
 
   -- a transaction's own stamp on top is one still

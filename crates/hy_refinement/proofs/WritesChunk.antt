@@ -19,7 +19,7 @@ use Rattle.hy_event.specs.declared.SessionData.{SessionData}
 use Rattle.hy_event.specs.declared.Open.{Open}
 use Rattle.hy_event.specs.Sessions.{label_of, viewer_of}
 use Rattle.hy_machine.specs.declared.Setting.{Setting}
-use Rattle.hy_machine.specs.States.{State, Open as Current}
+use Rattle.hy_machine.specs.States.{State, Open as MachineOpen}
 use Rattle.hy_machine.specs.Positions.{item_at}
 use Rattle.hy_machine.specs.Writes.{with_writes}
 use Rattle.hy_machine.specs.Sessions.{view}
@@ -42,7 +42,7 @@ use Rattle.hy_refinement.proofs.WritesPlace.{written_shows}
 
 -- an open transaction at work in a chunk, in a state that is shown
 pub record AtWork (setting : Setting) (state : State) (core : CoreData) (sessions : List SessionData) (number : ℕ) (session : SessionData)
-    (now : Open) (current : Current) (table chunk : ℕ) : Type 0 where
+    (now : Open) (current : MachineOpen) (table chunk : ℕ) : Type 0 where
   pub kept : Kept setting state
   pub below_ids : IsBelowIds core
   pub core_shows : CoreShows state core sessions
@@ -52,11 +52,11 @@ pub record AtWork (setting : Setting) (state : State) (core : CoreData) (session
   pub working : undone current.phase ≡ 0
   pub table_below : table < length setting.first
   pub chunk_below : chunk < setting.chunks
-  pub ids_apart : (other : ℕ) (another : SessionData) (there : Open) (present : Current) → (other ≡ number → ⊥)
+  pub ids_apart : (other : ℕ) (another : SessionData) (there : Open) (present : MachineOpen) → (other ≡ number → ⊥)
       → IsOpen state sessions other another there present → id_of (label_of session) ≡ id_of (label_of another) → ⊥
 
 -- it goes on, and these cells are then its own in that chunk
-pub record WritesOn (setting : Setting) (now then : Open) (current later : Current) (table chunk : ℕ) (cells : List (Option Cell)) : Type 0 where
+pub record WritesOn (setting : Setting) (now then : Open) (current later : MachineOpen) (table chunk : ℕ) (cells : List (Option Cell)) : Type 0 where
   pub keeps : KeepsStart now then current later
   pub own : later.begun.own ≡ with_writes current.begun.own (writes_from table (chunk * setting.rows) cells)
   pub working : undone later.phase ≡ 0
@@ -83,7 +83,7 @@ apart_chunks chunk another rows index apart within from to = elim (cases_lt anot
 ]
 
 module _ (setting : Setting) (state : State) (core : CoreData) (sessions : List SessionData) (number : ℕ) (session : SessionData)
-    (now : Open) (current : Current) (table chunk : ℕ)
+    (now : Open) (current : MachineOpen) (table chunk : ℕ)
     (work : AtWork setting state core sessions number session now current table chunk) where
   pub fits : OwnFits setting current.begun.own
   fits = (work.kept.fits.opens number current work.is_open.open_there).own
@@ -132,7 +132,7 @@ module _ (setting : Setting) (state : State) (core : CoreData) (sessions : List 
       (λ i place e. same_judgement rivals sets pred (chunk * setting.rows + i) place (shows i place e))
 
   -- where its own cell is the same it stands as before
-  pub stands : (then : Open) (later : Current) (other another pos : ℕ) → KeepsStart now then current later → undone later.phase ≡ 0
+  pub stands : (then : Open) (later : MachineOpen) (other another pos : ℕ) → KeepsStart now then current later → undone later.phase ≡ 0
       → OwnFits setting later.begun.own
       → item_at later.begun.own other pos ≡ item_at current.begun.own other pos
       → StandsAsBefore setting state number other another pos current later
@@ -145,7 +145,7 @@ module _ (setting : Setting) (state : State) (core : CoreData) (sessions : List 
     unstamped = unstamped_on setting state number later other another work.unmarked;
   }
 
-  module _ (then : Open) (later : Current) (cells : List (Option Cell)) (long : length cells ≡ setting.rows)
+  module _ (then : Open) (later : MachineOpen) (cells : List (Option Cell)) (long : length cells ≡ setting.rows)
       (on : WritesOn setting now then current later table chunk cells) where
     fits_later : OwnFits setting later.begun.own
     fits_later = subst (λ own. OwnFits setting own) (sym on.own)

@@ -26,7 +26,7 @@ use Rattle.hy_event.specs.Events.{Part, ChunkPart}
 use Rattle.hy_event.specs.Turns.{Takes, Visits as Visits_here, with_notes, after_visit as visited_by, after_answer as answered_by, answer_turn}
 use Rattle.hy_event.specs.Writing.{write_turn as write_turn_here, told_by as told_here}
 use Rattle.hy_machine.specs.declared.Setting.{Setting}
-use Rattle.hy_machine.specs.States.{State, Open as Current}
+use Rattle.hy_machine.specs.States.{State, Open as MachineOpen}
 use Rattle.hy_machine.specs.States as stage
 use Rattle.hy_machine.specs.Turns.{Visits, Answers, write_turn, told_by, answers}
 use Rattle.hy_machine.specs.Writes.{Write, with_writes}
@@ -76,7 +76,7 @@ same_told None count other e = ap (told_here None) e
 same_told (Some sets) count other e = ap (told_here (Some sets)) e
 
 module _ (laws : Laws) (setting : Setting) (state : State) (parts : List Part) (sessions : List SessionData) (number : ℕ) (session : SessionData)
-    (now : Open) (current : Current) (table chunk : ℕ) (old : ChunkData) (visited count : ℕ) (sets : Option (List Assign)) (pred : Condition)
+    (now : Open) (current : MachineOpen) (table chunk : ℕ) (old : ChunkData) (visited count : ℕ) (sets : Option (List Assign)) (pred : Condition)
     (at : AtChunk setting state parts sessions number session now current table chunk old)
     (stands_at : AtStatement setting state number now visited count (Some (statement_by table sets pred)))
     (work : AtWork setting state at.at_open.shown.shows.core sessions number session now current table chunk)
@@ -119,7 +119,7 @@ module _ (laws : Laws) (setting : Setting) (state : State) (parts : List Part) (
       (λ i place e. sees_view setting state core sessions number session now current table chunk work (first + i) place (chunk_shows i place e))
 
   -- all is shown where it went on so
-  shown_on : (then : Open) (later : Current) → WritesOn setting now then current later table chunk cells → WentOn setting state core number then later
+  shown_on : (then : Open) (later : MachineOpen) → WritesOn setting now then current later table chunk cells → WentOn setting state core number then later
       → Shows setting (gone_on state number later) (slice_set parts (chunk_number setting table chunk) (ChunkPart new))
       (sessions_on sessions number session then)
   shown_on then later on went =
@@ -134,7 +134,7 @@ module _ (laws : Laws) (setting : Setting) (state : State) (parts : List Part) (
   abbrev then_visited : Open
   then_visited = visited_by changes (phase.Working (suc visited) (count + length changes)) now
 
-  abbrev later_visited : Current
+  abbrev later_visited : MachineOpen
   later_visited = after_visit writes (stage.Working (suc visited) (count + length writes)) current
 
   went_visited : WentOn setting state core number then_visited later_visited
@@ -178,7 +178,7 @@ module _ (laws : Laws) (setting : Setting) (state : State) (parts : List Part) (
   abbrev then_answered : Open
   then_answered = answered_by changes reply None records now
 
-  abbrev later_answered : Current
+  abbrev later_answered : MachineOpen
   later_answered = after_answer writes reply None records current
 
   went_answered : WentOn setting state core number then_answered later_answered

@@ -9,7 +9,7 @@ use Rattle.hy_event.specs.declared.Open.{Open}
 use Rattle.hy_event.specs.Turns.{with_notes}
 use Rattle.hy_event.specs.Changing.{changes_from}
 use Rattle.hy_machine.specs.declared.Setting.{Setting}
-use Rattle.hy_machine.specs.States.{State, Open as Current}
+use Rattle.hy_machine.specs.States.{State, Open as MachineOpen}
 use Rattle.hy_machine.specs.Writes.{Write, with_writes}
 use Rattle.hy_machine.specs.Positions.{item_at}
 use Rattle.hy_machine.specs.Tables.{capacity}
@@ -25,12 +25,12 @@ abbrev pub noting : Open → List Change → Open
 noting now changes = record now { notes = with_notes now.notes changes }
 
 -- an open transaction that wrote this
-abbrev pub writing : Current → List Write → Current
+abbrev pub writing : MachineOpen → List Write → MachineOpen
 writing current writes = record current { begun = record current.begun { own = with_writes current.begun.own writes } }
 
 module _ (follow : NotesFollowWrites) (setting : Setting) (state : State) (table : ℕ) (viewer : Viewer) (below : table < length setting.first) where
   -- from what the transaction sees at each position, its notes show what it writes there
-  pub notes_written : (first : ℕ) (cells : List (Option Cell)) (places : List Place) (now : Open) (current : Current)
+  pub notes_written : (first : ℕ) (cells : List (Option Cell)) (places : List Place) (now : Open) (current : MachineOpen)
       → OwnFits setting current.begun.own → first + length cells ≤ capacity setting → length cells ≡ length places → NotesShow setting state now current
       → ((i : ℕ) (place : Place) → slice_get places i ≡ Some place → sees viewer place ≡ item_at (view setting state current.begun) table (first + i))
       → NotesShow setting state (noting now (changes_from table first viewer cells places)) (writing current (writes_from table first cells))

@@ -17,7 +17,7 @@ use Rattle.hy_event.specs.declared.SessionData.{SessionData}
 use Rattle.hy_event.specs.declared.Open.{Open}
 use Rattle.hy_event.specs.Sessions.{label_of, viewer_of}
 use Rattle.hy_machine.specs.declared.Setting.{Setting}
-use Rattle.hy_machine.specs.States.{State, Session, Open as Current}
+use Rattle.hy_machine.specs.States.{State, Session, Open as MachineOpen}
 use Rattle.hy_machine.specs.Tables.{Entry as Entered, opening_tables}
 use Rattle.hy_machine.specs.Positions.{item_at, last_some}
 use Rattle.hy_machine.specs.Sessions.{session_at, snapshot, view}
@@ -38,10 +38,10 @@ use Rattle.hy_refinement.proofs.WritesTops.{OwnOnTop, was_there, pushed, own_on_
 
 -- a transaction goes on that has no entry, and holds a position then
 pub record GoesOn (setting : Setting) (state : State) (sessions : List SessionData) (table pos number : ℕ) (session : SessionData) (now then : Open)
-    (current later : Current) : Type 0 where
+    (current later : MachineOpen) : Type 0 where
   pub is_open : IsOpen state sessions number session now current
   pub unmarked : state.mark ≡ Some number → ⊥
-  pub ids_apart : (other : ℕ) (another : SessionData) (there : Open) (present : Current) → (other ≡ number → ⊥)
+  pub ids_apart : (other : ℕ) (another : SessionData) (there : Open) (present : MachineOpen) → (other ≡ number → ⊥)
       → IsOpen state sessions other another there present → id_of (label_of session) ≡ id_of (label_of another) → ⊥
   pub start : then.start ≡ now.start
   pub holds_it : holds setting table pos (Some later) ≡ true
@@ -51,12 +51,12 @@ record HasStart (state : State) (sessions : List SessionData) (time : ℕ) : Typ
   number : ℕ
   session : SessionData
   now : Open
-  current : Current
+  current : MachineOpen
   is_open : IsOpen state sessions number session now current
   before : now.start < time
 
 module _ (setting : Setting) (state : State) (core : CoreData) (sessions : List SessionData) (table chunk pos : ℕ) (old new : Place)
-    (number : ℕ) (session : SessionData) (now then : Open) (current later : Current) (cell : Cell)
+    (number : ℕ) (session : SessionData) (now then : Open) (current later : MachineOpen) (cell : Cell)
     (low : IsBelowIds core) (core_shows : CoreShows state core sessions)
     (shows : PlaceShows setting state core sessions table chunk pos old)
     (goes : GoesOn setting state sessions table pos number session now then current later)
@@ -94,7 +94,7 @@ module _ (setting : Setting) (state : State) (core : CoreData) (sessions : List 
   itself_on : IsOpen state_on on number (went_on session then) then later
   itself_on = opens_here state sessions number session now then current later goes.is_open
 
-  was : (other : ℕ) (another : SessionData) (there : Open) (present : Current) → IsOpen state_on on other another there present
+  was : (other : ℕ) (another : SessionData) (there : Open) (present : MachineOpen) → IsOpen state_on on other another there present
       → WasOpen state sessions number session then later other another there present
   was other another there present one = was_open state sessions number session now then current later goes.is_open other another there present one
 
@@ -163,7 +163,7 @@ module _ (setting : Setting) (state : State) (core : CoreData) (sessions : List 
           ap (λ (s : Stamp). s.owner) same
 
   -- no other identifier was on top
-  none_other : (other : ℕ) (another : SessionData) (there : Open) (present : Current) → (other ≡ number → ⊥)
+  none_other : (other : ℕ) (another : SessionData) (there : Open) (present : MachineOpen) → (other ≡ number → ⊥)
       → IsOpen state sessions other another there present
       → is_own (id_of (label_of another)) (newest old.chain) ≡ false
   none_other other another there present apart one = by_top top_cases
@@ -182,7 +182,7 @@ module _ (setting : Setting) (state : State) (core : CoreData) (sessions : List 
 
   -- ---- the sentences
 
-  own_heads : (other : ℕ) (another : SessionData) (there : Open) (present : Current) → IsOpen state_on on other another there present
+  own_heads : (other : ℕ) (another : SessionData) (there : Open) (present : MachineOpen) → IsOpen state_on on other another there present
       → HasNotStamped setting state_on other table chunk → OwnHead setting table pos new another present
   own_heads other another there present one none = by_who (was other another there present one)
     where
@@ -191,7 +191,7 @@ module _ (setting : Setting) (state : State) (core : CoreData) (sessions : List 
           let label : label_of another ≡ label_of session = ap label_of session_is in
           record {
             holds_it = ap (λ (l : Label). is_own (id_of l) (newest new.chain)) label ∙ (ap (is_own id) own_newest.1.0
-                ∙ (eq-eqb own_newest.0.mark id own_newest.1.1 ∙ sym (ap (λ (c : Current). holds setting table pos (Some c)) current_is ∙ goes.holds_it)));
+                ∙ (eq-eqb own_newest.0.mark id own_newest.1.1 ∙ sym (ap (λ (c : MachineOpen). holds setting table pos (Some c)) current_is ∙ goes.holds_it)));
             owner = λ stamp e mark. own_owner stamp e (mark ∙ ap id_of label) ∙ sym label;
           }
       by_who (stays apart open') =
@@ -248,7 +248,7 @@ module _ (setting : Setting) (state : State) (core : CoreData) (sessions : List 
   }
 
   -- a start before this time was one before
-  started : (other : ℕ) (another : SessionData) (there : Open) (present : Current) → IsOpen state_on on other another there present
+  started : (other : ℕ) (another : SessionData) (there : Open) (present : MachineOpen) → IsOpen state_on on other another there present
       → (time : ℕ) → there.start < time → HasStart state sessions time
   started other another there present one time less = by_who (was other another there present one)
     where
@@ -259,7 +259,7 @@ module _ (setting : Setting) (state : State) (core : CoreData) (sessions : List 
           record { number = number; session = session; now = now; current = current; is_open = goes.is_open; before = omega (arith, alike, start, less) }
       by_who (stays apart open') = record { number = other; session = another; now = there; current = present; is_open = open'; before = less }
 
-  viewer_sees : (other : ℕ) (another : SessionData) (there : Open) (present : Current) → IsOpen state_on on other another there present
+  viewer_sees : (other : ℕ) (another : SessionData) (there : Open) (present : MachineOpen) → IsOpen state_on on other another there present
       → HasNotStamped setting state_on other table chunk → sees (viewer_of another there) new ≡ cell_held setting state_on table pos present
   viewer_sees other another there present one none = by_who (was other another there present one)
     where
@@ -269,7 +269,7 @@ module _ (setting : Setting) (state : State) (core : CoreData) (sessions : List 
           ap (λ (s : ℕ). sees (record { id = id_of (label_of another); start = s }) new) (ap (λ (n : Open). n.start) now_is ∙ goes.start)
           ∙ (ap (λ (l : Label). sees (record { id = id_of l; start = now.start }) new) (ap label_of session_is)
           ∙ (w.own ∙ (sym view_is ∙ (sym (ap (cell_if setting state_on later table pos) goes.holds_it)
-          ∙ sym (ap (λ (c : Current). cell_held setting state_on table pos c) current_is)))))
+          ∙ sym (ap (λ (c : MachineOpen). cell_held setting state_on table pos c) current_is)))))
       by_who (stays apart open') =
           let start = core_shows.times_apart.starts other another there present open' in
           w.others (viewer_of another there) (record {

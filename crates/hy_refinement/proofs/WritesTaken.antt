@@ -21,7 +21,7 @@ use Rattle.hy_event.specs.Events.{Part, ChunkPart}
 use Rattle.hy_event.specs.Turns.{Takes, refused as refuses}
 use Rattle.hy_event.specs.Writing.{WriteVisit, Becomes, changes_by, cells_by, write_turn as write_turn_here}
 use Rattle.hy_machine.specs.declared.Setting.{Setting}
-use Rattle.hy_machine.specs.States.{State, Open as Current, Cause}
+use Rattle.hy_machine.specs.States.{State, Open as MachineOpen, Cause}
 use Rattle.hy_machine.specs.States as stage
 use Rattle.hy_machine.specs.Turns.{Visits, write_turn, ending_of}
 use Rattle.hy_machine.specs.Writes.{Write}
@@ -41,7 +41,7 @@ use Rattle.hy_refinement.proofs.WritesChunk.{AtWork, same_swept}
 use Rattle.hy_refinement.proofs.WritesGoes.{Laws, writes_taken}
 
 module _ (laws : Laws) (setting : Setting) (state : State) (parts : List Part) (sessions : List SessionData) (number : ℕ) (session : SessionData)
-    (now : Open) (current : Current) (table chunk : ℕ) (old : ChunkData) (visited count : ℕ) (sets : Option (List Assign)) (pred : Condition)
+    (now : Open) (current : MachineOpen) (table chunk : ℕ) (old : ChunkData) (visited count : ℕ) (sets : Option (List Assign)) (pred : Condition)
     (at : AtChunk setting state parts sessions number session now current table chunk old)
     (stands_at : AtStatement setting state number now visited count (Some (statement_by table sets pred))) where
   abbrev core : CoreData

@@ -6,7 +6,7 @@ use Rattle.std.specs.List.{list_any}
 use Rattle.std.proofs.lemmas.Bool.{cases_Bool, and_from, or_left, or_right}
 use Rattle.hy_value.specs.declared.Value.{Value}
 use Rattle.hy_machine.specs.declared.Setting.{Setting}
-use Rattle.hy_machine.specs.States.{State, Session, Open as Current, Begun}
+use Rattle.hy_machine.specs.States.{State, Session, Open as MachineOpen, Begun}
 use Rattle.hy_machine.specs.Positions.{item_at}
 use Rattle.hy_machine.specs.Tables.{Cell, chunk_of, opening_tables}
 use Rattle.hy_machine.specs.Writes.{written_chunks, is_among}
@@ -51,7 +51,7 @@ views_alike setting state begun after table pos fits fits_after prefix e = elim 
 
 -- ---- what it holds
 
-pub holds_own : (setting : Setting) (current : Current) (table pos : ℕ) → OwnFits setting current.begun.own → undone current.phase ≡ 0
+pub holds_own : (setting : Setting) (current : MachineOpen) (table pos : ℕ) → OwnFits setting current.begun.own → undone current.phase ≡ 0
     → holds setting table pos (Some current) ≡ is_some (item_at current.begun.own table pos)
 holds_own setting current table pos fits none = elim (cases_Bool (is_some (item_at current.begun.own table pos))) [
   | inl own ↦
@@ -70,12 +70,12 @@ no_item None e = refl
 no_item (Some x) e = absurd cc
 
 -- its cell, by whether it holds the position
-abbrev pub cell_if : Setting → State → Current → ℕ → ℕ → Bool → Cell
+abbrev pub cell_if : Setting → State → MachineOpen → ℕ → ℕ → Bool → Cell
 cell_if setting state current table pos held =
     cond held (item_at (view setting state current.begun) table pos) (item_at (snapshot setting state current.begun.prefix) table pos)
 
 -- its cell is that of its view
-pub held_is_view : (setting : Setting) (state : State) (current : Current) (table pos : ℕ) → OwnFits setting current.begun.own → undone current.phase ≡ 0
+pub held_is_view : (setting : Setting) (state : State) (current : MachineOpen) (table pos : ℕ) → OwnFits setting current.begun.own → undone current.phase ≡ 0
     → cell_held setting state table pos current ≡ item_at (view setting state current.begun) table pos
 held_is_view setting state current table pos fits none = elim (cases_Bool (holds setting table pos (Some current))) [
   | inl held ↦
@@ -97,7 +97,7 @@ unused_stays setting state table pos prefix within none =
       | inl there ↦ absurd (let f = sym none ∙ any_true (has_pair table pos) state.order rank entry e there in cc)
     ])
 
-pub used_where_seen : (setting : Setting) (state : State) (number : ℕ) (current : Current) (table pos : ℕ) (row : List Value) → Kept setting state
+pub used_where_seen : (setting : Setting) (state : State) (number : ℕ) (current : MachineOpen) (table pos : ℕ) (row : List Value) → Kept setting state
     → (session_at state number).now ≡ Some current
     → cell_held setting state table pos current ≡ Some row → is_used setting state table pos ≡ true
 used_where_seen setting state number current table pos row kept there seen =

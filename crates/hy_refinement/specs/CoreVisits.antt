@@ -19,7 +19,7 @@ use Rattle.hy_event.specs.Turns.{Enters as enters, Waits as waits, refused as re
 use Rattle.hy_event.specs.CoreTurns.{TakesAtCore, begin_turn, close_turn, leave_turn, invalid_by}
 use Rattle.hy_event.specs.Events.{Part, CorePart}
 use Rattle.hy_machine.specs.declared.Setting.{Setting}
-use Rattle.hy_machine.specs.States.{State, Open as Current, Cause}
+use Rattle.hy_machine.specs.States.{State, Open as MachineOpen, Cause}
 use Rattle.hy_machine.specs.Turns.{Waits, Begins, Enters, Ends, refused, ending_of}
 use Rattle.hy_machine.specs.Writes.{written_chunks, wrote_nothing}
 use Rattle.hy_machine.specs.Sessions.{blocker}
@@ -54,14 +54,14 @@ BeginsAreTaken =
     → IsTaken setting state parts sessions number Begins (core_number setting) progress after (CorePart new)
 
 -- an open transaction holds no position
-abbrev pub HoldsNothing : Setting → Current → Type 0
+abbrev pub HoldsNothing : Setting → MachineOpen → Type 0
 HoldsNothing setting current = (table pos : ℕ) → holds setting table pos (Some current) ≡ false
 
 -- a transaction that has no entry and holds nothing ends
 abbrev pub ClosesAreTaken : Type 0
 ClosesAreTaken =
     (setting : Setting) (state : State) (parts : List Part) (sessions : List SessionData) (number : ℕ) (session : SessionData)
-    (now : Open) (current : Current) (ending : Ending) (progress : Progress) (after : SessionData) (new : CoreData)
+    (now : Open) (current : MachineOpen) (ending : Ending) (progress : Progress) (after : SessionData) (new : CoreData)
     → (at : AtOpen setting state parts sessions number session now current) → IsFreeToGo state number
     → is_stamping current.phase ≡ false → HoldsNothing setting current
     → TakesAtCore session (Some (close_turn at.shown.shows.core now ending)) progress after new
@@ -71,7 +71,7 @@ ClosesAreTaken =
 abbrev pub LeavesAreTaken : Type 0
 LeavesAreTaken =
     (setting : Setting) (state : State) (parts : List Part) (sessions : List SessionData) (number : ℕ) (session : SessionData)
-    (now : Open) (current : Current) (visited time : ℕ) (progress : Progress) (after : SessionData) (new : CoreData)
+    (now : Open) (current : MachineOpen) (visited time : ℕ) (progress : Progress) (after : SessionData) (new : CoreData)
     → (at : AtOpen setting state parts sessions number session now current)
     → now.phase ≡ phase.Stamping visited time → length (written_chunks setting current.begun.own) ≤ visited
     → TakesAtCore session (Some (leave_turn at.shown.shows.core now)) progress after new
@@ -83,7 +83,7 @@ LeavesAreTaken =
 abbrev pub NotesAreWrites : Type 0
 NotesAreWrites =
     (setting : Setting) (state : State) (parts : List Part) (sessions : List SessionData) (number : ℕ) (session : SessionData)
-    (now : Open) (current : Current)
+    (now : Open) (current : MachineOpen)
     → AtOpen setting state parts sessions number session now current → is_stamping current.phase ≡ false
     → (length now.notes == 0) ≡ wrote_nothing current.begun.own
 
@@ -91,7 +91,7 @@ NotesAreWrites =
 abbrev pub HitsAreTheMachines : Type 0
 HitsAreTheMachines =
     (setting : Setting) (state : State) (parts : List Part) (sessions : List SessionData) (number : ℕ) (session : SessionData)
-    (now : Open) (current : Current)
+    (now : Open) (current : MachineOpen)
     → (at : AtOpen setting state parts sessions number session now current)
     → option_map (invalid_by now.records) (first_invalid now.records (drop now.prefix at.shown.shows.core.entries))
     ≡ option_map ending_of (first_hit current.begun.records (map committed_of (drop current.begun.prefix state.order)))
@@ -100,7 +100,7 @@ HitsAreTheMachines =
 abbrev pub EntersAreTaken : Type 0
 EntersAreTaken =
     (setting : Setting) (state : State) (parts : List Part) (sessions : List SessionData) (number : ℕ) (session : SessionData)
-    (now : Open) (current : Current) (visited count : ℕ) (progress : Progress) (after : SessionData) (new : CoreData)
+    (now : Open) (current : MachineOpen) (visited count : ℕ) (progress : Progress) (after : SessionData) (new : CoreData)
     → (at : AtOpen setting state parts sessions number session now current) → IsFreeToGo state number
     → AtStatement setting state number now visited count None
     → TakesAtCore session
@@ -113,7 +113,7 @@ EntersAreTaken =
 abbrev pub RefusalsAreTaken : Type 0
 RefusalsAreTaken =
     (setting : Setting) (state : State) (parts : List Part) (sessions : List SessionData) (number : ℕ) (session : SessionData)
-    (now : Open) (current : Current) (visited count : ℕ) (cause : Cause) (part : ℕ) (present : Part) (progress : Progress) (after : SessionData)
+    (now : Open) (current : MachineOpen) (visited count : ℕ) (cause : Cause) (part : ℕ) (present : Part) (progress : Progress) (after : SessionData)
     → AtOpen setting state parts sessions number session now current
     → now.phase ≡ phase.Working visited count → slice_get parts part ≡ Some present
     → Takes session (refuses (ending_of cause)) progress after

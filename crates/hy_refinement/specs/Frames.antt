@@ -17,7 +17,7 @@ use Rattle.hy_event.specs.Turns.{Takes, Visits as visits, Answers as answers, af
 use Rattle.hy_event.specs.Changing.{PrunesFirst}
 use Rattle.hy_event.specs.Events.{Part, ChunkPart}
 use Rattle.hy_machine.specs.declared.Setting.{Setting}
-use Rattle.hy_machine.specs.States.{State, Open as Current, Phase as Stage}
+use Rattle.hy_machine.specs.States.{State, Open as MachineOpen, Phase as Stage}
 use Rattle.hy_machine.specs.Writes.{Write, with_write}
 use Rattle.hy_machine.specs.Turns.{Visits, Answers}
 use Rattle.hy_machine.specs.Positions.{item_at}
@@ -39,7 +39,7 @@ use Rattle.hy_machine.specs.Kept.{OwnFits}
 -- ---- a transaction goes on
 
 -- the state where a session's open transaction is this one
-abbrev pub gone_on : State → ℕ → Current → State
+abbrev pub gone_on : State → ℕ → MachineOpen → State
 gone_on state number current = with_session state number (record { done = (session_at state number).done; now = Some current })
 
 -- a session whose open transaction is this one
@@ -51,7 +51,7 @@ abbrev pub sessions_on : List SessionData → ℕ → SessionData → Open → L
 sessions_on sessions number session now = slice_set sessions number (went_on session now)
 
 -- what a transaction keeps as it goes on: its start, its prefixes, its cover
-pub record KeepsStart (now then : Open) (current later : Current) : Type 0 where
+pub record KeepsStart (now then : Open) (current later : MachineOpen) : Type 0 where
   pub start : then.start ≡ now.start
   pub prefix : then.prefix ≡ now.prefix
   pub cover : then.cover ≡ now.cover
@@ -59,14 +59,14 @@ pub record KeepsStart (now then : Open) (current later : Current) : Type 0 where
   pub low_there : later.begun.low ≡ current.begun.low
 
 -- where it went on to is what the machine's went on to
-pub record WentOn (setting : Setting) (state : State) (core : CoreData) (number : ℕ) (then : Open) (later : Current) : Type 0 where
+pub record WentOn (setting : Setting) (state : State) (core : CoreData) (number : ℕ) (then : Open) (later : MachineOpen) : Type 0 where
   pub open_shows : DoneSoFar then later
   pub notes_show : state.mark ≢ Some number → NotesShow setting state then later
   pub gathered_shows : GatheredShows setting state number then later
   pub stamping : (visited time : ℕ) → then.phase ≡ phase.Stamping visited time → StampingShows core then later time
 
 -- at a position it stands as before: it holds it or not, has its cell there, and has stamped its chunk or not
-pub record StandsAsBefore (setting : Setting) (state : State) (number table chunk pos : ℕ) (current later : Current) : Type 0 where
+pub record StandsAsBefore (setting : Setting) (state : State) (number table chunk pos : ℕ) (current later : MachineOpen) : Type 0 where
   pub holds_it : holds setting table pos (Some later) ≡ holds setting table pos (Some current)
   pub cell : cell_held setting state table pos later ≡ cell_held setting state table pos current
   pub unstamped : is_unstamped setting (gone_on state number later) table chunk ≡ is_unstamped setting state table chunk
@@ -77,14 +77,14 @@ pub record StandsAsBefore (setting : Setting) (state : State) (number table chun
 abbrev pub UnmovedPlacesShow : Type 0
 UnmovedPlacesShow =
     (setting : Setting) (state : State) (core : CoreData) (sessions : List SessionData) (number : ℕ) (session : SessionData)
-    (now then : Open) (current later : Current) (table chunk pos : ℕ) (place : Place)
+    (now then : Open) (current later : MachineOpen) (table chunk pos : ℕ) (place : Place)
     → IsOpen state sessions number session now current → KeepsStart now then current later
     → StandsAsBefore setting state number table chunk pos current later
     → PlaceShows setting state core sessions table chunk pos place
     → PlaceShows setting (gone_on state number later) core (sessions_on sessions number session then) table chunk pos place
 
 -- it stands as before at every position of the other chunks
-abbrev pub StandsElsewhere : Setting → State → ℕ → Current → Current → ℕ → ℕ → Type 0
+abbrev pub StandsElsewhere : Setting → State → ℕ → MachineOpen → MachineOpen → ℕ → ℕ → Type 0
 StandsElsewhere setting state number current later table chunk =
     (other another index : ℕ) → ((other ≡ table) × (another ≡ chunk) → ⊥) → index < setting.rows
     → StandsAsBefore setting state number other another (another * setting.rows + index) current later
@@ -99,7 +99,7 @@ ChunkShows setting state core sessions table chunk part =
 abbrev pub ChunkVisitsShow : Type 0
 ChunkVisitsShow =
     (setting : Setting) (state : State) (parts : List Part) (sessions : List SessionData) (number : ℕ) (session : SessionData)
-    (now then : Open) (current later : Current) (table chunk : ℕ) (old new : ChunkData)
+    (now then : Open) (current later : MachineOpen) (table chunk : ℕ) (old new : ChunkData)
     → (at : AtChunk setting state parts sessions number session now current table chunk old)
     → KeepsStart now then current later → WentOn setting state at.at_open.shown.shows.core number then later
     → StandsElsewhere setting state number current later table chunk → ChunkIs setting table chunk new
@@ -111,7 +111,7 @@ ChunkVisitsShow =
 abbrev pub OwnStepsShow : Type 0
 OwnStepsShow =
     (setting : Setting) (state : State) (parts : List Part) (sessions : List SessionData) (number : ℕ) (session : SessionData)
-    (now then : Open) (current later : Current)
+    (now then : Open) (current later : MachineOpen)
     → (at : AtOpen setting state parts sessions number session now current)
     → KeepsStart now then current later → WentOn setting state at.shown.shows.core number then later
     → ((table chunk index : ℕ) → index < setting.rows
@@ -132,21 +132,21 @@ PrunedChunksShow =
 abbrev pub VisitedChunksShow : Type 0
 VisitedChunksShow =
     (setting : Setting) (state : State) (parts : List Part) (sessions : List SessionData) (number : ℕ) (session : SessionData)
-    (now : Open) (current : Current) (table chunk : ℕ) (old : ChunkData)
+    (now : Open) (current : MachineOpen) (table chunk : ℕ) (old : ChunkData)
     → (at : AtChunk setting state parts sessions number session now current table chunk old)
     → ChunkIs setting table chunk old × ChunkShows setting state at.at_open.shown.shows.core sessions table chunk old
 
 -- a turn that goes on is taken where what it goes on to is shown
 pub record GoingOnIsTaken : Type 0 where
   pub visits : (setting : Setting) (state : State) (parts : List Part) (sessions : List SessionData) (number : ℕ) (session : SessionData)
-      (now : Open) (current : Current) (changes : List Change) (phase : Phase) (writes : List Write) (stage : Stage)
+      (now : Open) (current : MachineOpen) (changes : List Change) (phase : Phase) (writes : List Write) (stage : Stage)
       (part : ℕ) (progress : Progress) (after : SessionData) (new : Part)
       → IsOpen state sessions number session now current → Takes session (visits changes phase) progress after
       → Shows setting (gone_on state number (after_visit writes stage current)) (slice_set parts part new)
       (sessions_on sessions number session (visited_by changes phase now))
       → IsTaken setting state parts sessions number (Visits writes stage) part progress after new
   pub answers : (setting : Setting) (state : State) (parts : List Part) (sessions : List SessionData) (number : ℕ) (session : SessionData)
-      (now : Open) (current : Current) (changes : List Change) (reply : Reply) (took : Option ℕ) (records : List Record) (writes : List Write)
+      (now : Open) (current : MachineOpen) (changes : List Change) (reply : Reply) (took : Option ℕ) (records : List Record) (writes : List Write)
       (part : ℕ) (progress : Progress) (after : SessionData) (new : Part)
       → IsOpen state sessions number session now current → Takes session (answers changes reply took records) progress after
       → Shows setting (gone_on state number (after_answer writes reply took records current)) (slice_set parts part new)
@@ -156,13 +156,13 @@ pub record GoingOnIsTaken : Type 0 where
 -- ---- notes
 
 -- an open transaction with a cell more that it wrote
-abbrev pub with_own : Current → Write → Current
+abbrev pub with_own : MachineOpen → Write → MachineOpen
 with_own current write = record current { begun = record current.begun { own = with_write current.begun.own write } }
 
 -- a change that is noted, from what the transaction sees at a position, shows the cell that it writes there
 abbrev pub NotesFollowWrites : Type 0
 NotesFollowWrites =
-    (setting : Setting) (state : State) (now : Open) (current : Current) (table pos : ℕ) (cell : Cell)
+    (setting : Setting) (state : State) (now : Open) (current : MachineOpen) (table pos : ℕ) (cell : Cell)
     → OwnFits setting current.begun.own → table < length setting.first → pos < capacity setting
     → NotesShow setting state now current
     → NotesShow setting state

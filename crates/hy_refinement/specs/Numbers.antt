@@ -9,7 +9,7 @@ use Rattle.hy_journal.specs.declared.Entry.{Entry}
 use Rattle.hy_event.specs.declared.SessionData.{SessionData}
 use Rattle.hy_event.specs.declared.Open.{Open}
 use Rattle.hy_event.specs.declared.Phase.TheVariants as phase
-use Rattle.hy_machine.specs.States.{State, Open as Current}
+use Rattle.hy_machine.specs.States.{State, Open as MachineOpen}
 use Rattle.hy_machine.specs.Tables.{Entry as Entered, Pair}
 use Rattle.hy_machine.specs.Positions.{item_at}
 use Rattle.hy_machine.specs.Writes.{written}
@@ -60,7 +60,7 @@ pub record IsStart (state : State) (sessions : List SessionData) (start : ℕ) :
   pub number : ℕ
   pub session : SessionData
   pub now : Open
-  pub current : Current
+  pub current : MachineOpen
   pub is_open : IsOpen state sessions number session now current
   pub start_is : now.start ≡ start
 
@@ -78,7 +78,7 @@ marked_label state = option_map (λ marked. label_of marked (session_at state ma
 
 -- a transaction that stands between its entry and its end: its time is that of the last entry, and it has the places
 -- that it wrote
-pub record StampingShows (core : CoreData) (now : Open) (current : Current) (time : ℕ) : Type 0 where
+pub record StampingShows (core : CoreData) (now : Open) (current : MachineOpen) (time : ℕ) : Type 0 where
   pub entry : Entry
   pub last : slice_get core.entries (length core.entries - 1) ≡ Some entry
   pub time_is : entry.time ≡ time

@@ -15,7 +15,7 @@ use Rattle.hy_event.specs.declared.SessionData.{SessionData}
 use Rattle.hy_event.specs.declared.Open.{Open}
 use Rattle.hy_event.specs.Sessions.{label_of, viewer_of}
 use Rattle.hy_machine.specs.declared.Setting.{Setting}
-use Rattle.hy_machine.specs.States.{State, Open as Current}
+use Rattle.hy_machine.specs.States.{State, Open as MachineOpen}
 use Rattle.hy_machine.specs.Tables.{Entry as Entered, opening_tables}
 use Rattle.hy_machine.specs.Positions.{item_at, last_some}
 use Rattle.hy_machine.specs.Sessions.{snapshot, view}
@@ -30,7 +30,7 @@ pub record IsOwnStamp (setting : Setting) (state : State) (sessions : List Sessi
   pub number : ℕ
   pub session : SessionData
   pub now : Open
-  pub current : Current
+  pub current : MachineOpen
   pub is_open : IsOpen state sessions number session now current
   pub not_stamped : HasNotStamped setting state number table chunk
   pub mark_is : stamp.mark ≡ id_of (label_of session)
@@ -48,7 +48,7 @@ pub record IsOfWriter (setting : Setting) (state : State) (core : CoreData) (tab
   pub mark_is : stamp.mark ≡ entry.time
 
 -- the newest mark is an open transaction's identifier exactly where it holds the position, and then its owner is it
-pub record OwnHead (setting : Setting) (table pos : ℕ) (place : Place) (session : SessionData) (current : Current) : Type 0 where
+pub record OwnHead (setting : Setting) (table pos : ℕ) (place : Place) (session : SessionData) (current : MachineOpen) : Type 0 where
   pub holds_it : is_own (id_of (label_of session)) (newest place.chain) ≡ holds setting table pos (Some current)
   pub owner : (stamp : Stamp) → newest place.chain ≡ Some stamp → stamp.mark ≡ id_of (label_of session) → stamp.owner ≡ label_of session
 
@@ -87,7 +87,7 @@ LastWriterOnTop setting state core sessions table chunk pos place =
 -- ---- what is seen
 
 -- the cell of an open transaction: its own where it holds the position, else that of its start
-abbrev pub cell_held : Setting → State → ℕ → ℕ → Current → Cell
+abbrev pub cell_held : Setting → State → ℕ → ℕ → MachineOpen → Cell
 cell_held setting state table pos current =
     if holds setting table pos (Some current)
     then item_at (view setting state current.begun) table pos

@@ -21,7 +21,7 @@ use Rattle.hy_event.specs.declared.Phase.{Phase}
 use Rattle.hy_event.specs.declared.Phase.TheVariants as phase
 use Rattle.hy_event.specs.Gathering.{ReadPlan, select_read_plan, group_read_plan, joined_columns, conditions_by}
 use Rattle.hy_machine.specs.declared.Setting.{Setting}
-use Rattle.hy_machine.specs.States.{State, Open as Current, Phase as Stage}
+use Rattle.hy_machine.specs.States.{State, Open as MachineOpen, Phase as Stage}
 use Rattle.hy_machine.specs.States as stage
 use Rattle.hy_machine.specs.Positions.{item_at}
 use Rattle.hy_machine.specs.Tables.{Tables}
@@ -72,7 +72,7 @@ PhaseShows (phase.Undoing visited ending) (stage.Stamping other) = ⊥
 PhaseShows (phase.Undoing visited ending) (stage.Undoing other cause) = (visited ≡ other) × (ending ≡ ending_of cause)
 
 -- its prefix, its answered statements, and where it stands
-pub record DoneSoFar (now : Open) (current : Current) : Type 0 where
+pub record DoneSoFar (now : Open) (current : MachineOpen) : Type 0 where
   pub prefix : now.prefix ≡ current.begun.prefix
   pub replies : now.replies ≡ current.begun.replies
   pub records : now.records ≡ current.begun.records
@@ -80,7 +80,7 @@ pub record DoneSoFar (now : Open) (current : Current) : Type 0 where
   pub phase : PhaseShows now.phase current.phase
 
 -- its notes have at every position the cell that it saw at its start and the one that it wrote
-pub record NotesShow (setting : Setting) (state : State) (now : Open) (current : Current) : Type 0 where
+pub record NotesShow (setting : Setting) (state : State) (now : Open) (current : MachineOpen) : Type 0 where
   pub notes : (table pos : ℕ) → note_at now.notes table pos
       ≡ noted (pair_of (item_at (snapshot setting state current.begun.prefix) table pos) (item_at current.begun.own table pos))
   pub ascends : Ascends now.notes
@@ -124,7 +124,7 @@ statement_at (Some txn) answered = slice_get txn.statements answered
 
 -- while a SELECT reads, what is gathered is what its plan takes of the visited chunks, of the rows that the
 -- transaction sees
-abbrev pub GatheredShows : Setting → State → ℕ → Open → Current → Type 0
+abbrev pub GatheredShows : Setting → State → ℕ → Open → MachineOpen → Type 0
 GatheredShows setting state number now current =
     (visited count : ℕ) → now.phase ≡ phase.Working visited count
     → GatheredBy setting (view setting state current.begun) visited now.gathered
@@ -132,7 +132,7 @@ GatheredShows setting state number now current =
 
 -- ---- an open transaction
 
-pub record OpenShows (setting : Setting) (state : State) (core : CoreData) (number : ℕ) (now : Open) (current : Current) : Type 0 where
+pub record OpenShows (setting : Setting) (state : State) (core : CoreData) (number : ℕ) (now : Open) (current : MachineOpen) : Type 0 where
   -- the entries of its prefix are those with a time below its start
   pub prefix_counts : CountsBelow core.entries now.prefix now.start
   -- and those of its low prefix are those with a time below its watermark
@@ -144,7 +144,7 @@ pub record OpenShows (setting : Setting) (state : State) (core : CoreData) (numb
   pub gathered_shows : GatheredShows setting state number now current
 
 -- a transaction is open in the engine where it is in the machine, and shows it
-abbrev pub NowShows : Setting → State → CoreData → ℕ → Option Open → Option Current → Type 0
+abbrev pub NowShows : Setting → State → CoreData → ℕ → Option Open → Option MachineOpen → Type 0
 NowShows setting state core number None None = Unit {0}
 NowShows setting state core number None (Some current) = ⊥
 NowShows setting state core number (Some now) None = ⊥

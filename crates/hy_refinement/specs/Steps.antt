@@ -12,7 +12,7 @@ use Rattle.hy_event.specs.declared.Progress.{Progress}
 use Rattle.hy_event.specs.Needs.{need_of}
 use Rattle.hy_event.specs.Events.{Part, part_number, NeededVisit}
 use Rattle.hy_machine.specs.declared.Setting.{Setting}
-use Rattle.hy_machine.specs.States.{State, Open as Current}
+use Rattle.hy_machine.specs.States.{State, Open as MachineOpen}
 use Rattle.hy_machine.specs.Tables.{Tables}
 use Rattle.hy_machine.specs.Sessions.{session_at, txn_at, view}
 use Rattle.hy_machine.specs.Turns.{turn, rows_seen}
@@ -32,7 +32,7 @@ ReadsFit setting seen (Some (Delete table pred)) = Unit {0}
 
 -- so it is for the present statement of every open transaction
 abbrev pub ViewsFit : Setting → State → Type 0
-ViewsFit setting state = (number : ℕ) (current : Current) → IsNow state number current
+ViewsFit setting state = (number : ℕ) (current : MachineOpen) → IsNow state number current
     → ReadsFit setting (view setting state current.begun)
     (statement_at (txn_at setting number (session_at state number)) (length current.begun.replies))
 

@@ -9,7 +9,7 @@ use Rattle.hy_event.specs.declared.Progress.{Progress}
 use Rattle.hy_event.specs.declared.Progress.TheVariants as progress
 use Rattle.hy_event.specs.Events.{Part}
 use Rattle.hy_machine.specs.declared.Setting.{Setting}
-use Rattle.hy_machine.specs.States.{State, Open as Current}
+use Rattle.hy_machine.specs.States.{State, Open as MachineOpen}
 use Rattle.hy_machine.specs.Turns.{Turn}
 use Rattle.hy_machine.specs.declared.Stepped.{Stepped}
 use Rattle.hy_machine.specs.declared.Stepped.TheVariants.{Blocked, Moved, Answered}
@@ -34,13 +34,13 @@ pub record ShownState (setting : Setting) (state : State) (parts : List Part) (s
 
 -- a session with an open transaction
 pub record AtOpen (setting : Setting) (state : State) (parts : List Part) (sessions : List SessionData) (number : ℕ)
-    (session : SessionData) (now : Open) (current : Current) : Type 0 where
+    (session : SessionData) (now : Open) (current : MachineOpen) : Type 0 where
   pub shown : ShownState setting state parts sessions
   pub is_open : IsOpen state sessions number session now current
 
 -- and a chunk that it visits
 pub record AtChunk (setting : Setting) (state : State) (parts : List Part) (sessions : List SessionData) (number : ℕ)
-    (session : SessionData) (now : Open) (current : Current) (table chunk : ℕ) (old : ChunkData) : Type 0 where
+    (session : SessionData) (now : Open) (current : MachineOpen) (table chunk : ℕ) (old : ChunkData) : Type 0 where
   pub at_open : AtOpen setting state parts sessions number session now current
   pub is_part : IsChunkPart setting parts table chunk old
 

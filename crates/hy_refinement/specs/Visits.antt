@@ -24,7 +24,7 @@ use Rattle.hy_event.specs.Stamping.{StampVisit}
 use Rattle.hy_event.specs.Undoing.{UndoVisit}
 use Rattle.hy_event.specs.Events.{Part, ChunkPart}
 use Rattle.hy_machine.specs.declared.Setting.{Setting}
-use Rattle.hy_machine.specs.States.{State, Open as Current, Cause}
+use Rattle.hy_machine.specs.States.{State, Open as MachineOpen, Cause}
 use Rattle.hy_machine.specs.States as stage
 use Rattle.hy_machine.specs.Turns.{Visits, rows_seen, read_turn, write_turn, check_turn, place_turn, ending_of}
 use Rattle.hy_machine.specs.Writes.{written_chunks}
@@ -41,7 +41,7 @@ use Rattle.hy_refinement.specs.Taken.{AtOpen, AtChunk, AtStatement, IsTaken, chu
 abbrev pub SelectsAreTaken : Type 0
 SelectsAreTaken =
     (setting : Setting) (state : State) (parts : List Part) (sessions : List SessionData) (number : ℕ) (session : SessionData)
-    (now : Open) (current : Current) (table chunk : ℕ) (old : ChunkData) (visited count : ℕ) (tables : List ℕ) (ons : List On) (pred : Condition) (items : Items)
+    (now : Open) (current : MachineOpen) (table chunk : ℕ) (old : ChunkData) (visited count : ℕ) (tables : List ℕ) (ons : List On) (pred : Condition) (items : Items)
     (progress : Progress) (after : SessionData) (new : ChunkData)
     → AtChunk setting state parts sessions number session now current table chunk old
     → AtStatement setting state number now visited count (Some (Select tables ons pred items))
@@ -58,7 +58,7 @@ SelectsAreTaken =
 abbrev pub GroupsAreTaken : Type 0
 GroupsAreTaken =
     (setting : Setting) (state : State) (parts : List Part) (sessions : List SessionData) (number : ℕ) (session : SessionData)
-    (now : Open) (current : Current) (table chunk : ℕ) (old : ChunkData) (visited count : ℕ) (pred : Condition) (key : ℕ) (aggregate : Aggregate)
+    (now : Open) (current : MachineOpen) (table chunk : ℕ) (old : ChunkData) (visited count : ℕ) (pred : Condition) (key : ℕ) (aggregate : Aggregate)
     (progress : Progress) (after : SessionData) (new : ChunkData)
     → AtChunk setting state parts sessions number session now current table chunk old
     → AtStatement setting state number now visited count (Some (Group table pred key aggregate)) → chunk ≡ visited
@@ -75,7 +75,7 @@ GroupsAreTaken =
 abbrev pub ChecksAreTaken : Type 0
 ChecksAreTaken =
     (setting : Setting) (state : State) (parts : List Part) (sessions : List SessionData) (number : ℕ) (session : SessionData)
-    (now : Open) (current : Current) (table chunk : ℕ) (old : ChunkData) (visited count : ℕ) (row : List Value) (key : ℕ)
+    (now : Open) (current : MachineOpen) (table chunk : ℕ) (old : ChunkData) (visited count : ℕ) (row : List Value) (key : ℕ)
     (progress : Progress) (after : SessionData) (new : ChunkData)
     → AtChunk setting state parts sessions number session now current table chunk old
     → AtStatement setting state number now visited count (Some (Insert table row)) → chunk ≡ visited
@@ -88,7 +88,7 @@ ChecksAreTaken =
 abbrev pub PlacesAreTaken : Type 0
 PlacesAreTaken =
     (setting : Setting) (state : State) (parts : List Part) (sessions : List SessionData) (number : ℕ) (session : SessionData)
-    (now : Open) (current : Current) (table chunk : ℕ) (old : ChunkData) (visited count : ℕ) (row : List Value)
+    (now : Open) (current : MachineOpen) (table chunk : ℕ) (old : ChunkData) (visited count : ℕ) (row : List Value)
     (progress : Progress) (after : SessionData) (new : ChunkData)
     → AtChunk setting state parts sessions number session now current table chunk old
     → AtStatement setting state number now visited count (Some (Insert table row))
@@ -108,7 +108,7 @@ statement_by table (Some sets) pred = Update table sets pred
 abbrev pub WritesAreTaken : Type 0
 WritesAreTaken =
     (setting : Setting) (state : State) (parts : List Part) (sessions : List SessionData) (number : ℕ) (session : SessionData)
-    (now : Open) (current : Current) (table chunk : ℕ) (old : ChunkData) (visited count : ℕ) (sets : Option (List Assign)) (pred : Condition)
+    (now : Open) (current : MachineOpen) (table chunk : ℕ) (old : ChunkData) (visited count : ℕ) (sets : Option (List Assign)) (pred : Condition)
     (progress : Progress) (after : SessionData) (new : ChunkData)
     → AtChunk setting state parts sessions number session now current table chunk old
     → AtStatement setting state number now visited count (Some (statement_by table sets pred)) → chunk ≡ visited
@@ -124,7 +124,7 @@ WritesAreTaken =
 abbrev pub StampsAreTaken : Type 0
 StampsAreTaken =
     (setting : Setting) (state : State) (parts : List Part) (sessions : List SessionData) (number : ℕ) (session : SessionData)
-    (now : Open) (current : Current) (table chunk : ℕ) (old : ChunkData) (visited time : ℕ)
+    (now : Open) (current : MachineOpen) (table chunk : ℕ) (old : ChunkData) (visited time : ℕ)
     (progress : Progress) (after : SessionData) (new : ChunkData)
     → AtChunk setting state parts sessions number session now current table chunk old
     → now.phase ≡ phase.Stamping visited time
@@ -138,7 +138,7 @@ StampsAreTaken =
 abbrev pub UndosAreTaken : Type 0
 UndosAreTaken =
     (setting : Setting) (state : State) (parts : List Part) (sessions : List SessionData) (number : ℕ) (session : SessionData)
-    (now : Open) (current : Current) (table chunk : ℕ) (old : ChunkData) (visited : ℕ) (cause : Cause)
+    (now : Open) (current : MachineOpen) (table chunk : ℕ) (old : ChunkData) (visited : ℕ) (cause : Cause)
     (progress : Progress) (after : SessionData) (new : ChunkData)
     → AtChunk setting state parts sessions number session now current table chunk old
     → is_stamping current.phase ≡ false → undone current.phase ≡ visited
@@ -154,6 +154,6 @@ UndosAreTaken =
 abbrev pub WrittenChunksAreTheMachines : Type 0
 WrittenChunksAreTheMachines =
     (setting : Setting) (state : State) (parts : List Part) (sessions : List SessionData) (number : ℕ) (session : SessionData)
-    (now : Open) (current : Current)
+    (now : Open) (current : MachineOpen)
     → AtOpen setting state parts sessions number session now current
     → chunks_written session now ≡ written_chunks setting current.begun.own

@@ -12,7 +12,7 @@ ghost use Rattle.hy_session.specs.Entered.{has_entry, is_stamping};
 ghost use Rattle.hy_session.specs.CoreSteps.{leaves, turn_by};
 
 use crate::numbers::elements_behind;
-use crate::{Running, Session};
+use crate::{OpenTransaction, Session};
 use hy_bound::{Record, Txn};
 use hy_core::Core;
 use hy_event::Phase;
@@ -67,7 +67,7 @@ fn refusal(records: &[Record], invalid: Invalid) -> Ending
 }
 
 /// COMMIT of a transaction that wrote: validation refuses it, or it enters the journal.
-fn validate(alloc: Global, core: &Core, now: &Running) -> Result<CoreStep, AllocError>
+fn validate(alloc: Global, core: &Core, now: &OpenTransaction) -> Result<CoreStep, AllocError>
     ensures turn { IfOk result (λ step. (session : SessionData) → session.now ≡ Some now.now
         → validated_turn session core.now now.now (first_invalid now.now.records (drop now.now.prefix core.now.entries)) ≡ turn_by step session core.now) }
     ensures stays { IfOk result (λ step. leaves step ≡ false) }
@@ -82,7 +82,12 @@ fn validate(alloc: Global, core: &Core, now: &Running) -> Result<CoreStep, Alloc
 }
 
 /// COMMIT of a transaction of this label.
-fn commit(alloc: Global, core: &Core, label: Label, now: &Running) -> Result<CoreStep, AllocError>
+fn commit(
+    alloc: Global,
+    core: &Core,
+    label: Label,
+    now: &OpenTransaction,
+) -> Result<CoreStep, AllocError>
     ensures turn { IfOk result (λ step. (session : SessionData) → session.now ≡ Some now.now → label_of session ≡ label
         → unless_blocked core.now (blocked_by core.now label) (commit_turn session core.now now.now now.now.notes) ≡ turn_by step session core.now) }
     ensures stays { IfOk result (λ step. leaves step ≡ false) }
@@ -112,7 +117,7 @@ impl Session {
         alloc: Global,
         core: &Core,
         txn: &Txn,
-        now: &Running,
+        now: &OpenTransaction,
     ) -> Result<CoreStep, AllocError>
         requires is_open { self.now.now ≡ Some now.now }
         requires needs { phase_need self.now txn.now now.now now.now.phase ≡ Need.Core }

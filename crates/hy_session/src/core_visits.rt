@@ -13,7 +13,7 @@ ghost use Rattle.hy_session.specs.CoreSteps.{closed_by, entered_by, left_by};
 
 use crate::core_steps::CoreStep;
 use crate::ends::written_places;
-use crate::{Running, Session};
+use crate::{OpenTransaction, Session};
 use hy_core::Core;
 use hy_event::{Phase, Progress};
 use hy_notes::Changes;
@@ -28,7 +28,7 @@ fn begin_transaction(
     alloc: Global,
     core: &mut Core,
     spare: &mut Changes,
-) -> Result<Running, AllocError>
+) -> Result<OpenTransaction, AllocError>
     requires clock { core.old.next < 2 ^ 63 }
     requires few { length core.old.entries < 2 ^ 32 }
     requires none_noted { spare.old.notes ≡ [] }
@@ -39,7 +39,7 @@ fn begin_transaction(
 {
     let prefix = core.since(0).len() as u32;
     let begun = core.begin()?;
-    Ok(Running {
+    Ok(OpenTransaction {
         start: begun.start,
         prefix,
         cover: begun.cover,

@@ -9,7 +9,7 @@ ghost use Rattle.hy_event.specs.Sessions.{place_noted, txn_at, written};
 ghost use Rattle.hy_event.specs.Turns.{with_ended};
 ghost use Rattle.hy_session.specs.Entered.{is_stamping};
 
-use crate::{Running, Session};
+use crate::{OpenTransaction, Session};
 use hy_bound::Bound;
 use hy_event::Phase;
 use hy_render::{Ending, Place, Places, TxnOutcome};
@@ -77,7 +77,7 @@ fn places_of(alloc: Global, notes: &[Change]) -> Result<Places, AllocError>
 }
 
 /// The positions that an open transaction wrote. Until its entry has its notes they are those of the notes.
-pub fn written_places(alloc: Global, now: &Running) -> Result<Places, AllocError>
+pub fn written_places(alloc: Global, now: &OpenTransaction) -> Result<Places, AllocError>
     ensures { IfOk result (λ places. places ≡ written now.now) }
 {
     match now.phase {
@@ -122,7 +122,7 @@ impl Session {
         let tables = self.shapes.len() as u32;
         let room = mem::replace(&mut self.counts, Vec::new(alloc));
         let placed = count_placed_each(room, self.statements(), now.took.as_slice(), tables);
-        let Running {
+        let OpenTransaction {
             start,
             prefix,
             replies,

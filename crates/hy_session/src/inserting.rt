@@ -10,7 +10,7 @@ ghost use Rattle.hy_visit.specs.Pruning.{AllShort};
 ghost use Rattle.hy_session.specs.Visitors.{ForVisitor, ShortAt};
 ghost use Rattle.hy_session.specs.Written.{CanInsert, HasCome};
 
-use crate::Running;
+use crate::OpenTransaction;
 use crate::answers::{Answer, push_answer, reserve_answer, reserve_writes};
 use crate::visitors::{Present, Visitor};
 use hy_bound::{Reply, table_shape};
@@ -40,7 +40,7 @@ fn check(
     visitor: &Visitor,
     insertion: &Insertion,
     key: u32,
-    now: &mut Running,
+    now: &mut OpenTransaction,
     chunk: &mut Chunk,
 ) -> Result<Progress, AllocError>
     ensures event { IfOk result (λ progress. ForVisitor visitor.now now.old now.new (λ session after.
@@ -127,7 +127,7 @@ fn place(
     visitor: &Visitor,
     insertion: &Insertion,
     number: u32,
-    now: &mut Running,
+    now: &mut OpenTransaction,
     chunk: &mut Chunk,
 ) -> Result<Progress, AllocError>
     requires can { CanInsert visitor.now insertion.now now.old.cover chunk.old }
@@ -182,7 +182,7 @@ pub fn insert(
     alloc: Global,
     visitor: &Visitor,
     insertion: &Insertion,
-    now: &mut Running,
+    now: &mut OpenTransaction,
     chunk: &mut Chunk,
 ) -> Result<Progress, AllocError>
     requires { CanInsert visitor.now insertion.now now.old.cover chunk.old }

@@ -35,7 +35,7 @@ use std::marker::Model;
 
 /// An open transaction, with room for what it will keep. Contracts see what it keeps.
 #[derive(Drop)]
-struct Running {
+struct OpenTransaction {
     start: u64,
     prefix: u32,
     cover: Cover,
@@ -48,7 +48,7 @@ struct Running {
     phase: Phase,
 }
 
-impl Model for Running {
+impl Model for OpenTransaction {
     ghost use Rattle.hy_event.specs.declared.Open.{Open};
     ghost use Rattle.hy_event.specs.contracts.Open as open_data;
 
@@ -80,7 +80,7 @@ pub struct Session {
     rows: u32,
     prunes: bool,
     done: Vec<TxnOutcome>,
-    now: Option<Running>,
+    now: Option<OpenTransaction>,
     /// No counts: room for one of each table, where a transaction is open. It takes them at its end.
     counts: Vec<u64>,
     /// No notes: the room of those of the last transaction, for the next one.

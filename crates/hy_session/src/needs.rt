@@ -5,7 +5,7 @@ ghost use Rattle.hy_bound.specs.Records.{shape_of};
 ghost use Rattle.hy_event.specs.Needs.{checks_of, insert_need, statement_need, phase_need};
 ghost use Rattle.hy_session.specs.Standing.{needed_number};
 
-use crate::{Running, Session};
+use crate::{OpenTransaction, Session};
 use hy_bound::{Bound, Txn, table_shape};
 use hy_event::{Need, Phase};
 
@@ -62,7 +62,7 @@ impl Session {
     }
 
     /// What its open transaction needs, by where it stands.
-    pub(crate) fn needed_by(&self, txn: &Txn, now: &Running) -> Need
+    pub(crate) fn needed_by(&self, txn: &Txn, now: &OpenTransaction) -> Need
         ensures { result ≡ phase_need self.entry.now txn.now now.now now.now.phase }
     {
         match now.phase {

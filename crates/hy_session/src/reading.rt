@@ -22,7 +22,7 @@ use crate::answers::{Answer, push_answer, reserve_answer};
 use crate::numbers::number_of;
 use crate::prepared::StatementPlan;
 use crate::visitors::Present;
-use crate::{Running, Session};
+use crate::{OpenTransaction, Session};
 use hy_bound::{Bound, Records, Reply};
 use hy_chunk::Chunk;
 use hy_event::{Phase, Progress};
@@ -54,7 +54,7 @@ pub enum ReadStep {
 
 impl Session {
     /// As whom its open transaction looks at positions.
-    fn viewer(&self, now: &Running) -> Viewer
+    fn viewer(&self, now: &OpenTransaction) -> Viewer
         requires { length self.now.done < length self.now.program }
         ensures { result ≡ viewer_of self.entry.now now.now }
     {
@@ -72,7 +72,7 @@ impl Session {
         &self,
         alloc: Global,
         statement: &Bound,
-        now: &Running,
+        now: &OpenTransaction,
         reader: &Reader,
         found: Found,
     ) -> Result<(Reply, Records), AllocError>
@@ -102,7 +102,7 @@ impl Session {
         &self,
         alloc: Global,
         present: &Present,
-        now: &Running,
+        now: &OpenTransaction,
         reader: &Reader,
         chunk: &mut Chunk,
     ) -> Result<ReadStep, AllocError>

@@ -6,7 +6,7 @@ ghost use Rattle.hy_event.specs.Sessions.{place_noted, written, lies_in, chunks_
 ghost use Rattle.hy_event.specs.Needs.{written_need};
 ghost use Rattle.hy_session.specs.Seeking.{sought};
 
-use crate::{Running, Session};
+use crate::{OpenTransaction, Session};
 use hy_event::{Need, Phase};
 use hy_render::Place;
 use hy_value::Change;
@@ -47,7 +47,7 @@ impl Session {
     }
 
     /// Whether an open transaction wrote in a chunk.
-    fn is_written(&self, now: &Running, table: u32, chunk: u32) -> bool
+    fn is_written(&self, now: &OpenTransaction, table: u32, chunk: u32) -> bool
         ensures { result ≡ list_any (lies_in self.entry.now table chunk) (written now.now) }
     {
         match now.phase {
@@ -60,7 +60,7 @@ impl Session {
 
     /// The chunk of a table that is so many behind the first one in which an open transaction wrote; Err is for how
     /// many it is behind all of the table's.
-    fn seek_in_table(&self, now: &Running, table: u32, behind: u32) -> Result<u32, u32>
+    fn seek_in_table(&self, now: &OpenTransaction, table: u32, behind: u32) -> Result<u32, u32>
         ensures { (others : List (ℕ × ℕ)) → slice_get (chunks_in_table self.entry.now (written now.now) table ++ others) behind ≡ sought table result others }
     {
         let mut left = behind;
@@ -77,7 +77,7 @@ impl Session {
 
     /// What an open transaction needs that has visited so many of the chunks that it wrote: the next of them, or the
     /// core behind the last one.
-    pub(crate) fn left_of_written(&self, now: &Running, visited: u32) -> Need
+    pub(crate) fn left_of_written(&self, now: &OpenTransaction, visited: u32) -> Need
         ensures { result ≡ written_need self.entry.now now.now visited }
     {
         let mut left = visited;

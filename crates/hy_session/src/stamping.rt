@@ -6,7 +6,7 @@ ghost use Rattle.hy_event.specs.Undoing.{UndoVisit};
 ghost use Rattle.hy_visit.specs.Pruning.{AllFall, AllShort, AllUnderOwn};
 ghost use Rattle.hy_session.specs.Visitors.{ForVisitor};
 
-use crate::Running;
+use crate::OpenTransaction;
 use crate::visitors::Visitor;
 use hy_chunk::Chunk;
 use hy_event::{Phase, Progress};
@@ -18,7 +18,7 @@ pub fn stamp(
     visitor: &Visitor,
     visited: u32,
     time: u64,
-    now: &mut Running,
+    now: &mut OpenTransaction,
     chunk: &mut Chunk,
 ) -> Progress
     requires few { visited + 1 < 2 ^ 32 }
@@ -42,7 +42,7 @@ pub fn undo(
     visitor: &Visitor,
     visited: u32,
     cause: Ending,
-    now: &mut Running,
+    now: &mut OpenTransaction,
     chunk: &mut Chunk,
 ) -> Progress
     requires few { visited + 1 < 2 ^ 32 }

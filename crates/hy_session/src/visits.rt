@@ -14,7 +14,7 @@ use crate::prepared::StatementPlan;
 use crate::stamping::{stamp, undo};
 use crate::visitors::{Present, Visitor};
 use crate::writing::{Write, write_rows};
-use crate::{Running, Session};
+use crate::{OpenTransaction, Session};
 use hy_bound::{Bound, WriteKind};
 use hy_chunk::Chunk;
 use hy_event::{Phase, Progress};
@@ -38,7 +38,7 @@ fn visit_statement(
     visitor: &Visitor,
     present: &Present,
     kind: Option<&WriteKind>,
-    now: &mut Running,
+    now: &mut OpenTransaction,
     chunk: &mut Chunk,
 ) -> Result<Progress, AllocError>
     requires can { CanWork visitor.now now.old.cover present.now.statement.now chunk.old }

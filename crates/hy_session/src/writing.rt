@@ -7,7 +7,7 @@ ghost use Rattle.hy_visit.specs.Pruning.{AllShort};
 ghost use Rattle.hy_session.specs.Visitors.{ForVisitor};
 ghost use Rattle.hy_session.specs.Written.{CanWrite, HasWritten};
 
-use crate::Running;
+use crate::OpenTransaction;
 use crate::answers::{Answer, push_answer, reserve_answer, reserve_writes};
 use crate::visitors::{Present, Visitor};
 use hy_bound::{Pred, Reply, WriteKind, table_shape};
@@ -88,7 +88,7 @@ fn write_on(
     visitor: &Visitor,
     write: &Write,
     visited: u32,
-    now: &mut Running,
+    now: &mut OpenTransaction,
     chunk: &mut Chunk,
 ) -> Result<Progress, AllocError>
     requires can { CanWrite visitor.now write.now now.old.cover chunk.old }
@@ -122,7 +122,7 @@ fn write_last(
     alloc: Global,
     visitor: &Visitor,
     write: &Write,
-    now: &mut Running,
+    now: &mut OpenTransaction,
     chunk: &mut Chunk,
 ) -> Result<Progress, AllocError>
     requires can { CanWrite visitor.now write.now now.old.cover chunk.old }
@@ -174,7 +174,7 @@ pub fn write_rows(
     alloc: Global,
     visitor: &Visitor,
     write: &Write,
-    now: &mut Running,
+    now: &mut OpenTransaction,
     chunk: &mut Chunk,
 ) -> Result<Progress, AllocError>
     requires { CanWrite visitor.now write.now now.old.cover chunk.old }

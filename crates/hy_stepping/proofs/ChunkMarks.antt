@@ -20,7 +20,7 @@ use Rattle.hy_event.specs.declared.Phase.{Phase}
 use Rattle.hy_event.specs.declared.Phase.TheVariants as phase
 use Rattle.hy_event.specs.Sessions.{label_of}
 use Rattle.hy_machine.specs.declared.Setting.{Setting}
-use Rattle.hy_machine.specs.States.{State, Open as Current, Phase as Stage}
+use Rattle.hy_machine.specs.States.{State, Open as MachineOpen, Phase as Stage}
 use Rattle.hy_machine.specs.States as stage
 use Rattle.hy_machine.specs.Kept.{is_stamping}
 use Rattle.hy_refinement.specs.Stamped.{is_unstamped, entries_counted}
@@ -66,7 +66,7 @@ IdsDiffer = (a b : Label) → IsLabel a → IsLabel b → id_of a ≡ id_of b �
 
 module _ (setting : Setting) (state : State) (core : CoreData) (sessions : List SessionData) (table chunk pos : ℕ) (place : Place)
     (shown : ShownAt setting state core sessions table chunk pos place) (labels : HaveLabels state sessions) (differ : IdsDiffer)
-    (number : ℕ) (session : SessionData) (now : Open) (current : Current) (is : IsOpen state sessions number session now current)
+    (number : ℕ) (session : SessionData) (now : Open) (current : MachineOpen) (is : IsOpen state sessions number session now current)
     (mark : state.mark ≡ Some number) (last : Entry) (has_last : slice_get core.entries (length state.order - 1) ≡ Some last) where
   abbrev id : ℕ
   id = id_of (label_of session)

@@ -7,14 +7,14 @@ use Rattle.std.proofs.lemmas.List.Sums.{sum_by-le}
 use Rattle.hy_journal.specs.declared.CoreData.{CoreData}
 use Rattle.hy_event.specs.declared.SessionData.{SessionData}
 use Rattle.hy_machine.specs.declared.Setting.{Setting}
-use Rattle.hy_machine.specs.States.{State, Session, Open as Current}
+use Rattle.hy_machine.specs.States.{State, Session, Open as MachineOpen}
 use Rattle.hy_machine.specs.Sessions.{fresh, session_at, program_of}
 use Rattle.hy_machine.specs.Begun.{count_open, count_begun}
 use Rattle.hy_machine.specs.Kept.{Kept}
 use Rattle.hy_refinement.specs.Numbers.{CoreShows}
 use Rattle.hy_stepping.specs.Runnable.{IsRunnable}
 
-one_open : (now : Option Current) → count_open now ≤ 1
+one_open : (now : Option MachineOpen) → count_open now ≤ 1
 one_open None = omega arith
 one_open (Some current) = omega arith
 

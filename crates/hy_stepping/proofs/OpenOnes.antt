@@ -15,7 +15,7 @@ use Rattle.hy_event.specs.declared.Open.{Open}
 use Rattle.hy_event.specs.Events.{Part}
 use Rattle.hy_event.specs.Sessions.{txn_at as txn_of}
 use Rattle.hy_machine.specs.declared.Setting.{Setting}
-use Rattle.hy_machine.specs.States.{State, Finished, Open as Current}
+use Rattle.hy_machine.specs.States.{State, Finished, Open as MachineOpen}
 use Rattle.hy_machine.specs.Sessions.{session_at, program_of, txn_at}
 use Rattle.hy_machine.specs.Outcomes.{outcomes_from}
 use Rattle.hy_machine.specs.Kept.{Kept, IsNow, PhaseFits}
@@ -73,7 +73,7 @@ txn_fits setting number before txn runnable e =
 
 -- the machine has it too, and shows it; it is one of the script, and stands where that lets it
 pub record OpenOne (setting : Setting) (state : State) (core : CoreData) (number : ℕ) (session : SessionData) (now : Open) : Type 0 where
-  pub current : Current
+  pub current : MachineOpen
   pub is_now : IsNow state number current
   pub shows : OpenShows setting state core number now current
   pub txn : Txn
@@ -87,7 +87,7 @@ open_one setting state core number session now kept shows opened =
     by_now (session_at state number).now refl
     (subst (λ (here : Option Open). NowShows setting state core number here (session_at state number).now) opened shows.now_shows)
   where
-    by_txn : (current : Current) → IsNow state number current → OpenShows setting state core number now current
+    by_txn : (current : MachineOpen) → IsNow state number current → OpenShows setting state core number now current
         → (txn : Option Txn) → txn_at setting number (session_at state number) ≡ txn → PhaseFits setting txn current.begun current.phase
         → OpenOne setting state core number session now
     by_txn current is_now open_shows None txn_is fits = absurd fits
@@ -101,7 +101,7 @@ open_one setting state core number session now kept shows opened =
       phase_fits = fits;
     }
 
-    by_now : (there : Option Current) → (session_at state number).now ≡ there → NowShows setting state core number (Some now) there
+    by_now : (there : Option MachineOpen) → (session_at state number).now ≡ there → NowShows setting state core number (Some now) there
         → OpenOne setting state core number session now
     by_now None is now_shows = absurd now_shows
     by_now (Some current) is now_shows =

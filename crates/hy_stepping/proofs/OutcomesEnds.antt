@@ -13,7 +13,7 @@ use Rattle.hy_event.specs.declared.Need.TheVariants.{Core, Chunk, Done}
 use Rattle.hy_event.specs.Needs.{need_of, session_need}
 use Rattle.hy_event.specs.Events.{Part}
 use Rattle.hy_machine.specs.declared.Setting.{Setting}
-use Rattle.hy_machine.specs.States.{State, Session, Open as Current}
+use Rattle.hy_machine.specs.States.{State, Session, Open as MachineOpen}
 use Rattle.hy_machine.specs.Sessions.{fresh, session_at, program_of, txn_at, has_ended}
 use Rattle.hy_machine.specs.Runs.{all_ended_from}
 use Rattle.hy_machine.specs.Kept.{Fits, IsNow, PhaseFits}
@@ -104,7 +104,7 @@ ended_at setting first (session ∷ sessions) ended (suc index) number e below =
     index number (omega (arith, e)) (omega (arith, below))
 
 pub none_open : (setting : Setting) (state : State) → Fits setting state → all_ended_from setting 0 state.sessions ≡ true
-    → (number : ℕ) (current : Current) → IsNow state number current → ⊥
+    → (number : ℕ) (current : MachineOpen) → IsNow state number current → ⊥
 none_open setting state fits ended number current now = elim (cases_lt number (length state.sessions)) [
   | inl below ↦
       let here : Session = session_at state number in

@@ -12,7 +12,7 @@ use Rattle.hy_journal.specs.declared.CoreData.{CoreData}
 use Rattle.hy_journal.specs.declared.Entry.{Entry}
 use Rattle.hy_event.specs.declared.SessionData.{SessionData}
 use Rattle.hy_machine.specs.declared.Setting.{Setting}
-use Rattle.hy_machine.specs.States.{State, Session, Open as Current}
+use Rattle.hy_machine.specs.States.{State, Session, Open as MachineOpen}
 use Rattle.hy_machine.specs.Tables.{Entry as Entered}
 use Rattle.hy_machine.specs.Outcomes.{outcomes_from, all_outcomes_from, outcome_of}
 use Rattle.hy_machine.specs.Validation.{committed_of}
@@ -76,7 +76,7 @@ same_outcome txns others order entries tables rows e f g =
     ∙ (ap (λ (o : List Committed). outcome others o tables) f ∙ ap (outcome others entries) g)
 
 -- where no session has an open transaction, none is marked
-unmarked : (setting : Setting) (state : State) → Kept setting state → ((number : ℕ) (current : Current) → IsNow state number current → ⊥)
+unmarked : (setting : Setting) (state : State) → Kept setting state → ((number : ℕ) (current : MachineOpen) → IsNow state number current → ⊥)
     → (mark : Option ℕ) → state.mark ≡ mark → state.mark ≡ None
 unmarked setting state kept none None e = e
 unmarked setting state kept none (Some number) e =
@@ -100,7 +100,7 @@ outcomes_are reached one setting state parts sessions shown done =
     tables_told : List (List (List Value))
     tables_told = (told_outcome (length setting.shapes) setting.chunks core parts sessions).tables
 
-    none : (number : ℕ) (current : Current) → IsNow state number current → ⊥
+    none : (number : ℕ) (current : MachineOpen) → IsNow state number current → ⊥
     none = none_open setting state kept.fits (sym (ends_are reached setting state parts sessions shown) ∙ done)
 
     newcomer : IsNewcomer state core sessions (last_viewer core)

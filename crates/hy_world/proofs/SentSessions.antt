@@ -14,7 +14,7 @@ use Rattle.hy_render.proofs.TxnOutcome.TheSendSync as outcome
 use Rattle.hy_notes.proofs.Changes.TheSendSync as changes
 use Rattle.hy_gathered.proofs.pieces.Pieces.TheSendSync as pieces
 use Rattle.hy_session.specs.contracts.prepared.Prepared as prepared
-use Rattle.hy_session.specs.contracts.Running as running
+use Rattle.hy_session.specs.contracts.OpenTransaction as running
 use Rattle.hy_session.specs.contracts.Session as session
 
 condition_send : IsSend condition.the_row

@@ -63,9 +63,11 @@ fn write_surely<D: Disk>(disk: &mut D, at: u64, from: &[u8]) -> Result<(), DiskE
 
 /// Makes an empty log on an empty disk: the header and a closed gate.
 pub fn create<D: Disk>(disk: &mut D) -> Result<Log, CreateError>
+    // The log that is made.
     ensures logs { IfOk result (λ log. AreLogsOf (D.image disk.new) [] log) }
     ensures held { OnOk result (D.held disk.new ≡ option_map (λ _. log_of []) (D.held disk.old)) }
     ensures gate { IfOk result (λ log. log + 1 ≡ length (log_of [])) }
+    // A disk that isn't empty is refused, and stays as it was.
     ensures empty { ¬ (IsErrOf result CreateError.NotEmpty) → ¬ (IsErrOf result CreateError.DiskFault) → IfSome (D.held disk.old) (λ bytes. bytes ≡ []) }
     ensures not_empty { IsErrOf result CreateError.NotEmpty → IfSome (D.held disk.old) (λ bytes. 0 < length bytes) }
     ensures untouched { IsErrOf result CreateError.NotEmpty → Stays D.clock D.image D.image_since disk.old disk.new }
@@ -76,6 +78,7 @@ pub fn create<D: Disk>(disk: &mut D) -> Result<Log, CreateError>
     // What a crash leaves at any moment of the call, where the log is made or the disk fails.
     ensures begun { OnOk result (IsBegun D.held D.clock D.image D.image_since disk.old disk.new) }
     ensures cut { IsErrOf result CreateError.DiskFault → IsBegunAtMost D.held D.clock D.image D.image_since disk.old disk.new }
+    // The disk's clock and its faults.
     ensures later { D.clock disk.old ≤ D.clock disk.new }
     ensures fault { IsErrOf result CreateError.DiskFault → Rose (D.faults disk.old) (D.faults disk.new) }
     ensures steady { ¬ IsErrOf result CreateError.DiskFault → D.faults disk.new ≡ D.faults disk.old }
@@ -145,7 +148,9 @@ pub fn append<D: Disk>(
     // A crash at any moment leaves the log as it was, or with the entry.
     ensures moments { (entries : List Entry) → AreLogsOf (D.image disk.old) entries log.old
         → Appends D.clock D.image_since entries entry.now log.old disk.old disk.new }
+    // The disk's clock goes on.
     ensures later { D.clock disk.old ≤ D.clock disk.new }
+    // The log with the entry.
     ensures done { OnOk result ((entries : List Entry) → AreLogsOf (D.image disk.old) entries log.old
         → AreLogsOf (D.image disk.new) (entries ++ entry.now ∷ []) log.new) }
     ensures bytes { OnOk result ((entries : List Entry) → IsWholeLog (D.held disk.old) entries log.old
@@ -155,6 +160,7 @@ pub fn append<D: Disk>(
     ensures same { OnErr result (log.new ≡ log.old) }
     ensures still { IsErrOf result AppendError.OutOfMemory → (entries : List Entry) → AreLogsOf (D.image disk.old) entries log.old
         → AreLogsOf (D.image disk.new) entries log.new }
+    // Faults of the disk.
     ensures fault { IsErrOf result AppendError.DiskFault → Rose (D.faults disk.old) (D.faults disk.new) }
     ensures steady { ¬ IsErrOf result AppendError.DiskFault → D.faults disk.new ≡ D.faults disk.old }
     ensures never_fell { D.faults disk.old ≤ D.faults disk.new }

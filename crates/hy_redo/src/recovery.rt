@@ -262,11 +262,14 @@ pub fn recover<D: Disk>(
     disk: &mut D,
     tables: HeldTables,
 ) -> Result<HeldTables, RecoverError>
+    // What the bytes come to.
     ensures found { IfOk result (λ found. RecoversFrom tables (D.held disk.old) (Ok found)) }
     ensures damaged { IfErr result (DamagedIn tables (D.held disk.old)) }
+    // What the call does to the disk: it syncs.
     ensures sure { ¬ IsErrOf result RecoverError.DiskFault → IsDurable (D.held disk.new) (D.image disk.new) }
     ensures held { D.held disk.new ≡ D.held disk.old }
     ensures syncs { Syncs D.held D.clock D.image D.image_since disk.old disk.new }
+    // Faults of the disk.
     ensures fault { IsErrOf result RecoverError.DiskFault → Rose (D.faults disk.old) (D.faults disk.new) }
     ensures steady { ¬ IsErrOf result RecoverError.DiskFault → D.faults disk.new ≡ D.faults disk.old }
     ensures never_fell { D.faults disk.old ≤ D.faults disk.new }

@@ -217,12 +217,15 @@ impl World {
         disk: &mut D,
     ) -> Result<(), AppendError>
         requires kept { IsKept D.image self.old.core.entries log.old disk.old }
+        // The world follows the machine, to the end or as far as the run comes.
         ensures follows { OnOk result (Follows (λ setting state. rounds_of setting (items_of setting state schedule.now)) self.old self.new) }
         ensures under_way { OnErr result (Approaches (λ setting state. rounds_of setting (items_of setting state schedule.now)) self.old self.new) }
+        // The log keeps up with the journal.
         ensures kept { OnOk result (IsKept D.image self.new.core.entries log.new disk.new) }
         ensures cut { OnErr result (IsKeptButTheLast D.image self.new.core.entries log.new disk.new) }
         ensures stays { is_some log.new ≡ is_some log.old }
         ensures logs { Logs D.clock D.image_since self.old.core.entries self.new.core.entries disk.old disk.new }
+        // Faults of the disk.
         ensures fault { IsErrOf result AppendError.DiskFault → Rose (D.faults disk.old) (D.faults disk.new) }
         ensures steady { ¬ IsErrOf result AppendError.DiskFault → D.faults disk.new ≡ D.faults disk.old }
     {

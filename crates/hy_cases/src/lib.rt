@@ -14,12 +14,13 @@ use hy_lawful::runs_are_lawful;
 pub use neighbours::{
     a_group_needs_the_columns_of_where, a_missing_table_gets_no_rows, a_part_has_few_columns,
     a_part_needs_the_columns_of_on, a_part_needs_the_summed_column,
-    a_record_needs_the_columns_of_set, a_record_needs_the_columns_of_where, a_table_has_few_columns,
-    after_images_do_not_suffice, an_insert_looks_at_no_other_key, an_insert_needs_its_record,
-    an_insert_needs_its_table, an_insert_takes_a_position, before_images_do_not_suffice,
-    every_named_column_matters, few_columns_are_read_again, inserted_rows_are_not_followed,
-    inserted_rows_must_fit, keys_are_columns, own_positions_must_not_differ, revisits_do_not_add_up,
-    selected_positions_must_not_differ, sets_do_not_suffice, the_rest_must_be_asked, widths_matter,
+    a_record_needs_the_columns_of_set, a_record_needs_the_columns_of_where,
+    a_table_has_few_columns, after_images_do_not_suffice, an_insert_looks_at_no_other_key,
+    an_insert_needs_its_record, an_insert_needs_its_table, an_insert_takes_a_position,
+    before_images_do_not_suffice, every_named_column_matters, few_columns_are_read_again,
+    inserted_rows_are_not_followed, inserted_rows_must_fit, keys_are_columns,
+    own_positions_must_not_differ, revisits_do_not_add_up, selected_positions_must_not_differ,
+    sets_do_not_suffice, the_rest_must_be_asked, widths_matter,
 };
 
 /// These outcomes are lawful and serializable, and each comes by a schedule: of transactions that read and write, of each

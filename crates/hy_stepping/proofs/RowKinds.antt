@@ -1,7 +1,7 @@
 -- To be of the types of a table's columns, with texts in UTF-8, is a test of rows, which the first rows pass, and those that statements write.
 use Rattle.std.proofs.Common.{◌≡◌, ℕ, zero, suc, ◌<◌, ℤ, List, [], ◌∷◌, Option, None, Some, Bool, true, false, cond, Result, Ok, Err, length, get_or, refl, subst, arith}
 use Rattle.std.proofs.Math.ListN.{set}
-use Rattle.std.specs.Prelude.{◌&&◌, IfSome, slice_index_or}
+use Rattle.std.specs.Prelude.{◌&&◌, ◌+ℤ◌, ◌-ℤ◌, ◌*ℤ◌, IfSome, slice_index_or}
 use Rattle.std.specs.List.{All, AllByRecursion, AllZip}
 use Rattle.std.specs.Str.{is_utf8}
 use Rattle.std.proofs.lemmas.Bool.{and_from, and_parts}
@@ -19,7 +19,7 @@ use Rattle.hy_bound.specs.declared.Shape.{Shape}
 use Rattle.hy_bound.specs.declared.Txn.{Txn}
 use Rattle.hy_bound.specs.Expression.{Expression, Literal, Column, Add, Sub, Mul}
 use Rattle.hy_bound.specs.Predicate.{column_of}
-use Rattle.hy_bound.specs.Assignment.{assigned_to, combined, exact, has_64_bits, set_column, value_of}
+use Rattle.hy_bound.specs.Assignment.{assigned_to, has_64_bits, number_of, set_column, value_of}
 use Rattle.hy_bound.specs.Records.{shape_of}
 use Rattle.hy_column.specs.Cells.{FitsKind}
 use Rattle.hy_chunk.specs.Sound.{FitsRow}
@@ -125,15 +125,31 @@ number_utf8 : (fits : Bool) (number : ℤ) (range : Range) → MayBeUtf8 (cond f
 number_utf8 true number range = tt
 number_utf8 false number range = tt
 
--- an operator makes a number, or NULL
-combined_utf8 : (op : Operator) (left right : Result Value Range) → MayBeUtf8 (combined op left right)
-combined_utf8 op (Err range) right = tt
-combined_utf8 op (Ok left) (Err range) = tt
-combined_utf8 op (Ok (value.Int m)) (Ok (value.Int n)) = number_utf8 (has_64_bits (exact op m n)) (exact op m n) _
-combined_utf8 op (Ok (value.Int m)) (Ok value.Null) = tt
-combined_utf8 op (Ok (value.Int m)) (Ok (value.Text text)) = tt
-combined_utf8 op (Ok value.Null) (Ok right) = tt
-combined_utf8 op (Ok (value.Text text)) (Ok right) = tt
+-- an operator on two values, and on two sides, by what it makes of numbers
+abbrev applied_by : (ℤ → ℤ → ℤ) → Value → Value → Result Value Range
+applied_by exact (value.Int m) (value.Int n) = number_of (exact m n)
+applied_by exact (value.Int m) value.Null = Ok value.Null
+applied_by exact (value.Int m) (value.Text text) = Ok value.Null
+applied_by exact value.Null right = Ok value.Null
+applied_by exact (value.Text text) right = Ok value.Null
+
+abbrev combined_by : (ℤ → ℤ → ℤ) → Result Value Range → Result Value Range → Result Value Range
+combined_by exact (Err range) right = Err range
+combined_by exact (Ok left) (Err range) = Err range
+combined_by exact (Ok left) (Ok right) = applied_by exact left right
+
+applied_utf8 : (exact : ℤ → ℤ → ℤ) (left right : Value) → MayBeUtf8 (applied_by exact left right)
+applied_utf8 exact (value.Int m) (value.Int n) = number_utf8 (has_64_bits (exact m n)) (exact m n) _
+applied_utf8 exact (value.Int m) value.Null = tt
+applied_utf8 exact (value.Int m) (value.Text text) = tt
+applied_utf8 exact value.Null right = tt
+applied_utf8 exact (value.Text text) right = tt
+
+-- it makes a number, or NULL
+combined_utf8 : (exact : ℤ → ℤ → ℤ) (left right : Result Value Range) → MayBeUtf8 (combined_by exact left right)
+combined_utf8 exact (Err range) right = tt
+combined_utf8 exact (Ok left) (Err range) = tt
+combined_utf8 exact (Ok left) (Ok right) = applied_utf8 exact left right
 
 column_utf8 : (row : List Value) (column : ℕ) → AreUtf8Values row → IsUtf8Value (column_of row column)
 column_utf8 [] column u = tt
@@ -143,9 +159,9 @@ column_utf8 (value ∷ row) (suc column) u = column_utf8 row column u.1
 expression_utf8 : (expression : Expression) (row : List Value) → HasUtf8Texts expression → AreUtf8Values row → MayBeUtf8 (value_of expression row)
 expression_utf8 (Literal value) row has u = has
 expression_utf8 (Column column) row has u = column_utf8 row column u
-expression_utf8 (Add left right) row has u = combined_utf8 operator.Add (value_of left row) (value_of right row)
-expression_utf8 (Sub left right) row has u = combined_utf8 operator.Sub (value_of left row) (value_of right row)
-expression_utf8 (Mul left right) row has u = combined_utf8 operator.Mul (value_of left row) (value_of right row)
+expression_utf8 (Add left right) row has u = combined_utf8 (λ m n. m +ℤ n) (value_of left row) (value_of right row)
+expression_utf8 (Sub left right) row has u = combined_utf8 (λ m n. m -ℤ n) (value_of left row) (value_of right row)
+expression_utf8 (Mul left right) row has u = combined_utf8 (λ m n. m *ℤ n) (value_of left row) (value_of right row)
 
 set_utf8 : (row : List Value) (column : ℕ) (value : Value) → AreUtf8Values row → IsUtf8Value value → AreUtf8Values (set row column value)
 set_utf8 [] column value u is = tt

@@ -7,12 +7,10 @@ use Rattle.hy_bound.specs.declared.Grouped.{Grouped}
 use Rattle.hy_bound.specs.declared.Reply.{Reply}
 use Rattle.hy_bound.specs.declared.Reply.TheVariants as reply
 use Rattle.hy_render.specs.declared.Ending.{Ending}
-use Rattle.hy_render.specs.declared.Ending.TheVariants as ending
+use Rattle.hy_render.specs.declared.Ending.TheVariants.{Committed, Read, RolledBack, Conflict, Invalid, Range, Full}
 use Rattle.hy_render.specs.declared.Outcome.{Outcome}
 use Rattle.hy_render.specs.declared.Place.{Place}
 use Rattle.hy_render.specs.declared.TxnOutcome.{TxnOutcome}
-use Rattle.hy_machine.specs.States.{Cause}
-use Rattle.hy_machine.specs.States as cause
 use Rattle.hy_lawful.specs.Outcomes.{is_label}
 
 -- values that a test tells apart are not the same
@@ -74,18 +72,18 @@ same_reply one other = false
 abbrev pub same_replies : List Reply → List Reply → Bool
 same_replies = same_list same_reply
 
-abbrev pub same_cause : Cause → Cause → Bool
-same_cause (cause.Invalid table place other statement) (cause.Invalid of at rival number) =
+abbrev pub same_cause : Ending → Ending → Bool
+same_cause (Invalid table place other statement) (Invalid of at rival number) =
     table == of && (place == at && (is_label other rival && statement == number))
 same_cause one other = false
 
 abbrev pub same_ending : Ending → Ending → Bool
-same_ending (ending.Committed rank) (ending.Committed other) = rank == other
-same_ending ending.Read ending.Read = true
-same_ending ending.RolledBack ending.RolledBack = true
-same_ending (ending.Conflict table place other) (ending.Conflict of at rival) = table == of && (place == at && is_label other rival)
-same_ending (ending.Range table place) (ending.Range of at) = table == of && place == at
-same_ending (ending.Full table) (ending.Full of) = table == of
+same_ending (Committed rank) (Committed other) = rank == other
+same_ending Read Read = true
+same_ending RolledBack RolledBack = true
+same_ending (Conflict table place other) (Conflict of at rival) = table == of && (place == at && is_label other rival)
+same_ending (Range table place) (Range of at) = table == of && place == at
+same_ending (Full table) (Full of) = table == of
 same_ending one other = false
 
 abbrev pub same_place : Place → Place → Bool

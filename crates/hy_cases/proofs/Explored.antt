@@ -6,18 +6,20 @@ use Rattle.std.proofs.lemmas.Bool.{cases_Bool, cases_lt, and_parts}
 use Rattle.std.proofs.Math.ListN.{get_or-eq_default}
 use Rattle.hy_bound.specs.declared.Txn.{Txn}
 use Rattle.hy_render.specs.declared.Outcome.{Outcome}
+use Rattle.hy_machine.specs.Writes.{Write}
 use Rattle.hy_machine.specs.declared.Setting.{Setting}
 use Rattle.hy_machine.specs.States.{State}
-use Rattle.hy_machine.specs.declared.Stepped.{Stepped}
-use Rattle.hy_machine.specs.declared.Stepped.TheVariants.{Blocked, Moved, Answered, Ended}
-use Rattle.hy_machine.specs.Turns.{Turn, Done, Waits, Begins, Visits, Answers, Enters, Ends, session_turn, turn}
+use Rattle.hy_protocol.specs.declared.Progress.{Progress}
+use Rattle.hy_protocol.specs.declared.Progress.TheVariants.{Blocked, Moved, Answered, Ended}
+use Rattle.hy_protocol.specs.Turns.{Turn, Done, Waits, Begins, Visits, Answers, Enters, Ends}
+use Rattle.hy_machine.specs.Turns.{session_turn, turn}
 use Rattle.hy_machine.specs.Sessions.{session_at, txn_at}
 use Rattle.hy_machine.specs.Steps.{Step, after_turn, step_of}
 use Rattle.hy_machine.specs.Runs.{after_steps, all_ended_from}
 use Rattle.hy_machine.specs.Outcomes.{outcome_of}
 
 -- whether a step left the state as it was
-abbrev is_still : Stepped → Bool
+abbrev is_still : Progress → Bool
 is_still (Blocked by) = true
 is_still Moved = false
 is_still Answered = false
@@ -47,7 +49,7 @@ below_all test (suc most) number h below =
     ]
 
 -- a step that is told to leave the state as it was does so
-turn_stays : (setting : Setting) (state : State) (number : ℕ) (one : Turn) → is_still (after_turn setting state number one).1 ≡ true
+turn_stays : (setting : Setting) (state : State) (number : ℕ) (one : Turn Write) → is_still (after_turn setting state number one).1 ≡ true
     → (after_turn setting state number one).0 ≡ state
 turn_stays setting state number Done h = refl
 turn_stays setting state number (Waits by) h = refl

@@ -5,7 +5,7 @@ use Rattle.hy_value.specs.declared.Value.{Value}
 use Rattle.hy_value.specs.declared.Value.TheVariants.{Null}
 use Rattle.hy_bound.specs.Condition.{True}
 use Rattle.hy_bound.specs.Fits.{FitsShape}
-use Rattle.hy_machine.specs.States.{Cause}
+use Rattle.hy_render.specs.declared.Ending.{Ending}
 use Rattle.hy_machine.specs.Writes.{Write}
 use Rattle.hy_machine.specs.Positions.{item_at}
 use Rattle.hy_machine.specs.Validation.{record_hit}
@@ -52,7 +52,7 @@ any_own_fail law =
     = (law one_column vacant (inserting_narrow ∷ []) (Some 0 ∷ []) placed_narrow vacant_are_tables vacant_wide refl).wide 0 0 in absurd cc
 
 -- the second value of the first row that is written
-abbrev second_written : Result (List Write) Cause → Value
+abbrev second_written : Result (List Write) Ending → Value
 second_written (Err cause) = Null
 second_written (Ok []) = Null
 second_written (Ok (write ∷ writes)) = second (Some write.cell)

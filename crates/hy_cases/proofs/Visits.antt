@@ -1,12 +1,12 @@
 -- An UPDATE that visits a position twice counts its row twice.
 use Rattle.std.proofs.Common.{◌≡◌, ℕ, [], ◌∷◌, Some, Result, Ok, Err, ap, arith}
 use Rattle.hy_bound.specs.Condition.{True}
-use Rattle.hy_machine.specs.States.{Cause}
 use Rattle.hy_replay.specs.EffectVisits.{Visited}
 use Rattle.hy_cases.specs.Examples.{row_of}
 use Rattle.hy_cases.specs.Visits.{RevisitsAddUp, to_two}
+use Rattle.hy_render.specs.declared.Ending.{Ending}
 
-count_of : Result Visited Cause → ℕ
+count_of : Result Visited Ending → ℕ
 count_of (Err cause) = 0
 count_of (Ok visited) = visited.count
 

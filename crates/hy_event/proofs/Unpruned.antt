@@ -10,7 +10,7 @@ use Rattle.hy_event.specs.Accounts.{chunk_of}
 
 -- where pruning keeps all stamps of the one position, the chunk stays
 pub unpruned : (session : SessionData) (cover : Cover) (first : ℕ) (place : Place)
-    → stamps place ≡ map (λ undo. undo.stamp) (pruned both cover place.chain) → PrunesFirst session cover (chunk_of first place) (chunk_of first place)
+    → stamps place ≡ map (λ undo. undo.stamp) (pruned both cover place.chain) → PrunesFirst session.prunes cover (chunk_of first place) (chunk_of first place)
 unpruned session cover first place kept = record {
   pruned = λ _. record {
     places = (record { stamps = kept; views = λ viewer safe. refl; version = refl; used = refl; death = refl }, tt);

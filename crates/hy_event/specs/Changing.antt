@@ -1,11 +1,10 @@
 -- How a visit changes a chunk: its positions alone, first of all by pruning.
-use Rattle.std.specs.Prelude.{◌≡◌, ℕ, suc, List, [], ◌∷◌, ◌++◌, true, false, Option, None, Some, slice_get, slice_set}
+use Rattle.std.specs.Prelude.{◌≡◌, ℕ, suc, List, [], ◌∷◌, ◌++◌, Bool, true, false, Option, None, Some, slice_get, slice_set}
 use Rattle.hy_value.specs.declared.change.Change.{Change}
 use Rattle.hy_prune.specs.declared.Cover.{Cover}
 use Rattle.hy_stamp.specs.declared.Viewer.{Viewer}
 use Rattle.hy_undo.specs.Places.{Place, Cell, sees}
 use Rattle.hy_undo.specs.Chunks.{ChunkData, Pruned, Everywhere}
-use Rattle.hy_event.specs.declared.SessionData.{SessionData}
 
 -- the positions of a chunk change so, and nothing else of it
 pub record OnlyPlaces (does : List Place → List Place → Type 0) (old new : ChunkData) : Type 0 where
@@ -20,10 +19,10 @@ pub record OnlyAt (index : ℕ) (does : Place → Place → Type 0) (old new : L
   pub change : does was becomes
   pub others : new ≡ slice_set old index becomes
 
--- a session prunes the chunk by its cover, or leaves it if it doesn't prune
-pub record PrunesFirst (session : SessionData) (cover : Cover) (old new : ChunkData) : Type 0 where
-  pub pruned : session.prunes ≡ true → OnlyPlaces (Everywhere (Pruned cover)) old new
-  pub kept : session.prunes ≡ false → new ≡ old
+-- the chunk is pruned by a cover, or left as it is by one who doesn't prune
+pub record PrunesFirst (prunes : Bool) (cover : Cover) (old new : ChunkData) : Type 0 where
+  pub pruned : prunes ≡ true → OnlyPlaces (Everywhere (Pruned cover)) old new
+  pub kept : prunes ≡ false → new ≡ old
 
 -- the change of a position, if it gets a new cell
 abbrev pub change_of : ℕ → ℕ → Cell → Option Cell → List Change

@@ -14,15 +14,16 @@ use Rattle.hy_validate.specs.declared.Invalid.{Invalid}
 use Rattle.hy_validate.specs.Hits.{first_invalid}
 use Rattle.hy_event.specs.declared.SessionData.{SessionData}
 use Rattle.hy_event.specs.declared.Open.{Open}
-use Rattle.hy_event.specs.declared.Phase.{Phase}
-use Rattle.hy_event.specs.declared.Phase.TheVariants.{Working, Stamping, Undoing}
-use Rattle.hy_event.specs.declared.Progress.{Progress}
+use Rattle.hy_protocol.specs.declared.Phase.{Phase}
+use Rattle.hy_protocol.specs.declared.Phase.TheVariants.{Working, Stamping, Undoing}
+use Rattle.hy_protocol.specs.declared.Progress.{Progress}
 use Rattle.hy_event.specs.Sessions.{txn_at, label_of}
-use Rattle.hy_event.specs.Turns.{Turn, Waits, Begins, Enters, Ends, refused, Takes}
+use Rattle.hy_protocol.specs.Turns.{Turn, Waits, Begins, Enters, Ends, refused}
+use Rattle.hy_event.specs.Turns.{TakesBy}
 
 -- what a session does at the core, and the core after that
 abbrev pub CoreTurn : Type 0
-CoreTurn = Turn × CoreData
+CoreTurn = Turn Change × CoreData
 
 -- a core step is taken unless another transaction stands between its entry and its end
 abbrev pub unless_blocked : CoreData → Option Label → CoreTurn → CoreTurn
@@ -31,23 +32,8 @@ unless_blocked core (Some by) turn = (Waits by, core)
 
 -- ---- BEGIN
 
--- a transaction that begins: its prefix is the whole journal, and its own start is in its cover
-abbrev pub beginning : CoreData → Open
-beginning core = record {
-  start = core.next;
-  prefix = length core.entries;
-  cover = record { starts = core.active ++ core.next ∷ []; next = suc core.next };
-  replies = [];
-  records = [];
-  took = [];
-  gathered = [];
-  notes = [];
-  wrote = [];
-  phase = Working 0 0;
-}
-
 abbrev pub begin_turn : CoreData → CoreTurn
-begin_turn core = (Begins (beginning core), core_begun core)
+begin_turn core = (Begins, core_begun core)
 
 -- ---- the ends
 
@@ -72,7 +58,7 @@ invalid_by records invalid = ending.Invalid invalid.table invalid.pos invalid.ot
 
 -- validation refuses a transaction, or its entry goes into the journal
 abbrev pub validated_turn : SessionData → CoreData → Open → Option Invalid → CoreTurn
-validated_turn session core now None = (Enters core.next, core_entered core (label_of session) now.start now.notes)
+validated_turn session core now None = (Enters, core_entered core (label_of session) now.start now.notes)
 validated_turn session core now (Some invalid) = (refused (invalid_by now.records invalid), core)
 
 -- COMMIT by what it wrote: a transaction that wrote nothing ends, any other is validated by the entries since its start
@@ -94,7 +80,7 @@ working_turn session core txn now (Some statement) = None
 
 abbrev pub phase_turn : SessionData → CoreData → Txn → Open → Phase → Option CoreTurn
 phase_turn session core txn now (Working visited count) = working_turn session core txn now (slice_get txn.statements (length now.replies))
-phase_turn session core txn now (Stamping visited time) = Some (leave_turn core now)
+phase_turn session core txn now (Stamping visited) = Some (leave_turn core now)
 phase_turn session core txn now (Undoing visited cause) =
     Some (unless_blocked core (blocked_by core (label_of session)) (close_turn core now cause))
 
@@ -108,10 +94,10 @@ abbrev pub core_turn : SessionData → CoreData → Option CoreTurn
 core_turn session core = session_turn session core (txn_at session) session.now
 
 -- a session takes this turn, and leaves the core so
-abbrev pub TakesAtCore : SessionData → Option CoreTurn → Progress → SessionData → CoreData → Type 0
-TakesAtCore session None progress after new = ⊥
-TakesAtCore session (Some turn) progress after new = Takes session turn.0 progress after × (new ≡ turn.1)
+abbrev pub TakesAtCore : SessionData → CoreData → Option CoreTurn → Progress → SessionData → CoreData → Type 0
+TakesAtCore session old None progress after new = ⊥
+TakesAtCore session old (Some turn) progress after new = TakesBy old session turn.0 progress after × (new ≡ turn.1)
 
 -- a visit of the core
 abbrev pub CoreEvent : SessionData → CoreData → Progress → SessionData → CoreData → Type 0
-CoreEvent session old progress after new = TakesAtCore session (core_turn session old) progress after new
+CoreEvent session old progress after new = TakesAtCore session old (core_turn session old) progress after new

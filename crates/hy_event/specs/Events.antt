@@ -9,11 +9,11 @@ use Rattle.hy_render.specs.declared.Ending.TheVariants.{RolledBack}
 use Rattle.hy_undo.specs.Chunks.{ChunkData}
 use Rattle.hy_event.specs.declared.SessionData.{SessionData}
 use Rattle.hy_event.specs.declared.Open.{Open}
-use Rattle.hy_event.specs.declared.Phase.{Phase}
-use Rattle.hy_event.specs.declared.Phase.TheVariants.{Working, Stamping, Undoing}
+use Rattle.hy_protocol.specs.declared.Phase.{Phase}
+use Rattle.hy_protocol.specs.declared.Phase.TheVariants.{Working, Stamping, Undoing}
 use Rattle.hy_event.specs.declared.Need.{Need}
 use Rattle.hy_event.specs.declared.Need.TheVariants.{Core, Chunk, Done}
-use Rattle.hy_event.specs.declared.Progress.{Progress}
+use Rattle.hy_protocol.specs.declared.Progress.{Progress}
 use Rattle.hy_event.specs.Sessions.{txn_at}
 use Rattle.hy_event.specs.Needs.{need_of}
 use Rattle.hy_event.specs.Gathering.{select_read_plan, group_read_plan}
@@ -52,7 +52,7 @@ WorkingVisit session txn now visited count (Some statement) = StatementVisit ses
 -- a visit of an open transaction, by where it stands
 abbrev pub PhaseVisit : SessionData → Txn → Open → Phase → ChunkData → Progress → SessionData → ChunkData → Type 0
 PhaseVisit session txn now (Working visited count) = WorkingVisit session txn now visited count (slice_get txn.statements (length now.replies))
-PhaseVisit session txn now (Stamping visited time) = StampVisit session now visited time
+PhaseVisit session txn now (Stamping visited) = StampVisit session now visited
 PhaseVisit session txn now (Undoing visited cause) = UndoVisit session now visited cause
 
 -- a visit of a session that is at this transaction of its program, which is open or not

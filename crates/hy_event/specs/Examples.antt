@@ -16,8 +16,8 @@ use Rattle.hy_render.specs.declared.TxnOutcome.{TxnOutcome}
 use Rattle.hy_undo.specs.Places.{Cell}
 use Rattle.hy_event.specs.declared.SessionData.{SessionData}
 use Rattle.hy_event.specs.declared.Open.{Open}
-use Rattle.hy_event.specs.declared.Phase.{Phase}
-use Rattle.hy_event.specs.declared.Phase.TheVariants.{Working, Stamping}
+use Rattle.hy_protocol.specs.declared.Phase.{Phase}
+use Rattle.hy_protocol.specs.declared.Phase.TheVariants.{Working, Stamping}
 use Rattle.hy_meaning.specs.Statement.{Table}
 use Rattle.hy_event.specs.Accounts.{number, account, accounts, is_account, joining, logged, committing, first}
 
@@ -51,6 +51,7 @@ begun phase = record {
   gathered = [];
   notes = [];
   wrote = [];
+  time = 0;
   phase = phase;
 }
 
@@ -97,7 +98,7 @@ abbrev pub payer : Open
 payer = answered (Updated 1) None (logged (is_account 2) (0 ∷ [])) (paid ∷ [])
 
 abbrev pub payer_entered : ℕ → Open
-payer_entered visited = record payer { notes = []; wrote = record { table = 0; pos = 1 } ∷ []; phase = Stamping visited 2 }
+payer_entered visited = record payer { notes = []; wrote = record { table = 0; pos = 1 } ∷ []; time = 2; phase = Stamping visited }
 
 abbrev pub payer_ended : Ending → TxnOutcome
 payer_ended ending = record {

@@ -6,16 +6,16 @@ use Rattle.hy_bound.specs.declared.Txn.{Txn}
 use Rattle.hy_bound.specs.Records.{shape_of}
 use Rattle.hy_event.specs.declared.SessionData.{SessionData}
 use Rattle.hy_event.specs.declared.Open.{Open}
-use Rattle.hy_event.specs.declared.Phase.{Phase}
-use Rattle.hy_event.specs.declared.Phase.TheVariants.{Working, Stamping, Undoing}
+use Rattle.hy_protocol.specs.declared.Phase.{Phase}
+use Rattle.hy_protocol.specs.declared.Phase.TheVariants.{Working, Stamping, Undoing}
 use Rattle.hy_event.specs.declared.Need.{Need}
 use Rattle.hy_event.specs.declared.Need.TheVariants.{Core, Chunk, Done}
-use Rattle.hy_event.specs.Sessions.{txn_at, written_chunks}
+use Rattle.hy_protocol.specs.Statements.{checks_of as checks_in}
+use Rattle.hy_event.specs.Sessions.{layout_of, txn_at, written_chunks}
 
 -- how many chunks an INSERT checks for its key before it takes a position
 abbrev pub checks_of : SessionData → Option ℕ → ℕ
-checks_of session None = 0
-checks_of session (Some key) = session.chunks
+checks_of session = checks_in (layout_of session)
 
 -- a visit of a SELECT of these tables: the chunks of the first table, then those of the next
 abbrev pub select_need : SessionData → ℕ → List ℕ → Need
@@ -54,7 +54,7 @@ working_need session txn now visited (Some statement) = statement_need session v
 -- what an open transaction needs, by where it stands
 abbrev pub phase_need : SessionData → Txn → Open → Phase → Need
 phase_need session txn now (Working visited count) = working_need session txn now visited (slice_get txn.statements (length now.replies))
-phase_need session txn now (Stamping visited time) = written_need session now visited
+phase_need session txn now (Stamping visited) = written_need session now visited
 phase_need session txn now (Undoing visited cause) = written_need session now visited
 
 -- what a session needs that is at this transaction of its program, which is open or not

@@ -8,10 +8,15 @@ use Rattle.hy_render.specs.declared.Place.{Place}
 use Rattle.hy_stamp.specs.declared.Label.{Label}
 use Rattle.hy_stamp.specs.declared.Viewer.{Viewer}
 use Rattle.hy_stamp.specs.Times.{id_of}
+use Rattle.hy_protocol.specs.Asking.{Layout}
 use Rattle.hy_event.specs.declared.SessionData.{SessionData}
 use Rattle.hy_event.specs.declared.Open.{Open}
-use Rattle.hy_event.specs.declared.Phase.{Phase}
-use Rattle.hy_event.specs.declared.Phase.TheVariants.{Working, Stamping, Undoing}
+use Rattle.hy_protocol.specs.declared.Phase.{Phase}
+use Rattle.hy_protocol.specs.declared.Phase.TheVariants.{Working, Stamping, Undoing}
+
+-- how the tables lie that a session runs on
+abbrev pub layout_of : SessionData → Layout
+layout_of session = record { shapes = session.shapes; chunks = session.chunks }
 
 -- the transaction of its program that a session is at, if it isn't at its end
 abbrev pub txn_at : SessionData → Option Txn
@@ -31,7 +36,7 @@ place_noted note = record { table = note.table; pos = note.pos }
 -- the positions that an open transaction wrote: those of its notes, until its entry has them
 abbrev pub written_in : Open → Phase → List Place
 written_in now (Working visited count) = map place_noted now.notes
-written_in now (Stamping visited time) = now.wrote
+written_in now (Stamping visited) = now.wrote
 written_in now (Undoing visited cause) = map place_noted now.notes
 
 abbrev pub written : Open → List Place

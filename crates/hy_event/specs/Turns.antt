@@ -1,55 +1,31 @@
--- What a session does in a visit, as a value, and what that makes of the session.
+-- What a session's turn makes of it.
 use Rattle.std.specs.Prelude.{◌≡◌, ℕ, suc, List, [], ◌∷◌, ◌++◌, Option, None, Some, length}
 use Rattle.std.specs.Option.{option_map}
 use Rattle.hy_value.specs.declared.Value.{Value}
 use Rattle.hy_bound.specs.declared.Bound.{Bound}
+use Rattle.hy_render.specs.declared.Ending.{Ending}
 use Rattle.hy_bound.specs.declared.Record.{Record}
 use Rattle.hy_bound.specs.declared.Reply.{Reply}
 use Rattle.hy_value.specs.declared.change.Change.{Change}
 use Rattle.hy_notes.specs.Notes.{with_note}
-use Rattle.hy_plan.specs.Reads.{records_of}
-use Rattle.hy_render.specs.declared.Ending.{Ending}
+use Rattle.hy_journal.specs.declared.CoreData.{CoreData}
 use Rattle.hy_render.specs.declared.TxnOutcome.{TxnOutcome}
-use Rattle.hy_stamp.specs.declared.Label.{Label}
+use Rattle.hy_protocol.specs.declared.Phase.{Phase}
+use Rattle.hy_protocol.specs.declared.Phase.TheVariants.{Working, Stamping}
+use Rattle.hy_protocol.specs.declared.Progress.{Progress}
+use Rattle.hy_protocol.specs.declared.Progress.TheVariants.{Blocked, Moved, Answered, Ended}
+use Rattle.hy_protocol.specs.Turns.{Turn, Done, Waits, Begins, Visits, Answers, Enters, Ends}
+use Rattle.hy_protocol.specs.Statements.{answers}
 use Rattle.hy_event.specs.declared.SessionData.{SessionData}
 use Rattle.hy_event.specs.declared.Open.{Open}
-use Rattle.hy_event.specs.declared.Phase.{Phase}
-use Rattle.hy_event.specs.declared.Phase.TheVariants.{Working, Stamping, Undoing}
-use Rattle.hy_event.specs.declared.Progress.{Progress}
-use Rattle.hy_event.specs.declared.Progress.TheVariants.{Moved, Answered, Blocked}
-use Rattle.hy_event.specs.Sessions.{written}
+use Rattle.hy_event.specs.Sessions.{layout_of, written}
 use Rattle.hy_event.specs.Ended.{outcome_of}
-
--- what a session does
-pub data Turn : Type 0 where
-  -- it waits for a transaction that stands between its entry and its end
-  Waits : Label → Turn
-  -- it begins a transaction
-  Begins : Open → Turn
-  -- its open transaction writes, and goes on to a phase without an answer
-  Visits : List Change → Phase → Turn
-  -- its open transaction writes and answers its present statement: the reply, the position that an INSERT took, the
-  -- records of what the statement read
-  Answers : List Change → Reply → Option ℕ → List Record → Turn
-  -- its open transaction has its entry, with this commit time
-  Enters : ℕ → Turn
-  -- its open transaction ends
-  Ends : Ending → Turn
 
 -- ---- turns of a statement
 
 -- a statement is answered: its reply, and the records of what it read of these rows
-abbrev pub answer_turn : SessionData → Open → Bound → List (List (List Value)) → List Change → Reply → Option ℕ → Turn
-answer_turn session now statement gathered changes reply took =
-    Answers changes reply took (records_of session.shapes (suc (length now.replies)) statement gathered)
-
--- a visit that neither writes nor answers
-abbrev pub goes_on : ℕ → Turn
-goes_on visited = Visits [] (Working (suc visited) 0)
-
--- a transaction is refused: it will be undone
-abbrev pub refused : Ending → Turn
-refused cause = Visits [] (Undoing 0 cause)
+abbrev pub answer_turn : SessionData → Open → Bound → List (List (List Value)) → List Change → Reply → Option ℕ → Turn Change
+answer_turn session now = answers (layout_of session) (length now.replies)
 
 -- ---- an open transaction after a turn
 
@@ -73,9 +49,30 @@ after_answer changes reply took records now = record now {
   phase = Working 0 0;
 }
 
+-- a transaction that begins: its prefix is the whole journal, and its own start is in its cover
+abbrev pub beginning : CoreData → Open
+beginning core = record {
+  start = core.next;
+  prefix = length core.entries;
+  cover = record { starts = core.active ++ core.next ∷ []; next = suc core.next };
+  replies = [];
+  records = [];
+  took = [];
+  gathered = [];
+  notes = [];
+  wrote = [];
+  time = 0;
+  phase = Working 0 0;
+}
+
+-- the next time of a core that is visited
+abbrev pub time_at : Option CoreData → ℕ
+time_at None = 0
+time_at (Some core) = core.next
+
 -- after its notes went into an entry: the positions that it wrote stay
 abbrev pub after_entry : ℕ → Open → Open
-after_entry time now = record now { notes = []; wrote = written now; phase = Stamping 0 time }
+after_entry time now = record now { notes = []; wrote = written now; time = time; phase = Stamping 0 }
 
 -- ---- a session after a turn
 
@@ -100,15 +97,20 @@ with_ended ending session = record session { done = done_with session ending ses
 abbrev pub Step : Type 0
 Step = SessionData × Progress
 
--- what a turn makes of a session
-abbrev pub after_turn : SessionData → Turn → Step
-after_turn session (Waits by) = (session, Blocked by)
-after_turn session (Begins now) = (with_open now session, Answered)
-after_turn session (Visits changes phase) = (with_changed (after_visit changes phase) session, Moved)
-after_turn session (Answers changes reply took records) = (with_changed (after_answer changes reply took records) session, Answered)
-after_turn session (Enters time) = (with_changed (after_entry time) session, Moved)
-after_turn session (Ends ending) = (with_ended ending session, Answered)
+-- what a turn makes of a session that visits the core, or else a chunk, where it neither begins nor enters
+abbrev pub after_turn : Option CoreData → SessionData → Turn Change → Step
+after_turn core session Done = (session, Ended)
+after_turn core session (Waits by) = (session, Blocked by)
+after_turn core session Begins = (record session { now = option_map beginning core }, Answered)
+after_turn core session (Visits changes phase) = (with_changed (after_visit changes phase) session, Moved)
+after_turn core session (Answers changes reply took records) = (with_changed (after_answer changes reply took records) session, Answered)
+after_turn core session Enters = (with_changed (after_entry (time_at core)) session, Moved)
+after_turn core session (Ends ending) = (with_ended ending session, Answered)
 
--- a session took this turn
-abbrev pub Takes : SessionData → Turn → Progress → SessionData → Type 0
-Takes session turn progress after = (after, progress) ≡ after_turn session turn
+-- a session took this turn at a chunk
+abbrev pub Takes : SessionData → Turn Change → Progress → SessionData → Type 0
+Takes session turn progress after = (after, progress) ≡ after_turn None session turn
+
+-- a session took this turn at the core
+abbrev pub TakesBy : CoreData → SessionData → Turn Change → Progress → SessionData → Type 0
+TakesBy core session turn progress after = (after, progress) ≡ after_turn (Some core) session turn

@@ -5,10 +5,11 @@ use Rattle.hy_stamp.specs.Times.{id_of}
 use Rattle.hy_undo.specs.Chunks.{ChunkData, Undone, AtOwn, Everywhere}
 use Rattle.hy_event.specs.declared.SessionData.{SessionData}
 use Rattle.hy_event.specs.declared.Open.{Open}
-use Rattle.hy_event.specs.declared.Phase.TheVariants as phase
-use Rattle.hy_event.specs.declared.Progress.{Progress}
+use Rattle.hy_protocol.specs.declared.Phase.TheVariants as phase
+use Rattle.hy_protocol.specs.declared.Progress.{Progress}
 use Rattle.hy_event.specs.Sessions.{label_of}
-use Rattle.hy_event.specs.Turns.{Visits, Takes}
+use Rattle.hy_protocol.specs.Turns.{Visits}
+use Rattle.hy_event.specs.Turns.{Takes}
 use Rattle.hy_event.specs.Changing.{OnlyPlaces}
 
 pub record UndoVisit (session : SessionData) (now : Open) (visited : ℕ) (cause : Ending)

@@ -1,9 +1,8 @@
 -- A visit of an UPDATE or a DELETE: the chunk is pruned, and then written, unless a position of it refuses that.
-use Rattle.std.specs.Prelude.{◌≡◌, ℕ, suc, ◌+◌, List, [], nat_lt, Option, None, Some, Result, Ok, Err, length, if◌then◌else◌}
+use Rattle.std.specs.Prelude.{◌≡◌, ℕ, List, Option, Result, Ok, Err, length}
 use Rattle.hy_bound.specs.declared.Assign.{Assign}
 use Rattle.hy_bound.specs.declared.Bound.{Bound}
 use Rattle.hy_bound.specs.declared.Reply.{Reply}
-use Rattle.hy_bound.specs.declared.Reply.TheVariants as reply
 use Rattle.hy_bound.specs.Condition.{Condition}
 use Rattle.hy_value.specs.declared.change.Change.{Change}
 use Rattle.hy_render.specs.declared.Ending.{Ending}
@@ -17,29 +16,31 @@ use Rattle.hy_undo.specs.Chunks.{ChunkData}
 use Rattle.hy_undo.specs.Sweeps.{swept, AllWritten}
 use Rattle.hy_event.specs.declared.SessionData.{SessionData}
 use Rattle.hy_event.specs.declared.Open.{Open}
-use Rattle.hy_event.specs.declared.Phase.TheVariants.{Working}
-use Rattle.hy_event.specs.declared.Progress.{Progress}
-use Rattle.hy_event.specs.Sessions.{label_of, viewer_of}
-use Rattle.hy_event.specs.Turns.{Turn, Visits, answer_turn, refused, Takes}
+use Rattle.hy_protocol.specs.declared.Progress.{Progress}
+use Rattle.hy_event.specs.Sessions.{layout_of, label_of, viewer_of}
+use Rattle.hy_protocol.specs.Turns.{Turn}
+use Rattle.hy_protocol.specs.Statements.{kind_of, told_by as told_of, write_turn as writes_on}
+use Rattle.hy_event.specs.Turns.{Takes}
 use Rattle.hy_event.specs.Changing.{OnlyPlaces, PrunesFirst, changes_from}
 
 -- the reply to an UPDATE, by its sets, or a DELETE that selected so many rows
 abbrev pub told_by : Option (List Assign) → ℕ → Reply
-told_by (Some sets) count = reply.Updated count
-told_by None count = reply.Deleted count
+told_by sets = told_of (kind_of sets)
 
 -- how a transaction ends that is refused at a position of a table
 abbrev pub ending_by : ℕ → Refusal → Ending
 ending_by table (Conflict pos other) = ending.Conflict table pos other
 ending_by table (Range pos) = ending.Range table pos
 
+-- what is changed of a table, or how the transaction ends that is refused there
+abbrev pub changed_in : ℕ → Result (List Change) Refusal → Result (List Change) Ending
+changed_in table (Err refusal) = Err (ending_by table refusal)
+changed_in table (Ok changes) = Ok changes
+
 -- a visit of an UPDATE or a DELETE, by what it changes in its chunk: the last one answers
-abbrev pub write_turn : SessionData → Open → ℕ → ℕ → Bound → ℕ → Option (List Assign) → Result (List Change) Refusal → Turn
-write_turn session now visited count statement table sets (Err refusal) = refused (ending_by table refusal)
-write_turn session now visited count statement table sets (Ok changes) =
-    if nat_lt (suc visited) session.chunks
-    then Visits changes (Working (suc visited) (count + length changes))
-    else answer_turn session now statement [] changes (told_by sets (count + length changes)) None
+abbrev pub write_turn : SessionData → Open → ℕ → ℕ → Bound → ℕ → Option (List Assign) → Result (List Change) Refusal → Turn Change
+write_turn session now visited count statement table sets changes =
+    writes_on (layout_of session) (length now.replies) visited count statement (kind_of sets) (changed_in table changes)
 
 -- the new cells of the positions of a chunk, or the first refusal
 abbrev pub cells_by : Option (List Assign) → Condition → Viewer → ChunkData → Result (List (Option Cell)) Refusal
@@ -59,7 +60,7 @@ changes_by table viewer chunk (Ok cells) = Ok (changes_from table chunk.first vi
 pub record WriteVisit (session : SessionData) (now : Open) (visited count : ℕ) (statement : Bound) (table : ℕ)
     (sets : Option (List Assign)) (pred : Condition) (old : ChunkData) (progress : Progress) (after : SessionData) (new : ChunkData) : Type 0 where
   pub between : ChunkData
-  pub prunes : PrunesFirst session now.cover old between
+  pub prunes : PrunesFirst session.prunes now.cover old between
   pub chunk : Becomes (viewer_of session now) (label_of session) (cells_by sets pred (viewer_of session now) between) between new
   pub turn : Takes session
       (write_turn session now visited count statement table sets

@@ -18,37 +18,10 @@ pub use examples::{
     no_other_part_is_visited,
 };
 use hy_bound::{Records, Replies, Rows, Shapes, Txns};
+use hy_protocol::Phase;
 use hy_prune::Cover;
-use hy_render::{Ending, Places, TxnOutcome};
-use hy_stamp::Label;
+use hy_render::{Places, TxnOutcome};
 use hy_value::{Changes, Seq};
-
-/// Where an open transaction stands. Which kind of visit comes next follows from its present statement.
-#[derive(Clone, Copy, Debug, PartialEq, Eq)]
-pub enum Phase {
-    /// So many visits of its present statement are done, which selected so many rows. Where all statements are
-    /// answered nothing is done of what closes it.
-    Working {
-        /// The visits done.
-        visited: u32,
-        /// The rows selected so far by an UPDATE or a DELETE.
-        count: u64,
-    },
-    /// Its entry stands in the journal, and so many of the chunks that it wrote are stamped.
-    Stamping {
-        /// The stamps done.
-        visited: u32,
-        /// Its commit time.
-        time: u64,
-    },
-    /// So many of the chunks that it wrote are undone.
-    Undoing {
-        /// The undo visits done.
-        visited: u32,
-        /// How it will end.
-        cause: Ending,
-    },
-}
 
 /// An open transaction.
 #[derive(Drop)]
@@ -72,6 +45,8 @@ pub struct Open {
     pub notes: Changes,
     /// The positions that it wrote, from its entry on.
     pub wrote: Places,
+    /// Its commit time, from its entry on; 0 until then.
+    pub time: u64,
     /// Where it stands.
     pub phase: Phase,
 }
@@ -111,18 +86,4 @@ pub enum Need {
     },
     /// None: its script is at its end.
     Done,
-}
-
-/// What a visit came to.
-#[derive(Clone, Copy, Debug, PartialEq, Eq)]
-pub enum Progress {
-    /// The session went on, and has not answered yet.
-    Moved,
-    /// The session began a transaction, or gave a reply or an ending.
-    Answered,
-    /// Nothing changed: a transaction stands between the entry of its commit and its end.
-    Blocked {
-        /// That transaction.
-        by: Label,
-    },
 }

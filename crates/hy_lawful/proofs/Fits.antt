@@ -8,10 +8,11 @@ use Rattle.hy_render.specs.declared.Ending.{Ending}
 use Rattle.hy_render.specs.declared.Ending.TheVariants.{Committed, Read, RolledBack, Conflict, Invalid, Range, Full}
 use Rattle.hy_render.specs.declared.TxnOutcome.{TxnOutcome}
 use Rattle.hy_machine.specs.declared.Setting.{Setting}
-use Rattle.hy_machine.specs.States.{State, Session, Open, Begun, Finished, Phase, Working, Stamping, Undoing}
+use Rattle.hy_protocol.specs.declared.Phase.{Phase}
+use Rattle.hy_protocol.specs.declared.Phase.TheVariants.{Working, Stamping, Undoing}
+use Rattle.hy_machine.specs.States.{State, Session, Open, Begun, Finished}
 use Rattle.hy_machine.specs.Tables.{Entry, capacity}
 use Rattle.hy_machine.specs.Sessions.{session_at, program_of}
-use Rattle.hy_machine.specs.Turns.{ending_of}
 use Rattle.hy_machine.specs.Outcomes.{txn_outcome_of}
 use Rattle.hy_lawful.specs.Scripts.{statements_of, txn_of, ClosesWithCommit}
 use Rattle.hy_lawful.specs.Outcomes.{EachFrom, committed_at, refused_statement}
@@ -106,7 +107,7 @@ PhaseFits setting order mark number before begun (Working visited count) =
 PhaseFits setting order mark number before begun (Stamping visited) =
     (mark ≡ Some number) × EndsAs setting order number before (record { begun = begun; ending = Committed (length order - 1) })
 PhaseFits setting order mark number before begun (Undoing visited cause) =
-    EndsAs setting order number before (record { begun = begun; ending = ending_of cause })
+    EndsAs setting order number before (record { begun = begun; ending = cause })
 
 -- an open transaction, behind those that have ended
 pub record OpenFits (setting : Setting) (order : List Entry) (mark : Option ℕ) (number : ℕ) (done : List Finished) (current : Open) : Type 0 where

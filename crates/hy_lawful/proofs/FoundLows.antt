@@ -8,10 +8,13 @@ use Rattle.std.proofs.lemmas.Option.{same_Some, IfSome_then}
 use Rattle.hy_bound.specs.declared.Txn.{Txn}
 use Rattle.hy_stamp.specs.declared.Label.{Label}
 use Rattle.hy_render.specs.declared.Ending.{Ending}
+use Rattle.hy_machine.specs.Writes.{Write}
 use Rattle.hy_machine.specs.declared.Setting.{Setting}
-use Rattle.hy_machine.specs.States.{State, Session, Open, Finished, Stamping}
+use Rattle.hy_protocol.specs.declared.Phase.TheVariants.{Stamping}
+use Rattle.hy_machine.specs.States.{State, Session, Open, Finished}
 use Rattle.hy_machine.specs.Tables.{Entry}
-use Rattle.hy_machine.specs.Turns.{Turn, Done, Waits, Begins, Visits, Answers, Enters, Ends, unless_blocked, phase_turn, session_turn}
+use Rattle.hy_protocol.specs.Turns.{Turn, Done, Waits, Begins, Visits, Answers, Enters, Ends, unless_blocked}
+use Rattle.hy_machine.specs.Turns.{phase_turn, session_turn}
 use Rattle.hy_machine.specs.Sessions.{fresh, session_at, txn_at, blocker, least_with, least_prefix}
 use Rattle.hy_machine.specs.Steps.{with_open, beginning, with_changed, after_visit, after_answer, done_with, order_with, after_turn, step_of}
 use Rattle.hy_machine.specs.Runs.{opening_of, after_steps, IsReached}
@@ -157,7 +160,7 @@ ends state number current ending there all is =
     session = record { done = (session_at state number).done ++ record { begun = current.begun; ending = ending } ∷ []; now = None }
 
 turn_low : (setting : Setting) (state : State) (number : ℕ) (current : Open) → number < length state.sessions → AllLow state
-    → (session_at state number).now ≡ Some current → (turn : Turn) → FitsTurn setting state number current.begun turn
+    → (session_at state number).now ≡ Some current → (turn : Turn Write) → FitsTurn setting state number current.begun turn
     → AllLow (after_turn setting state number turn).0
 turn_low setting state number current there all is Done f = all
 turn_low setting state number current there all is (Waits by) f = all

@@ -10,10 +10,12 @@ use Rattle.std.proofs.lemmas.Option.{same_Some}
 use Rattle.hy_bound.specs.declared.Txn.{Txn}
 use Rattle.hy_render.specs.declared.Ending.{Ending}
 use Rattle.hy_machine.specs.declared.Setting.{Setting}
-use Rattle.hy_machine.specs.States.{State, Session, Open, Begun, Finished, Stamping}
+use Rattle.hy_protocol.specs.declared.Phase.TheVariants.{Stamping}
+use Rattle.hy_machine.specs.States.{State, Session, Open, Begun, Finished}
 use Rattle.hy_machine.specs.Tables.{Entry, Cell, Own}
 use Rattle.hy_machine.specs.Writes.{Write, with_write, with_writes}
-use Rattle.hy_machine.specs.Turns.{Turn, Done, Waits, Begins, Visits, Answers, Enters, Ends, session_turn}
+use Rattle.hy_protocol.specs.Turns.{Turn, Done, Waits, Begins, Visits, Answers, Enters, Ends}
+use Rattle.hy_machine.specs.Turns.{session_turn}
 use Rattle.hy_machine.specs.Positions.{item_at}
 use Rattle.hy_machine.specs.Sessions.{session_at, txn_at, entry_of}
 use Rattle.hy_machine.specs.Steps.{with_open, beginning, with_changed, with_ended, after_visit, after_answer, order_with, after_turn, step_of}
@@ -175,7 +177,7 @@ gone_writes begun writes later p o = record {
   wrote = λ table pos w. ap (λ (own : Own). is_some (item_at own table pos)) o ∙ writes_kept writes begun.own table pos w;
 }
 
-turn_goes : (setting : Setting) (state : State) (number : ℕ) → number < length state.sessions → (turn : Turn)
+turn_goes : (setting : Setting) (state : State) (number : ℕ) → number < length state.sessions → (turn : Turn Write)
     → (turn ≡ Begins → (session_at state number).now ≡ None) → Later state (after_turn setting state number turn).0
     → Goes state (after_turn setting state number turn).0
 turn_goes setting state number there Done h l = goes_nowhere state l

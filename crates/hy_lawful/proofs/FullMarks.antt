@@ -6,10 +6,13 @@ use Rattle.std.proofs.lemmas.Bool.{eqb-true}
 use Rattle.std.proofs.lemmas.List.{length-append}
 use Rattle.hy_bound.specs.declared.Txn.{Txn}
 use Rattle.hy_stamp.specs.declared.Label.{Label}
+use Rattle.hy_machine.specs.Writes.{Write}
 use Rattle.hy_machine.specs.declared.Setting.{Setting}
-use Rattle.hy_machine.specs.States.{State, Open, Stamping}
+use Rattle.hy_protocol.specs.declared.Phase.TheVariants.{Stamping}
+use Rattle.hy_machine.specs.States.{State, Open}
 use Rattle.hy_machine.specs.Tables.{Entry}
-use Rattle.hy_machine.specs.Turns.{Turn, Done, Waits, Begins, Visits, Answers, Enters, Ends, unless_blocked, phase_turn, session_turn}
+use Rattle.hy_protocol.specs.Turns.{Turn, Done, Waits, Begins, Visits, Answers, Enters, Ends, unless_blocked}
+use Rattle.hy_machine.specs.Turns.{phase_turn, session_turn}
 use Rattle.hy_machine.specs.Sessions.{session_at, txn_at, label_of, blocker_of, blocker, entry_of}
 use Rattle.hy_machine.specs.Steps.{with_changed, after_visit, after_answer, order_with, after_turn, step_of}
 use Rattle.hy_machine.specs.Runs.{opening_of, after_steps, IsReached}
@@ -51,7 +54,7 @@ goes_on state number change same there all =
     (changed_before (length state.order) state.mark change same (session_at state number).now (all number)) (λ other apart. all other)
 
 turn_before : (setting : Setting) (state : State) (number : ℕ) (current : Open) → Fits setting state → number < length state.sessions → AllBefore state
-    → (session_at state number).now ≡ Some current → (turn : Turn) → FitsTurn setting state number current.begun turn
+    → (session_at state number).now ≡ Some current → (turn : Turn Write) → FitsTurn setting state number current.begun turn
     → AllBefore (after_turn setting state number turn).0
 turn_before setting state number current fits there all is Done f = all
 turn_before setting state number current fits there all is (Waits by) f = all

@@ -17,20 +17,23 @@ use Rattle.hy_bound.specs.Records.{shape_of}
 use Rattle.hy_meaning.specs.Statement.{answer_of, grouped}
 use Rattle.hy_stamp.specs.declared.Label.{Label}
 use Rattle.hy_render.specs.declared.Ending.{Ending}
-use Rattle.hy_render.specs.declared.Ending.TheVariants as ways
+use Rattle.hy_render.specs.declared.Ending.TheVariants.{Committed, Read, RolledBack, Conflict, Invalid, Range, Full}
 use Rattle.hy_machine.specs.declared.Setting.{Setting}
-use Rattle.hy_machine.specs.States.{State, Session, Open, Begun, Finished, Cause, RolledBack, Conflict, Invalid, Range, Full, Phase, Working, Stamping}
-use Rattle.hy_machine.specs.States.{Undoing}
+use Rattle.hy_protocol.specs.declared.Phase.{Phase}
+use Rattle.hy_protocol.specs.declared.Phase.TheVariants.{Working, Stamping, Undoing}
+use Rattle.hy_machine.specs.States.{State, Session, Open, Begun, Finished}
 use Rattle.hy_machine.specs.Tables.{Entry, capacity, positions_in}
 use Rattle.hy_machine.specs.Writes.{Write, wrote_nothing, written_chunks}
-use Rattle.hy_machine.specs.Turns.{Turn, Done, Waits, Begins, Visits, Answers, Enters, Ends}
+use Rattle.hy_protocol.specs.Turns.{Turn, Done, Waits, Begins, Visits, Answers, Enters, Ends}
 use Rattle.hy_machine.specs.Positions.{item_at}
 use Rattle.hy_machine.specs.Sessions.{session_at, blocker, view}
 use Rattle.hy_machine.specs.Holding.{opponent, is_free}
 use Rattle.hy_machine.specs.Validation.{committed_of, first_hit}
 use Rattle.hy_machine.specs.Visits.{verdict_at, swept, sees_key, free_position, checks_of}
-use Rattle.hy_machine.specs.Turns.{rows_seen, read_turn, write_turn, check_turn, place_turn, insert_turn, statement_turn, ending_of, unless_blocked}
-use Rattle.hy_machine.specs.Turns.{undo_turn, stamp_turn, validated_turn, closing_turn, working_turn}
+use Rattle.hy_protocol.specs.Turns.{unless_blocked}
+use Rattle.hy_machine.specs.Turns.{rows_seen, read_turn, write_turn, check_turn, place_turn, insert_turn, statement_turn}
+use Rattle.hy_protocol.specs.Closing.{validated_turn}
+use Rattle.hy_machine.specs.Turns.{undo_turn, stamp_turn, closing_turn, working_turn}
 use Rattle.hy_lawful.specs.Reached.{statements_at}
 use Rattle.hy_lawful.proofs.Fits.{label_at, IsNumbered}
 use Rattle.hy_lawful.proofs.Refusals.{Refuses, verdict_refuses, sweep_refuses, first_hit_is}
@@ -63,13 +66,13 @@ pub record Rivals (setting : Setting) (state : State) (number before prefix tabl
 
 -- where a table is full, all of its positions; who is named may have been open with the refused one
 abbrev pub EndRoom : Setting → State → ℕ → ℕ → ℕ → Ending → Type 0
-EndRoom setting state number before prefix (ways.Committed rank) = Unit {0}
-EndRoom setting state number before prefix ways.Read = Unit {0}
-EndRoom setting state number before prefix ways.RolledBack = Unit {0}
-EndRoom setting state number before prefix (ways.Conflict table pos other) = Rivals setting state number before prefix table pos other
-EndRoom setting state number before prefix (ways.Invalid table pos other statement) = Met state number before other
-EndRoom setting state number before prefix (ways.Range table pos) = Unit {0}
-EndRoom setting state number before prefix (ways.Full table) = RoomBelow setting state number before prefix table (capacity setting)
+EndRoom setting state number before prefix (Committed rank) = Unit {0}
+EndRoom setting state number before prefix Read = Unit {0}
+EndRoom setting state number before prefix RolledBack = Unit {0}
+EndRoom setting state number before prefix (Conflict table pos other) = Rivals setting state number before prefix table pos other
+EndRoom setting state number before prefix (Invalid table pos other statement) = Met state number before other
+EndRoom setting state number before prefix (Range table pos) = Unit {0}
+EndRoom setting state number before prefix (Full table) = RoomBelow setting state number before prefix table (capacity setting)
 
 abbrev key_of : Setting → ℕ → Option ℕ
 key_of setting table = (shape_of setting.shapes table).key
@@ -87,7 +90,7 @@ WorkRoom setting state number before prefix visited (Some (Delete table pred)) =
 abbrev pub PhaseRoom : Setting → State → ℕ → ℕ → ℕ → Option Bound → Phase → Type 0
 PhaseRoom setting state number before prefix statement (Working visited count) = WorkRoom setting state number before prefix visited statement
 PhaseRoom setting state number before prefix statement (Stamping visited) = Unit {0}
-PhaseRoom setting state number before prefix statement (Undoing visited cause) = EndRoom setting state number before prefix (ending_of cause)
+PhaseRoom setting state number before prefix statement (Undoing visited cause) = EndRoom setting state number before prefix cause
 
 abbrev pub present_statement : List Bound → Begun → Option Bound
 present_statement statements begun = slice_get statements (length begun.replies)
@@ -134,14 +137,14 @@ rivals_go setting state later g number before prefix table pos other h = record 
 
 end_goes : (setting : Setting) (state later : State) → Goes state later → (number before prefix : ℕ) (ending : Ending)
     → EndRoom setting state number before prefix ending → EndRoom setting later number before prefix ending
-end_goes setting state later g number before prefix (ways.Committed rank) h = tt
-end_goes setting state later g number before prefix ways.Read h = tt
-end_goes setting state later g number before prefix ways.RolledBack h = tt
-end_goes setting state later g number before prefix (ways.Conflict table pos other) h =
+end_goes setting state later g number before prefix (Committed rank) h = tt
+end_goes setting state later g number before prefix Read h = tt
+end_goes setting state later g number before prefix RolledBack h = tt
+end_goes setting state later g number before prefix (Conflict table pos other) h =
     rivals_go setting state later g number before prefix table pos other h
-end_goes setting state later g number before prefix (ways.Invalid table pos other statement) h = met_goes setting state later g number before other h
-end_goes setting state later g number before prefix (ways.Range table pos) h = tt
-end_goes setting state later g number before prefix (ways.Full table) h =
+end_goes setting state later g number before prefix (Invalid table pos other statement) h = met_goes setting state later g number before other h
+end_goes setting state later g number before prefix (Range table pos) h = tt
+end_goes setting state later g number before prefix (Full table) h =
     λ pos below. accounted_goes setting state later g number before prefix table pos (h pos below)
 
 work_goes : (setting : Setting) (state later : State) → Goes state later → (number before prefix visited : ℕ) (statement : Option Bound)
@@ -160,7 +163,7 @@ phase_goes setting state later g number before prefix statement (Working visited
     work_goes setting state later g number before prefix visited statement h
 phase_goes setting state later g number before prefix statement (Stamping visited) h = tt
 phase_goes setting state later g number before prefix statement (Undoing visited cause) h =
-    end_goes setting state later g number before prefix (ending_of cause) h
+    end_goes setting state later g number before prefix cause h
 
 pub now_goes : (setting : Setting) (state later : State) → Goes state later → (number before : ℕ) (statements : List Bound) (now : Option Open)
     → NowRoom setting state number before statements now → NowRoom setting later number before statements now
@@ -200,7 +203,7 @@ open_room setting state number before (finished ∷ done) now h =
 
 -- ---- turns
 
-abbrev pub RoomTurn : Setting → State → ℕ → ℕ → ℕ → Option Bound → Turn → Type 0
+abbrev pub RoomTurn : Setting → State → ℕ → ℕ → ℕ → Option Bound → Turn Write → Type 0
 RoomTurn setting state number before prefix statement Done = Unit {0}
 RoomTurn setting state number before prefix statement (Waits by) = Unit {0}
 RoomTurn setting state number before prefix statement Begins = Unit {0}
@@ -279,9 +282,11 @@ insert_room setting state number current w visited table row h = elim (cases_Boo
       (free_position setting state current.begun table (visited - checks_of setting (key_of setting table))) refl)
 ]
 
-refusal_room : (setting : Setting) (state : State) (number before prefix : ℕ) (kind : WriteKind) (table pos : ℕ) (opponent : Option Label) (cause : Cause)
+refusal_room : (setting : Setting) (state : State) (number before prefix : ℕ) (kind : WriteKind) (table pos : ℕ) (opponent : Option Label) (cause : Ending)
     → ((other : Label) → opponent ≡ Some other → Rivals setting state number before prefix table pos other)
-    → Refuses kind table pos opponent cause → EndRoom setting state number before prefix (ending_of cause)
+    → Refuses kind table pos opponent cause → EndRoom setting state number before prefix cause
+refusal_room setting state number before prefix kind table pos opponent (Committed rank) meets r = absurd r
+refusal_room setting state number before prefix kind table pos opponent Read meets r = absurd r
 refusal_room setting state number before prefix kind table pos opponent RolledBack meets r = tt
 refusal_room setting state number before prefix kind table pos opponent (Conflict of at other) meets r =
     subst (λ (n : ℕ). Rivals setting state number before prefix n at other) r.0
@@ -316,10 +321,10 @@ write_room : (setting : Setting) (state : State) (number before prefix : ℕ) (b
     (pred : Condition) (table : ℕ) → Roomless setting state number before prefix (Some statement)
     → ((pos : ℕ) (other : Label) → opponent setting state number begun.prefix table pos ≡ Some other
     → Rivals setting state number before prefix table pos other)
-    → (result : Result (List Write) Cause) → swept setting state number begun kind pred table visited ≡ result
+    → (result : Result (List Write) Ending) → swept setting state number begun kind pred table visited ≡ result
     → RoomTurn setting state number before prefix (Some statement) (write_turn setting begun visited count statement kind result)
 write_room setting state number before prefix begun visited count statement kind pred table h meets (Err cause) e =
-    sweep_refuses (λ (one : Cause). EndRoom setting state number before prefix (ending_of one)) table (verdict_at setting state number begun kind pred table)
+    sweep_refuses (λ (one : Ending). EndRoom setting state number before prefix one) table (verdict_at setting state number begun kind pred table)
     (positions_in setting visited) cause
     (λ pos one v. refusal_room setting state number before prefix kind table pos (opponent setting state number begun.prefix table pos) one (meets pos)
     (verdict_refuses kind pred table pos (opponent setting state number begun.prefix table pos) (item_at (view setting state begun) table pos) one v))
@@ -351,17 +356,17 @@ statement_room setting state number current w visited count (Delete table pred) 
     kind.Delete pred table (λ visited. tt) (opponent_rivals setting state number current w table)
     (swept setting state number current.begun kind.Delete pred table visited) refl
 
-unless_room : (setting : Setting) (state : State) (number before prefix : ℕ) (statement : Option Bound) (turn : Turn) (by : Option Label)
+unless_room : (setting : Setting) (state : State) (number before prefix : ℕ) (statement : Option Bound) (turn : Turn Write) (by : Option Label)
     → RoomTurn setting state number before prefix statement turn → RoomTurn setting state number before prefix statement (unless_blocked by turn)
 unless_room setting state number before prefix statement turn None h = h
 unless_room setting state number before prefix statement turn (Some by) h = tt
 
-pub undo_room : (setting : Setting) (state : State) (number before prefix : ℕ) (statement : Option Bound) (begun : Begun) (visited : ℕ) (cause : Cause)
-    → EndRoom setting state number before prefix (ending_of cause)
+pub undo_room : (setting : Setting) (state : State) (number before prefix : ℕ) (statement : Option Bound) (begun : Begun) (visited : ℕ) (cause : Ending)
+    → EndRoom setting state number before prefix cause
     → RoomTurn setting state number before prefix statement (undo_turn setting state number begun visited cause)
 undo_room setting state number before prefix statement begun visited cause h = elim (cases_Bool (ltb visited (length (written_chunks setting begun.own)))) [
   | inl t ↦ rw t h
-  | inr f ↦ rw f (unless_room setting state number before prefix statement (Ends (ending_of cause)) (blocker state number) h)
+  | inr f ↦ rw f (unless_room setting state number before prefix statement (Ends cause) (blocker state number) h)
 ]
 
 pub stamp_room : (setting : Setting) (state : State) (number before prefix : ℕ) (statement : Option Bound) (begun : Begun) (visited : ℕ)
@@ -373,12 +378,12 @@ stamp_room setting state number before prefix statement begun visited = elim (ca
 
 validated_room : (setting : Setting) (state : State) (number before prefix : ℕ) (statement : Option Bound) (begun : Begun)
     → AllByRecursion (λ (of : Record). IsNumbered (length begun.replies) of.statement) begun.records
-    → ((rank : ℕ) → Reaches state number before rank) → (hit : Option Cause)
+    → ((rank : ℕ) → Reaches state number before rank) → (hit : Option Ending)
     → first_hit begun.records (map committed_of (drop begun.prefix state.order)) ≡ hit
     → RoomTurn setting state number before prefix statement (validated_turn hit)
 validated_room setting state number before prefix statement begun records last None e = tt
 validated_room setting state number before prefix statement begun records last (Some cause) e =
-    first_hit_is (λ (one : Cause). EndRoom setting state number before prefix (ending_of one)) (IsNumbered (length begun.replies)) begun.records
+    first_hit_is (λ (one : Ending). EndRoom setting state number before prefix one) (IsNumbered (length begun.replies)) begun.records
     (drop begun.prefix state.order) cause records (λ i label at table pos statement q. record {
       rank = begun.prefix + i;
       stands = sym (label_dropped begun.prefix state.order i) ∙ at;
@@ -390,7 +395,7 @@ closing_room : (setting : Setting) (state : State) (number before prefix : ℕ) 
     → ((rank : ℕ) → Reaches state number before rank) → (commits : Bool)
     → RoomTurn setting state number before prefix statement (closing_turn setting state number begun commits)
 closing_room setting state number before prefix statement begun records last true = elim (cases_Bool (wrote_nothing begun.own)) [
-  | inl t ↦ rw t (unless_room setting state number before prefix statement (Ends ways.Read) (blocker state number) tt)
+  | inl t ↦ rw t (unless_room setting state number before prefix statement (Ends Read) (blocker state number) tt)
   | inr f ↦ rw f (unless_room setting state number before prefix statement
       (validated_turn (first_hit begun.records (map committed_of (drop begun.prefix state.order)))) (blocker state number)
       (validated_room setting state number before prefix statement begun records last

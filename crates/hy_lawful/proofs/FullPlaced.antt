@@ -19,19 +19,23 @@ use Rattle.hy_bound.specs.Records.{shape_of}
 use Rattle.hy_meaning.specs.Statement.{answer_of, grouped}
 use Rattle.hy_stamp.specs.declared.Label.{Label}
 use Rattle.hy_render.specs.declared.Ending.{Ending}
+use Rattle.hy_render.specs.declared.Ending.TheVariants.{Read, RolledBack}
 use Rattle.hy_machine.specs.declared.Setting.{Setting}
-use Rattle.hy_machine.specs.States.{State, Session, Open, Begun, Finished, Cause, RolledBack, Phase, Working, Stamping, Undoing}
+use Rattle.hy_protocol.specs.declared.Phase.{Phase}
+use Rattle.hy_protocol.specs.declared.Phase.TheVariants.{Working, Stamping, Undoing}
+use Rattle.hy_machine.specs.States.{State, Session, Open, Begun, Finished}
 use Rattle.hy_machine.specs.Tables.{Entry, Cell, Tables, capacity, positions_in, covered}
 use Rattle.hy_machine.specs.Writes.{Write, with_writes, wrote_nothing, written_chunks, blank_own}
-use Rattle.hy_render.specs.declared.Ending.TheVariants as ways
-use Rattle.hy_machine.specs.Turns.{Turn, Done, Waits, Begins, Visits, Answers, Enters, Ends}
+use Rattle.hy_protocol.specs.Turns.{Turn, Done, Waits, Begins, Visits, Answers, Enters, Ends}
 use Rattle.hy_machine.specs.Positions.{item_at}
 use Rattle.hy_machine.specs.Sessions.{session_at, txn_at, blocker, view, entry_of}
 use Rattle.hy_machine.specs.Holding.{opponent}
 use Rattle.hy_machine.specs.Validation.{committed_of, first_hit}
 use Rattle.hy_machine.specs.Visits.{verdict_at, swept, sees_key, free_position, checks_of}
-use Rattle.hy_machine.specs.Turns.{rows_seen, read_turn, write_turn, check_turn, place_turn, insert_turn, statement_turn, ending_of, unless_blocked}
-use Rattle.hy_machine.specs.Turns.{undo_turn, stamp_turn, validated_turn, commit_turn, closing_turn, working_turn, phase_turn, session_turn}
+use Rattle.hy_protocol.specs.Turns.{unless_blocked}
+use Rattle.hy_machine.specs.Turns.{rows_seen, read_turn, write_turn, check_turn, place_turn, insert_turn, statement_turn}
+use Rattle.hy_protocol.specs.Closing.{validated_turn}
+use Rattle.hy_machine.specs.Turns.{undo_turn, stamp_turn, commit_turn, closing_turn, working_turn, phase_turn, session_turn}
 use Rattle.hy_machine.specs.Outcomes.{placed_in, placed_by, statements_in}
 use Rattle.hy_machine.specs.Steps.{with_session, beginning, after_visit, after_answer, done_with, order_with, after_turn, step_of}
 use Rattle.hy_machine.specs.Runs.{opening_of, after_steps, IsReached}
@@ -59,7 +63,7 @@ pub record Takes (statements : List Bound) (begun : Begun) (writes : List Write)
   pub took_it : took ≡ Some at
   pub wrote : writes ≡ record { table = of; pos = at; cell = Some row } ∷ []
 
-abbrev pub PlacesTurn : Tables → List Bound → Begun → Turn → Type 0
+abbrev pub PlacesTurn : Tables → List Bound → Begun → Turn Write → Type 0
 PlacesTurn tables statements begun Done = Unit {0}
 PlacesTurn tables statements begun (Waits by) = Unit {0}
 PlacesTurn tables statements begun Begins = Unit {0}
@@ -105,7 +109,7 @@ swept_rowed setting state number begun kind pred table chunk writes own e =
 
 write_places : (setting : Setting) (state : State) (statements : List Bound) (number : ℕ) (begun : Begun) (visited count : ℕ) (statement : Bound)
     (kind : WriteKind) (pred : Condition) (table : ℕ) → FitsTables setting begun.own
-    → (result : Result (List Write) Cause) → swept setting state number begun kind pred table visited ≡ result
+    → (result : Result (List Write) Ending) → swept setting state number begun kind pred table visited ≡ result
     → PlacesTurn (start_tables setting state begun) statements begun (write_turn setting begun visited count statement kind result)
 write_places setting state statements number begun visited count statement kind pred table own (Err cause) e = tt
 write_places setting state statements number begun visited count statement kind pred table own (Ok writes) e =
@@ -156,16 +160,16 @@ statement_places setting state statements number begun visited count own (Delete
     write_places setting state statements number begun visited count (Delete table pred) kind.Delete pred table own
     (swept setting state number begun kind.Delete pred table visited) refl
 
-unless_places : (tables : Tables) (statements : List Bound) (begun : Begun) (turn : Turn) (by : Option Label) → PlacesTurn tables statements begun turn
+unless_places : (tables : Tables) (statements : List Bound) (begun : Begun) (turn : Turn Write) (by : Option Label) → PlacesTurn tables statements begun turn
     → PlacesTurn tables statements begun (unless_blocked by turn)
 unless_places tables statements begun turn None h = h
 unless_places tables statements begun turn (Some by) h = tt
 
-undo_places : (setting : Setting) (state : State) (tables : Tables) (statements : List Bound) (number : ℕ) (begun : Begun) (visited : ℕ) (cause : Cause)
+undo_places : (setting : Setting) (state : State) (tables : Tables) (statements : List Bound) (number : ℕ) (begun : Begun) (visited : ℕ) (cause : Ending)
     → PlacesTurn tables statements begun (undo_turn setting state number begun visited cause)
 undo_places setting state tables statements number begun visited cause = elim (cases_Bool (ltb visited (length (written_chunks setting begun.own)))) [
   | inl t ↦ rw t tt
-  | inr f ↦ rw f (unless_places tables statements begun (Ends (ending_of cause)) (blocker state number) tt)
+  | inr f ↦ rw f (unless_places tables statements begun (Ends cause) (blocker state number) tt)
 ]
 
 stamp_places : (setting : Setting) (state : State) (tables : Tables) (statements : List Bound) (begun : Begun) (visited : ℕ)
@@ -175,7 +179,7 @@ stamp_places setting state tables statements begun visited = elim (cases_Bool (l
   | inr f ↦ rw f tt
 ]
 
-validated_places : (tables : Tables) (statements : List Bound) (begun : Begun) (hit : Option Cause)
+validated_places : (tables : Tables) (statements : List Bound) (begun : Begun) (hit : Option Ending)
     → PlacesTurn tables statements begun (validated_turn hit)
 validated_places tables statements begun None = tt
 validated_places tables statements begun (Some cause) = tt
@@ -183,7 +187,7 @@ validated_places tables statements begun (Some cause) = tt
 commit_places : (setting : Setting) (state : State) (tables : Tables) (statements : List Bound) (number : ℕ) (begun : Begun)
     → PlacesTurn tables statements begun (commit_turn setting state number begun)
 commit_places setting state tables statements number begun = elim (cases_Bool (wrote_nothing begun.own)) [
-  | inl t ↦ rw t (unless_places tables statements begun (Ends ways.Read) (blocker state number) tt)
+  | inl t ↦ rw t (unless_places tables statements begun (Ends Read) (blocker state number) tt)
   | inr f ↦ rw f (unless_places tables statements begun (validated_turn (first_hit begun.records (map committed_of (drop begun.prefix state.order))))
       (blocker state number)
       (validated_places tables statements begun (first_hit begun.records (map committed_of (drop begun.prefix state.order)))))
@@ -350,7 +354,7 @@ ends setting state number current ending o =
     })
     (λ other apart. o.all other)
 
-turn_counted : (setting : Setting) (state : State) (number : ℕ) (current : Open) → IsOpen setting state number current → (turn : Turn)
+turn_counted : (setting : Setting) (state : State) (number : ℕ) (current : Open) → IsOpen setting state number current → (turn : Turn Write)
     → FitsTurn setting state number current.begun turn
     → PlacesTurn (tables_at setting state.order current.begun.prefix) (statements_now setting state number) current.begun turn
     → AllCounted setting (after_turn setting state number turn).0

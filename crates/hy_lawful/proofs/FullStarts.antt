@@ -10,10 +10,13 @@ use Rattle.std.proofs.lemmas.List.{length-append, append-nil, append_assoc, map-
 use Rattle.std.proofs.lemmas.Option.{slice_get-get_or}
 use Rattle.hy_bound.specs.declared.Txn.{Txn}
 use Rattle.hy_render.specs.declared.Ending.{Ending}
+use Rattle.hy_machine.specs.Writes.{Write}
 use Rattle.hy_machine.specs.declared.Setting.{Setting}
-use Rattle.hy_machine.specs.States.{State, Session, Open, Finished, Stamping}
+use Rattle.hy_protocol.specs.declared.Phase.TheVariants.{Stamping}
+use Rattle.hy_machine.specs.States.{State, Session, Open, Finished}
 use Rattle.hy_machine.specs.Tables.{Entry}
-use Rattle.hy_machine.specs.Turns.{Turn, Done, Waits, Begins, Visits, Answers, Enters, Ends, session_turn, phase_turn}
+use Rattle.hy_protocol.specs.Turns.{Turn, Done, Waits, Begins, Visits, Answers, Enters, Ends}
+use Rattle.hy_machine.specs.Turns.{session_turn, phase_turn}
 use Rattle.hy_machine.specs.Sessions.{session_at, txn_at, entry_of}
 use Rattle.hy_machine.specs.Steps.{with_open, beginning, with_changed, with_ended, after_visit, after_answer, order_with, after_turn, step_of}
 use Rattle.hy_machine.specs.Runs.{after_steps}
@@ -121,7 +124,7 @@ order_longer : (setting : Setting) (state : State) (number : ℕ) (now : Option 
 order_longer setting state number None = omega arith
 order_longer setting state number (Some current) = omega (arith, length-append state.order (entry_of setting state number current.begun ∷ []))
 
-turn_later : (setting : Setting) (state : State) (number : ℕ) → number < length state.sessions → (turn : Turn)
+turn_later : (setting : Setting) (state : State) (number : ℕ) → number < length state.sessions → (turn : Turn Write)
     → (turn ≡ Begins → (session_at state number).now ≡ None) → Later state (after_turn setting state number turn).0
 turn_later setting state number there Done h = later_same state
 turn_later setting state number there (Waits by) h = later_same state
@@ -142,7 +145,7 @@ turn_later setting state number there (Ends ending) h =
     later_moved state state.order None number (with_ended ending (session_at state number)) there (omega arith)
     (adds_none (length state.order) _ _ (ended_starts ending (session_at state number).done (session_at state number).now))
 
-never_begins : (setting : Setting) (state : State) (number : ℕ) (current : Open) (turn : Turn) → FitsTurn setting state number current.begun turn
+never_begins : (setting : Setting) (state : State) (number : ℕ) (current : Open) (turn : Turn Write) → FitsTurn setting state number current.begun turn
     → turn ≡ Begins → ⊥
 never_begins setting state number current turn h e = subst (FitsTurn setting state number current.begun) e h
 

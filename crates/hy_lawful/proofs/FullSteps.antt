@@ -10,12 +10,16 @@ use Rattle.hy_bound.specs.declared.Bound.{Bound}
 use Rattle.hy_bound.specs.declared.Bound.TheVariants.{Select, Group, Insert, Update, Delete}
 use Rattle.hy_bound.specs.declared.Record.{Record}
 use Rattle.hy_bound.specs.Records.{shape_of}
+use Rattle.hy_machine.specs.Writes.{Write}
 use Rattle.hy_machine.specs.Visits.{checks_of}
 use Rattle.hy_stamp.specs.declared.Label.{Label}
 use Rattle.hy_machine.specs.declared.Setting.{Setting}
-use Rattle.hy_machine.specs.States.{State, Open, Begun, Finished, Phase, Working, Stamping, Undoing}
+use Rattle.hy_protocol.specs.declared.Phase.{Phase}
+use Rattle.hy_protocol.specs.declared.Phase.TheVariants.{Working, Stamping, Undoing}
+use Rattle.hy_machine.specs.States.{State, Open, Begun, Finished}
 use Rattle.hy_machine.specs.Tables.{Entry}
-use Rattle.hy_machine.specs.Turns.{Turn, Done, Waits, Begins, Visits, Answers, Enters, Ends, unless_blocked, phase_turn, session_turn}
+use Rattle.hy_protocol.specs.Turns.{Turn, Done, Waits, Begins, Visits, Answers, Enters, Ends, unless_blocked}
+use Rattle.hy_machine.specs.Turns.{phase_turn, session_turn}
 use Rattle.hy_machine.specs.Sessions.{session_at, txn_at, blocker, entry_of}
 use Rattle.hy_machine.specs.Outcomes.{statements_in}
 use Rattle.hy_machine.specs.Steps.{with_session, beginning, after_visit, after_answer, done_with, order_with, after_turn, step_of}
@@ -112,7 +116,7 @@ ends setting state number finished there all h g =
     later = moved_to state state.order None number (record { done = (session_at state number).done ++ finished ∷ []; now = None })
 
 turn_room : (setting : Setting) (state : State) (number : ℕ) (current : Open) → number < length state.sessions → AllRoom setting state
-    → (session_at state number).now ≡ Some current → (turn : Turn) → FitsTurn setting state number current.begun turn
+    → (session_at state number).now ≡ Some current → (turn : Turn Write) → FitsTurn setting state number current.begun turn
     → RoomTurn setting state number (length (session_at state number).done) current.begun.prefix
     (present_statement (statements_at setting number (length (session_at state number).done)) current.begun) turn
     → Goes state (after_turn setting state number turn).0 → AllRoom setting (after_turn setting state number turn).0

@@ -7,9 +7,10 @@ use Rattle.hy_render.specs.declared.Ending.{Ending}
 use Rattle.hy_render.specs.declared.Ending.TheVariants.{Committed, Read, RolledBack, Conflict, Invalid, Range, Full}
 use Rattle.hy_render.specs.declared.TxnOutcome.{TxnOutcome}
 use Rattle.hy_machine.specs.declared.Setting.{Setting}
-use Rattle.hy_machine.specs.States.{Session, Open, Begun, Finished, Phase, Working, Stamping, Undoing}
+use Rattle.hy_protocol.specs.declared.Phase.{Phase}
+use Rattle.hy_protocol.specs.declared.Phase.TheVariants.{Working, Stamping, Undoing}
+use Rattle.hy_machine.specs.States.{Session, Open, Begun, Finished}
 use Rattle.hy_machine.specs.Tables.{Entry}
-use Rattle.hy_machine.specs.Turns.{ending_of}
 use Rattle.hy_machine.specs.Outcomes.{txn_outcome_of}
 use Rattle.hy_lawful.proofs.Lists.{each_so}
 use Rattle.hy_lawful.proofs.Fits.{label_at, Ends, EndsAs, DoneFits, PhaseFits, NowFits, SessionFits}
@@ -87,7 +88,7 @@ phase_grows : (setting : Setting) (order grown : List Entry) (mark new : Option 
 phase_grows setting order grown mark new number before begun g n (Working visited count) h = h
 phase_grows setting order grown mark new number before begun g n (Stamping visited) h = absurd (n h.0)
 phase_grows setting order grown mark new number before begun g n (Undoing visited cause) h =
-    ends_as_grow setting order grown number before (record { begun = begun; ending = ending_of cause }) g h
+    ends_as_grow setting order grown number before (record { begun = begun; ending = cause }) g h
 
 now_grows : (setting : Setting) (order grown : List Entry) (mark new : Option ℕ) (number : ℕ) (done : List Finished) → Grows order grown
     → (mark ≡ Some number → ⊥) → (now : Option Open) → NowFits setting order mark number done now → NowFits setting grown new number done now

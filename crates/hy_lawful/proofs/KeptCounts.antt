@@ -11,11 +11,14 @@ use Rattle.hy_bound.specs.declared.Bound.{Bound}
 use Rattle.hy_bound.specs.declared.Txn.{Txn}
 use Rattle.hy_stamp.specs.declared.Label.{Label}
 use Rattle.hy_machine.specs.declared.Setting.{Setting}
-use Rattle.hy_machine.specs.States.{State, Session, Open, Begun, Phase, Working, Stamping, Undoing}
+use Rattle.hy_protocol.specs.declared.Phase.{Phase}
+use Rattle.hy_protocol.specs.declared.Phase.TheVariants.{Working, Stamping, Undoing}
+use Rattle.hy_machine.specs.States.{State, Session, Open, Begun}
 use Rattle.hy_machine.specs.Tables.{Entry}
-use Rattle.hy_machine.specs.Turns.{Turn, Done, Waits, Begins, Visits, Answers, Enters, Ends, unless_blocked, session_turn, phase_turn, stamp_turn}
+use Rattle.hy_protocol.specs.Turns.{Turn, Done, Waits, Begins, Visits, Answers, Enters, Ends, unless_blocked}
+use Rattle.hy_machine.specs.Turns.{session_turn, phase_turn, stamp_turn}
 use Rattle.hy_machine.specs.Sessions.{fresh, session_at, txn_at, blocker, entry_of}
-use Rattle.hy_machine.specs.Writes.{written_chunks}
+use Rattle.hy_machine.specs.Writes.{Write, written_chunks}
 use Rattle.hy_machine.specs.Steps.{with_session, beginning, after_visit, after_answer, done_with, order_with, after_turn, step_of}
 use Rattle.hy_machine.specs.Runs.{opening_of, after_steps, IsReached}
 use Rattle.hy_machine.specs.Begun.{count_open, count_begun}
@@ -51,7 +54,7 @@ FewEntered state = length state.order ≤ sum_by may_have_entered state.sessions
 -- ---- turns
 
 -- a turn of a transaction that stands so, which counts for this much, lets it count for no less as it goes on
-abbrev TurnCounts : ℕ → Turn → Type 0
+abbrev TurnCounts : ℕ → Turn Write → Type 0
 TurnCounts many Done = Unit {0}
 TurnCounts many (Waits by) = Unit {0}
 TurnCounts many Begins = ⊥
@@ -61,7 +64,7 @@ TurnCounts many Enters = many ≡ 0
 TurnCounts many (Ends ending) = Unit {0}
 
 -- one that counts for nothing loses nothing
-nothing_lost : (setting : Setting) (statements : List Bound) (begun : Begun) (turn : Turn) → TurnStands setting statements begun turn → TurnCounts 0 turn
+nothing_lost : (setting : Setting) (statements : List Bound) (begun : Begun) (turn : Turn Write) → TurnStands setting statements begun turn → TurnCounts 0 turn
 nothing_lost setting statements begun Done h = tt
 nothing_lost setting statements begun (Waits by) h = tt
 nothing_lost setting statements begun Begins h = absurd h
@@ -95,14 +98,14 @@ moves_few : (state : State) (order : List Entry) (mark : Option ℕ) (number : �
 moves_few state order mark number session few there grows = omega (arith, few, grows, sum_by-set may_have_entered state.sessions number session fresh there)
 
 turn_few : (setting : Setting) (state : State) (number : ℕ) (current : Open) → FewEntered state → number < length state.sessions
-    → (session_at state number).now ≡ Some current → (turn : Turn) → TurnCounts (count_stamping current.phase) turn
+    → (session_at state number).now ≡ Some current → (turn : Turn Write) → TurnCounts (count_stamping current.phase) turn
     → FewEntered (after_turn setting state number turn).0
 turn_few setting state number current few there is = by_turn
   where
     counts : count_entered (session_at state number).now ≡ count_stamping current.phase
     counts = ap count_entered is
 
-    by_turn : (turn : Turn) → TurnCounts (count_stamping current.phase) turn → FewEntered (after_turn setting state number turn).0
+    by_turn : (turn : Turn Write) → TurnCounts (count_stamping current.phase) turn → FewEntered (after_turn setting state number turn).0
     by_turn Done h = few
     by_turn (Waits by) h = few
     by_turn Begins h = absurd h

@@ -4,7 +4,9 @@ use Rattle.std.specs.Prelude.{slice_get}
 use Rattle.std.proofs.lemmas.Option.{same_Some}
 use Rattle.hy_stamp.specs.declared.Label.{Label}
 use Rattle.hy_machine.specs.declared.Setting.{Setting}
-use Rattle.hy_machine.specs.States.{State, Open, Begun, Phase, Working, Stamping, Undoing}
+use Rattle.hy_protocol.specs.declared.Phase.{Phase}
+use Rattle.hy_protocol.specs.declared.Phase.TheVariants.{Working, Stamping, Undoing}
+use Rattle.hy_machine.specs.States.{State, Open, Begun}
 use Rattle.hy_machine.specs.Tables.{Entry}
 use Rattle.hy_machine.specs.Sessions.{session_at, label_of}
 use Rattle.hy_machine.specs.Runs.{IsReached}

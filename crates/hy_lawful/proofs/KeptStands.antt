@@ -17,17 +17,22 @@ use Rattle.hy_bound.specs.declared.WriteKind.TheVariants as kind
 use Rattle.hy_bound.specs.Records.{shape_of}
 use Rattle.hy_meaning.specs.Statement.{answer_of, grouped}
 use Rattle.hy_stamp.specs.declared.Label.{Label}
-use Rattle.hy_render.specs.declared.Ending.TheVariants as ways
+use Rattle.hy_render.specs.declared.Ending.{Ending}
+use Rattle.hy_render.specs.declared.Ending.TheVariants.{Read, RolledBack}
 use Rattle.hy_machine.specs.declared.Setting.{Setting}
-use Rattle.hy_machine.specs.States.{State, Begun, Cause, RolledBack, Phase, Working, Stamping, Undoing}
+use Rattle.hy_protocol.specs.declared.Phase.{Phase}
+use Rattle.hy_protocol.specs.declared.Phase.TheVariants.{Working, Stamping, Undoing}
+use Rattle.hy_machine.specs.States.{State, Begun}
 use Rattle.hy_machine.specs.Writes.{Write, blank_own, with_write, with_writes, wrote_nothing, written_chunks}
-use Rattle.hy_machine.specs.Turns.{Turn, Done, Waits, Begins, Visits, Answers, Enters, Ends}
+use Rattle.hy_protocol.specs.Turns.{Turn, Done, Waits, Begins, Visits, Answers, Enters, Ends}
 use Rattle.hy_machine.specs.Tables.{Cell, Own, capacity}
 use Rattle.hy_machine.specs.Sessions.{blocker, view}
 use Rattle.hy_machine.specs.Validation.{committed_of, first_hit}
 use Rattle.hy_machine.specs.Visits.{swept, sees_key, free_position, checks_of}
-use Rattle.hy_machine.specs.Turns.{rows_seen, read_turn, write_turn, check_turn, place_turn, insert_turn, statement_turn, ending_of, unless_blocked}
-use Rattle.hy_machine.specs.Turns.{undo_turn, stamp_turn, validated_turn, commit_turn, closing_turn, working_turn, phase_turn}
+use Rattle.hy_protocol.specs.Turns.{unless_blocked}
+use Rattle.hy_machine.specs.Turns.{rows_seen, read_turn, write_turn, check_turn, place_turn, insert_turn, statement_turn}
+use Rattle.hy_protocol.specs.Closing.{validated_turn}
+use Rattle.hy_machine.specs.Turns.{undo_turn, stamp_turn, commit_turn, closing_turn, working_turn, phase_turn}
 use Rattle.hy_machine.specs.Kept.{OwnFits, visits_in}
 
 -- ---- what a transaction writes has a cell for each position of each table
@@ -70,7 +75,7 @@ PhaseStands setting statements begun (Stamping visited) = visited ≤ length (wr
 PhaseStands setting statements begun (Undoing visited cause) = visited ≤ length (written_chunks setting begun.own)
 
 -- a turn of an open transaction leaves its visits so
-abbrev pub TurnStands : Setting → List Bound → Begun → Turn → Type 0
+abbrev pub TurnStands : Setting → List Bound → Begun → Turn Write → Type 0
 TurnStands setting statements begun Done = Unit {0}
 TurnStands setting statements begun (Waits by) = Unit {0}
 TurnStands setting statements begun Begins = ⊥
@@ -100,7 +105,7 @@ read_stands setting statements begun visited tables statement gathered reply e m
 
 write_stands : (setting : Setting) (statements : List Bound) (begun : Begun) (visited count : ℕ) (statement : Bound) (kind : WriteKind)
     → slice_get statements (length begun.replies) ≡ Some statement → visits_in setting statement ≡ setting.chunks
-    → (result : Result (List Write) Cause) → TurnStands setting statements begun (write_turn setting begun visited count statement kind result)
+    → (result : Result (List Write) Ending) → TurnStands setting statements begun (write_turn setting begun visited count statement kind result)
 write_stands setting statements begun visited count statement kind e many (Err cause) = omega arith
 write_stands setting statements begun visited count statement kind e many (Ok writes) =
     elim (cases_Bool (ltb (suc visited) setting.chunks)) [
@@ -162,17 +167,17 @@ statement_stands setting state number statements begun visited count (Delete tab
 
 -- ---- what closes a transaction
 
-unless_stands : (setting : Setting) (statements : List Bound) (begun : Begun) (turn : Turn) (by : Option Label) → TurnStands setting statements begun turn
+unless_stands : (setting : Setting) (statements : List Bound) (begun : Begun) (turn : Turn Write) (by : Option Label) → TurnStands setting statements begun turn
     → TurnStands setting statements begun (unless_blocked by turn)
 unless_stands setting statements begun turn None h = h
 unless_stands setting statements begun turn (Some by) h = tt
 
-undo_stands : (setting : Setting) (state : State) (number : ℕ) (statements : List Bound) (begun : Begun) (visited : ℕ) (cause : Cause)
+undo_stands : (setting : Setting) (state : State) (number : ℕ) (statements : List Bound) (begun : Begun) (visited : ℕ) (cause : Ending)
     → TurnStands setting statements begun (undo_turn setting state number begun visited cause)
 undo_stands setting state number statements begun visited cause = elim (cases_Bool (ltb visited (length (written_chunks setting begun.own)))) [
   | inl t ↦ rw t (let few : visited < length (written_chunks setting begun.own) = ltb-true visited (length (written_chunks setting begun.own)) t in
       omega arith)
-  | inr f ↦ rw f (unless_stands setting statements begun (Ends (ending_of cause)) (blocker state number) tt)
+  | inr f ↦ rw f (unless_stands setting statements begun (Ends cause) (blocker state number) tt)
 ]
 
 stamp_stands : (setting : Setting) (state : State) (statements : List Bound) (begun : Begun) (visited : ℕ)
@@ -183,7 +188,7 @@ stamp_stands setting state statements begun visited = elim (cases_Bool (ltb visi
   | inr f ↦ rw f tt
 ]
 
-validated_stands : (setting : Setting) (statements : List Bound) (begun : Begun) (hit : Option Cause)
+validated_stands : (setting : Setting) (statements : List Bound) (begun : Begun) (hit : Option Ending)
     → TurnStands setting statements begun (validated_turn hit)
 validated_stands setting statements begun None = tt
 validated_stands setting statements begun (Some cause) = omega arith
@@ -191,7 +196,7 @@ validated_stands setting statements begun (Some cause) = omega arith
 commit_stands : (setting : Setting) (state : State) (number : ℕ) (statements : List Bound) (begun : Begun)
     → TurnStands setting statements begun (commit_turn setting state number begun)
 commit_stands setting state number statements begun = unless_stands setting statements begun
-    (cond (wrote_nothing begun.own) (Ends ways.Read) (validated_turn (first_hit begun.records (map committed_of (drop begun.prefix state.order)))))
+    (cond (wrote_nothing begun.own) (Ends Read) (validated_turn (first_hit begun.records (map committed_of (drop begun.prefix state.order)))))
     (blocker state number)
     (elim (cases_Bool (wrote_nothing begun.own)) [
       | inl t ↦ rw t tt

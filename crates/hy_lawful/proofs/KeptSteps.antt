@@ -8,10 +8,13 @@ use Rattle.hy_bound.specs.declared.Txn.{Txn}
 use Rattle.hy_bound.specs.declared.Bound.{Bound}
 use Rattle.hy_stamp.specs.declared.Label.{Label}
 use Rattle.hy_render.specs.declared.Ending.{Ending}
+use Rattle.hy_machine.specs.Writes.{Write}
 use Rattle.hy_machine.specs.declared.Setting.{Setting}
-use Rattle.hy_machine.specs.States.{State, Session, Open, Finished, Working, Stamping}
+use Rattle.hy_protocol.specs.declared.Phase.TheVariants.{Working, Stamping}
+use Rattle.hy_machine.specs.States.{State, Session, Open, Finished}
 use Rattle.hy_machine.specs.Tables.{Entry}
-use Rattle.hy_machine.specs.Turns.{Turn, Done, Waits, Begins, Visits, Answers, Enters, Ends, unless_blocked, session_turn, phase_turn}
+use Rattle.hy_protocol.specs.Turns.{Turn, Done, Waits, Begins, Visits, Answers, Enters, Ends, unless_blocked}
+use Rattle.hy_machine.specs.Turns.{session_turn, phase_turn}
 use Rattle.hy_machine.specs.Sessions.{session_at, txn_at, blocker}
 use Rattle.hy_machine.specs.Outcomes.{statements_in}
 use Rattle.hy_machine.specs.Steps.{with_session, beginning, after_visit, after_answer, done_with, order_with, after_turn, step_of}
@@ -75,7 +78,7 @@ ends setting state number current ending all there low =
 
 -- a turn of an open transaction leaves what stands so
 turn_stands : (setting : Setting) (state : State) (number : ℕ) (current : Open) → AllStand setting state → number < length state.sessions
-    → (session_at state number).now ≡ Some current → OpenStands setting (statements_now setting state number) current → (turn : Turn)
+    → (session_at state number).now ≡ Some current → OpenStands setting (statements_now setting state number) current → (turn : Turn Write)
     → TurnStands setting (statements_now setting state number) current.begun turn → AllStand setting (after_turn setting state number turn).0
 turn_stands setting state number current all there is o Done h = all
 turn_stands setting state number current all there is o (Waits by) h = all

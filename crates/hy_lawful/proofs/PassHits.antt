@@ -9,7 +9,7 @@ use Rattle.std.proofs.lemmas.Option.{same_Some}
 use Rattle.hy_bound.specs.declared.Record.{Record}
 use Rattle.hy_value.specs.declared.change.Change.{Change}
 use Rattle.hy_stamp.specs.declared.Label.{Label}
-use Rattle.hy_machine.specs.States.{Cause}
+use Rattle.hy_render.specs.declared.Ending.{Ending}
 use Rattle.hy_machine.specs.Tables.{Entry, Pair, Cell}
 use Rattle.hy_machine.specs.Positions.{item_at, last_some, by_position, by_table}
 use Rattle.hy_machine.specs.Holding.{changes_row, changer_at, has_pair}
@@ -93,7 +93,7 @@ both_missed records other [] more e = (refl, e)
 both_missed records other (change ∷ changes) more e =
     let first = or_none (change_hits records other change) (hit_among records other (changes ++ more)) e in
     let rest = both_missed records other changes more first.1 in
-    (ap (λ (hit : Option Cause). option_or hit (hit_among records other changes)) first.0 ∙ rest.0, rest.1)
+    (ap (λ (hit : Option Ending). option_or hit (hit_among records other changes)) first.0 ∙ rest.0, rest.1)
 
 positions_missed : (records : List Record) (other : Label) (table at : ℕ) (items : List (Option Pair)) (pos : ℕ) (pair : Pair)
     → hit_among records other (by_position (change_at table) at items) ≡ None → get_or items pos None ≡ Some pair
@@ -146,7 +146,7 @@ or_more None b longer x f e = f e
 or_more (Some a) b longer x f e = e
 
 -- the first hit of entries is that of more entries behind them
-pub hit_stays : (records : List Record) (from : ℕ) (order more : List Entry) (cause : Cause)
+pub hit_stays : (records : List Record) (from : ℕ) (order more : List Entry) (cause : Ending)
     → first_hit records (map committed_of (drop from order)) ≡ Some cause → first_hit records (map committed_of (drop from (order ++ more))) ≡ Some cause
 hit_stays records zero [] more cause e = absurd cc
 hit_stays records (suc from) [] more cause e = absurd cc

@@ -11,8 +11,9 @@ use Rattle.hy_bound.specs.declared.WriteKind.{WriteKind}
 use Rattle.hy_bound.specs.Condition.{Condition}
 use Rattle.hy_bound.specs.Predicate.{truth_of}
 use Rattle.hy_stamp.specs.declared.Label.{Label}
+use Rattle.hy_render.specs.declared.Ending.{Ending}
 use Rattle.hy_machine.specs.declared.Setting.{Setting}
-use Rattle.hy_machine.specs.States.{State, Begun, Cause}
+use Rattle.hy_machine.specs.States.{State, Begun}
 use Rattle.hy_machine.specs.Tables.{Entry, Pair, Cell, covered, opening_tables, positions_in}
 use Rattle.hy_machine.specs.Writes.{Write}
 use Rattle.hy_machine.specs.Positions.{item_at, last_some}
@@ -125,24 +126,24 @@ verdict_is kind pred table pos other (Some row) new e = (row, (refl, by_truth (t
     by_truth true h = by_other other (new_cell kind row) h
     by_truth false h = absurd cc
 
-abbrev fine : {A : Type 0} → A → Result A Cause
+abbrev fine : {A : Type 0} → A → Result A Ending
 fine x = Ok x
 
 same_ok : {A : Type 0} (x y : A) → fine x ≡ fine y → x ≡ y
 same_ok {A = A} x y e = ap (ok_or x) e
   where
-    ok_or : A → Result A Cause → A
+    ok_or : A → Result A Ending → A
     ok_or d (Ok a) = a
     ok_or d (Err cause) = d
 
-pub sweep_all : (P : Write → Type 0) (table : ℕ) (judge : ℕ → Result (Option Cell) Cause)
+pub sweep_all : (P : Write → Type 0) (table : ℕ) (judge : ℕ → Result (Option Cell) Ending)
     → ((pos : ℕ) (cell : Cell) → judge pos ≡ Ok (Some cell) → P (record { table = table; pos = pos; cell = cell }))
     → (positions : List ℕ) (writes : List Write) → sweep table judge positions ≡ Ok writes → AllByRecursion P writes
 sweep_all P table judge each [] writes e = subst (AllByRecursion P) (same_ok [] writes e) tt
 sweep_all P table judge each (pos ∷ positions) writes e =
     by_verdict (judge pos) (sweep table judge positions) refl refl (sweep_all P table judge each positions) e
   where
-    by_verdict : (given : Result (Option Cell) Cause) (rest : Result (List Write) Cause) → judge pos ≡ given → sweep table judge positions ≡ rest
+    by_verdict : (given : Result (Option Cell) Ending) (rest : Result (List Write) Ending) → judge pos ≡ given → sweep table judge positions ≡ rest
         → ((writes : List Write) → sweep table judge positions ≡ Ok writes → AllByRecursion P writes)
         → and_write table pos given rest ≡ Ok writes → AllByRecursion P writes
     by_verdict (Err cause) rest j s ih e = absurd cc

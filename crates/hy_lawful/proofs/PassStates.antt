@@ -11,13 +11,13 @@ use Rattle.hy_stamp.specs.declared.Label.{Label}
 use Rattle.hy_render.specs.declared.Ending.{Ending}
 use Rattle.hy_render.specs.declared.Ending.TheVariants.{Committed, Read, RolledBack, Conflict, Invalid, Range, Full}
 use Rattle.hy_machine.specs.declared.Setting.{Setting}
-use Rattle.hy_machine.specs.States.{State, Session, Open, Begun, Finished, Phase, Working, Stamping, Undoing}
+use Rattle.hy_protocol.specs.declared.Phase.{Phase}
+use Rattle.hy_protocol.specs.declared.Phase.TheVariants.{Working, Stamping, Undoing}
+use Rattle.hy_machine.specs.States.{State, Session, Open, Begun, Finished}
 use Rattle.hy_machine.specs.Tables.{Entry, Pair, Cell, Tables, over}
-use Rattle.hy_machine.specs.States as cause
 use Rattle.hy_machine.specs.Positions.{item_at}
 use Rattle.hy_machine.specs.Sessions.{session_at, pair_of, entry_cells}
 use Rattle.hy_machine.specs.Holding.{holds}
-use Rattle.hy_machine.specs.Turns.{ending_of}
 use Rattle.hy_machine.specs.Validation.{committed_of, record_hit, first_hit}
 use Rattle.hy_replay.specs.Laws.{IsUnseenAt, DifferUnseen}
 use Rattle.hy_lawful.specs.Outcomes.{committed_at}
@@ -83,7 +83,7 @@ still_there setting order fit begun rank later passed table pos own =
 -- the first hit of a transaction's records by the entries from its start on is one of this transaction's entry, and up to
 -- that one no entry does anything at the positions that it wrote
 pub record IsFirstHit (order : List Entry) (begun : Begun) (table pos : ℕ) (other : Label) (statement : ℕ) : Type 0 where
-  pub hit : first_hit begun.records (map committed_of (drop begun.prefix order)) ≡ Some (cause.Invalid table pos other statement)
+  pub hit : first_hit begun.records (map committed_of (drop begun.prefix order)) ≡ Some (Invalid table pos other statement)
   pub rank : ℕ
   pub stands : label_at order rank ≡ Some other
   pub clear : (of at : ℕ) → is_some (item_at begun.own of at) ≡ true → (before : ℕ) → begun.prefix ≤ before → before ≤ rank
@@ -114,7 +114,7 @@ abbrev pub PhasePasses : Setting → List Entry → Begun → Phase → Type 0
 PhasePasses setting order begun (Working visited count) = HeldClear setting order (record { begun = begun; phase = Working visited count })
 PhasePasses setting order begun (Stamping visited) = Passed setting order begun (length order - 1)
 PhasePasses setting order begun (Undoing visited cause) =
-    HeldClear setting order (record { begun = begun; phase = Undoing visited cause }) × IsRefusal order begun (ending_of cause)
+    HeldClear setting order (record { begun = begun; phase = Undoing visited cause }) × (committed_at cause ≡ None) × IsRefusal order begun cause
 
 pub record OpenPasses (setting : Setting) (order : List Entry) (current : Open) : Type 0 where
   pub low : current.begun.low ≤ current.begun.prefix
@@ -203,7 +203,7 @@ refusal_grows order more begun Read h = tt
 refusal_grows order more begun RolledBack h = tt
 refusal_grows order more begun (Conflict table pos other) h = h
 refusal_grows order more begun (Invalid table pos other statement) h = record {
-  hit = hit_stays begun.records begun.prefix order more (cause.Invalid table pos other statement) h.hit;
+  hit = hit_stays begun.records begun.prefix order more (Invalid table pos other statement) h.hit;
   rank = h.rank;
   stands = (grows_by order more).stands h.rank other h.stands;
   clear = λ of at own before from to.
@@ -242,7 +242,8 @@ phase_grows setting order entry begun (Working visited count) h spares n =
 phase_grows setting order entry begun (Stamping visited) h spares n = absurd (n visited refl)
 phase_grows setting order entry begun (Undoing visited cause) h spares n = (
   held_grows setting order entry (record { begun = begun; phase = Undoing visited cause }) h.0 spares,
-  refusal_grows order (entry ∷ []) begun (ending_of cause) h.1,
+  h.1,
+  refusal_grows order (entry ∷ []) begun cause h.2,
 )
 
 abbrev pub NowSpared : Setting → Entry → Option Open → Type 0

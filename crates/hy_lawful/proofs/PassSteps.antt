@@ -11,11 +11,13 @@ use Rattle.hy_bound.specs.declared.Txn.{Txn}
 use Rattle.hy_stamp.specs.declared.Label.{Label}
 use Rattle.hy_render.specs.declared.Ending.{Ending}
 use Rattle.hy_machine.specs.declared.Setting.{Setting}
-use Rattle.hy_machine.specs.States.{State, Session, Open, Finished, Working, Stamping}
+use Rattle.hy_protocol.specs.declared.Phase.TheVariants.{Working, Stamping}
+use Rattle.hy_machine.specs.States.{State, Session, Open, Finished}
 use Rattle.hy_machine.specs.Tables.{Entry, Cell, capacity, chunk_of}
-use Rattle.hy_machine.specs.Turns.{Turn, Done, Waits, Begins, Visits, Answers, Enters, Ends, unless_blocked, session_turn, phase_turn}
+use Rattle.hy_protocol.specs.Turns.{Turn, Done, Waits, Begins, Visits, Answers, Enters, Ends, unless_blocked}
+use Rattle.hy_machine.specs.Turns.{session_turn, phase_turn}
 use Rattle.hy_machine.specs.Positions.{item_at}
-use Rattle.hy_machine.specs.Writes.{blank_own, written_chunks, is_among}
+use Rattle.hy_machine.specs.Writes.{Write, blank_own, written_chunks, is_among}
 use Rattle.hy_machine.specs.Sessions.{fresh, session_at, txn_at, blocker, least_with, least_prefix, entry_of}
 use Rattle.hy_machine.specs.Holding.{holds}
 use Rattle.hy_machine.specs.Validation.{committed_of, first_hit}
@@ -188,7 +190,7 @@ ends setting state number current ending o h named =
     })
     o.passes
 
-turn_passes : (setting : Setting) (state : State) (number : ℕ) (current : Open) → IsOpen setting state number current → (turn : Turn)
+turn_passes : (setting : Setting) (state : State) (number : ℕ) (current : Open) → IsOpen setting state number current → (turn : Turn Write)
     → FitsTurn setting state number current.begun turn → PassesTurn setting state number current turn
     → Passes setting (after_turn setting state number turn).0
 turn_passes setting state number current o Done f h = o.passes

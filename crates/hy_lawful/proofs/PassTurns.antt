@@ -15,19 +15,23 @@ use Rattle.hy_bound.specs.Records.{shape_of}
 use Rattle.hy_meaning.specs.Statement.{answer_of, grouped}
 use Rattle.hy_stamp.specs.declared.Label.{Label}
 use Rattle.hy_render.specs.declared.Ending.{Ending}
-use Rattle.hy_render.specs.declared.Ending.TheVariants as ways
+use Rattle.hy_render.specs.declared.Ending.TheVariants.{Read, RolledBack}
 use Rattle.hy_machine.specs.declared.Setting.{Setting}
-use Rattle.hy_machine.specs.States.{State, Open, Begun, Cause, RolledBack, Conflict, Invalid, Range, Full, Phase, Working, Stamping, Undoing}
+use Rattle.hy_protocol.specs.declared.Phase.{Phase}
+use Rattle.hy_protocol.specs.declared.Phase.TheVariants.{Working, Stamping, Undoing}
+use Rattle.hy_machine.specs.States.{State, Open, Begun}
 use Rattle.hy_machine.specs.Tables.{Entry, Cell, Own, positions_in, chunk_of}
 use Rattle.hy_machine.specs.Writes.{Write, with_writes, wrote_nothing, written_chunks, is_among}
-use Rattle.hy_machine.specs.Turns.{Turn, Done, Waits, Begins, Visits, Answers, Enters, Ends}
+use Rattle.hy_protocol.specs.Turns.{Turn, Done, Waits, Begins, Visits, Answers, Enters, Ends}
 use Rattle.hy_machine.specs.Positions.{item_at}
 use Rattle.hy_machine.specs.Sessions.{blocker, view}
 use Rattle.hy_machine.specs.Holding.{undone, holds, is_free, opponent}
 use Rattle.hy_machine.specs.Validation.{committed_of, first_hit}
 use Rattle.hy_machine.specs.Visits.{verdict_at, swept, sees_key, free_position, checks_of}
-use Rattle.hy_machine.specs.Turns.{rows_seen, read_turn, write_turn, check_turn, place_turn, insert_turn, statement_turn, ending_of, unless_blocked}
-use Rattle.hy_machine.specs.Turns.{undo_turn, stamp_turn, validated_turn, commit_turn, closing_turn, working_turn, phase_turn}
+use Rattle.hy_protocol.specs.Turns.{unless_blocked}
+use Rattle.hy_machine.specs.Turns.{rows_seen, read_turn, write_turn, check_turn, place_turn, insert_turn, statement_turn}
+use Rattle.hy_protocol.specs.Closing.{validated_turn}
+use Rattle.hy_machine.specs.Turns.{undo_turn, stamp_turn, commit_turn, closing_turn, working_turn, phase_turn}
 use Rattle.hy_machine.specs.Steps.{after_visit, after_answer}
 use Rattle.hy_lawful.specs.Outcomes.{committed_at}
 use Rattle.hy_lawful.proofs.Fits.{FitsTables, Fits}
@@ -46,7 +50,7 @@ GoesOn setting state number new =
     OpenPasses setting state.order new × HoldsAlone setting state number (Some new) × PhaseNames state new.phase
 
 -- a turn of an open transaction passes
-abbrev pub PassesTurn : Setting → State → ℕ → Open → Turn → Type 0
+abbrev pub PassesTurn : Setting → State → ℕ → Open → Turn Write → Type 0
 PassesTurn setting state number current Done = Unit {0}
 PassesTurn setting state number current (Waits by) = Unit {0}
 PassesTurn setting state number current Begins = ⊥
@@ -60,16 +64,16 @@ PassesTurn setting state number current (Ends ending) =
     EndPasses setting state.order (record { begun = current.begun; ending = ending }) × Names state ending
 
 abbrev Refused : State → Begun → Ending → Type 0
-Refused state begun ending = IsRefusal state.order begun ending × Names state ending
+Refused state begun ending = (committed_at ending ≡ None) × IsRefusal state.order begun ending × Names state ending
 
 -- a phase that a transaction at work comes to
 abbrev NextPhase : State → Begun → Phase → Type 0
 NextPhase state begun (Working visited count) = Unit {0}
 NextPhase state begun (Stamping visited) = ⊥
-NextPhase state begun (Undoing visited cause) = Refused state begun (ending_of cause)
+NextPhase state begun (Undoing visited cause) = Refused state begun cause
 
 -- a turn of a transaction at work
-abbrev WorkTurn : Setting → State → ℕ → Begun → Turn → Type 0
+abbrev WorkTurn : Setting → State → ℕ → Begun → Turn Write → Type 0
 WorkTurn setting state number begun Done = Unit {0}
 WorkTurn setting state number begun (Waits by) = Unit {0}
 WorkTurn setting state number begun Begins = ⊥
@@ -77,7 +81,7 @@ WorkTurn setting state number begun (Visits writes phase) =
     AllMay setting state number begun writes × NextPhase state (record begun { own = with_writes begun.own writes }) phase
 WorkTurn setting state number begun (Answers writes reply took records) = AllMay setting state number begun writes
 WorkTurn setting state number begun Enters = first_hit begun.records (map committed_of (drop begun.prefix state.order)) ≡ None
-WorkTurn setting state number begun (Ends ending) = (committed_at ending ≡ None) × Refused state begun ending
+WorkTurn setting state number begun (Ends ending) = Refused state begun ending
 
 -- ---- statements
 
@@ -98,19 +102,20 @@ not_own setting state number begun table pos other w o (Some cell) e =
 
 write_writes : (setting : Setting) (state : State) (number : ℕ) (begun : Begun) (visited count : ℕ) (statement : Bound) (kind : WriteKind) (pred : Condition)
     (table : ℕ) → IsAtWork setting state number begun
-    → (result : Result (List Write) Cause) → swept setting state number begun kind pred table visited ≡ result
+    → (result : Result (List Write) Ending) → swept setting state number begun kind pred table visited ≡ result
     → WorkTurn setting state number begun (write_turn setting begun visited count statement kind result)
 write_writes setting state number begun visited count statement kind pred table w (Err cause) e = (
   tt,
-  sweep_refuses (λ (one : Cause). Refused state begun (ending_of one)) table (verdict_at setting state number begun kind pred table)
+  sweep_refuses (λ (one : Ending). Refused state begun one) table (verdict_at setting state number begun kind pred table)
       (positions_in setting visited) cause
-      (λ pos one v. verdict_fails (λ (one : Cause). Refused state begun (ending_of one)) kind pred table pos
+      (λ pos one v. verdict_fails (λ (one : Ending). Refused state begun one) kind pred table pos
       (opponent setting state number begun.prefix table pos) (item_at (view setting state begun) table pos) one
       (λ row other here t o. (
+        refl,
         not_own setting state number begun table pos other w o (item_at begun.own table pos) refl,
         opponent_wrote setting state w.fits w.passes number begun.prefix table pos other o,
       ))
-      (λ row here t n. (tt, tt)) v)
+      (λ row here t n. (refl, tt, tt)) v)
       e,
 )
 write_writes setting state number begun visited count statement kind pred table w (Ok writes) e =
@@ -131,7 +136,7 @@ place_writes setting state number begun visited chunk statement table row w (Som
     (free_may setting state number begun table pos w.low (found_is (is_free setting state begun table) (positions_in setting chunk) pos e), tt)
 place_writes setting state number begun visited chunk statement table row w None e = elim (cases_Bool (ltb (suc chunk) setting.chunks)) [
   | inl t ↦ rw t (tt, tt)
-  | inr f ↦ rw f (tt, (tt, tt))
+  | inr f ↦ rw f (tt, (refl, tt, tt))
 ]
 
 insert_writes : (setting : Setting) (state : State) (number : ℕ) (begun : Begun) (visited : ℕ) (statement : Bound) (table : ℕ) (row : List Value)
@@ -162,30 +167,23 @@ statement_writes setting state number begun visited count (Delete table pred) w 
 
 -- ---- what closes a transaction
 
-undone_is : (cause : Cause) → committed_at (ending_of cause) ≡ None
-undone_is RolledBack = refl
-undone_is (Conflict table pos other) = refl
-undone_is (Invalid table pos other statement) = refl
-undone_is (Range table pos) = refl
-undone_is (Full table) = refl
-
-unless_writes : (setting : Setting) (state : State) (number : ℕ) (begun : Begun) (turn : Turn) (by : Option Label)
+unless_writes : (setting : Setting) (state : State) (number : ℕ) (begun : Begun) (turn : Turn Write) (by : Option Label)
     → WorkTurn setting state number begun turn → WorkTurn setting state number begun (unless_blocked by turn)
 unless_writes setting state number begun turn None h = h
 unless_writes setting state number begun turn (Some by) h = tt
 
-undo_writes : (setting : Setting) (state : State) (number : ℕ) (begun : Begun) (visited : ℕ) (cause : Cause)
-    → Refused state begun (ending_of cause) → WorkTurn setting state number begun (undo_turn setting state number begun visited cause)
+undo_writes : (setting : Setting) (state : State) (number : ℕ) (begun : Begun) (visited : ℕ) (cause : Ending)
+    → Refused state begun cause → WorkTurn setting state number begun (undo_turn setting state number begun visited cause)
 undo_writes setting state number begun visited cause h = elim (cases_Bool (ltb visited (length (written_chunks setting begun.own)))) [
   | inl t ↦ rw t (tt, h)
-  | inr f ↦ rw f (unless_writes setting state number begun (Ends (ending_of cause)) (blocker state number) (undone_is cause, h))
+  | inr f ↦ rw f (unless_writes setting state number begun (Ends cause) (blocker state number) h)
 ]
 
 -- what validation refuses names its hit
-hit_names : (order : List Entry) (begun : Begun) → OwnClear order begun → (cause : Cause)
-    → first_hit begun.records (map committed_of (drop begun.prefix order)) ≡ Some cause → IsRefusal order begun (ending_of cause)
+hit_names : (order : List Entry) (begun : Begun) → OwnClear order begun → (cause : Ending)
+    → first_hit begun.records (map committed_of (drop begun.prefix order)) ≡ Some cause → IsRefusal order begun cause
 hit_names order begun clear cause e =
-    first_hit_is (λ (one : Cause). first_hit begun.records (map committed_of (drop begun.prefix order)) ≡ Some one → IsRefusal order begun (ending_of one))
+    first_hit_is (λ (one : Ending). first_hit begun.records (map committed_of (drop begun.prefix order)) ≡ Some one → IsRefusal order begun one)
     (λ (n : ℕ). Unit {0}) begun.records (drop begun.prefix order) cause (any_record begun.records)
     (λ i label at table pos statement q hit. record {
       hit = hit;
@@ -194,15 +192,17 @@ hit_names order begun clear cause e =
       clear = λ of there own before from to. clear of there own before from;
     }) e e
 
-validated_writes : (setting : Setting) (state : State) (number : ℕ) (begun : Begun) → OwnClear state.order begun → (hit : Option Cause)
+validated_writes : (setting : Setting) (state : State) (number : ℕ) (begun : Begun) → OwnClear state.order begun → (hit : Option Ending)
     → first_hit begun.records (map committed_of (drop begun.prefix state.order)) ≡ hit
     → WorkTurn setting state number begun (validated_turn hit)
 validated_writes setting state number begun clear None e = e
 validated_writes setting state number begun clear (Some cause) e = (
   tt,
   (
+    is_invalid (λ (one : Ending). committed_at one ≡ None) begun.records (drop begun.prefix state.order) cause
+        (λ table pos label statement. refl) e,
     hit_names state.order begun clear cause e,
-    is_invalid (λ (one : Cause). Names state (ending_of one)) begun.records (drop begun.prefix state.order) cause
+    is_invalid (λ (one : Ending). Names state one) begun.records (drop begun.prefix state.order) cause
         (λ table pos label statement. tt) e,
   ),
 )
@@ -210,17 +210,17 @@ validated_writes setting state number begun clear (Some cause) e = (
 commit_writes : (setting : Setting) (state : State) (number : ℕ) (begun : Begun) → OwnClear state.order begun
     → WorkTurn setting state number begun (commit_turn setting state number begun)
 commit_writes setting state number begun clear = unless_writes setting state number begun
-    (cond (wrote_nothing begun.own) (Ends ways.Read) (validated_turn (first_hit begun.records (map committed_of (drop begun.prefix state.order)))))
+    (cond (wrote_nothing begun.own) (Ends Read) (validated_turn (first_hit begun.records (map committed_of (drop begun.prefix state.order)))))
     (blocker state number)
     (elim (cases_Bool (wrote_nothing begun.own)) [
-      | inl t ↦ rw t (refl, (tt, tt))
+      | inl t ↦ rw t (refl, tt, tt)
       | inr f ↦ rw f (validated_writes setting state number begun clear (first_hit begun.records (map committed_of (drop begun.prefix state.order))) refl)
     ])
 
 closing_writes : (setting : Setting) (state : State) (number : ℕ) (begun : Begun) → OwnClear state.order begun → (commits : Bool)
     → WorkTurn setting state number begun (closing_turn setting state number begun commits)
 closing_writes setting state number begun clear true = commit_writes setting state number begun clear
-closing_writes setting state number begun clear false = undo_writes setting state number begun 0 RolledBack (tt, tt)
+closing_writes setting state number begun clear false = undo_writes setting state number begun 0 RolledBack (refl, tt, tt)
 
 working_writes : (setting : Setting) (state : State) (number : ℕ) (txn : Txn) (begun : Begun) (visited count : ℕ) → IsAtWork setting state number begun
     → (statement : Option Bound) → WorkTurn setting state number begun (working_turn setting state number txn begun visited count statement)
@@ -234,12 +234,12 @@ phase_clear : (setting : Setting) (state : State) (begun : Begun) (phase : Phase
     → HeldClear setting state.order (record { begun = begun; phase = phase }) → PhasePasses setting state.order begun phase
 phase_clear setting state begun (Working visited count) n h = h
 phase_clear setting state begun (Stamping visited) n h = absurd n
-phase_clear setting state begun (Undoing visited cause) n h = (h, n.0)
+phase_clear setting state begun (Undoing visited cause) n h = (h, n.0, n.1)
 
 phase_names : (state : State) (begun : Begun) (phase : Phase) → NextPhase state begun phase → PhaseNames state phase
 phase_names state begun (Working visited count) n = tt
 phase_names state begun (Stamping visited) n = tt
-phase_names state begun (Undoing visited cause) n = n.1
+phase_names state begun (Undoing visited cause) n = n.2
 
 goes_on : (setting : Setting) (state : State) (number : ℕ) (begun : Begun) (writes : List Write) (new : Open) → IsAtWork setting state number begun
     → AllMay setting state number begun writes → new.begun.own ≡ with_writes begun.own writes → new.begun.prefix ≡ begun.prefix
@@ -267,7 +267,7 @@ goes_on setting state number begun writes new w all own prefix low n = (
     may table pos h = written_is (MayWrite setting state number begun) writes begun.own all w.may table pos
         (ap (λ (own : Own). is_some (item_at own table pos)) (sym own) ∙ h)
 
-writes_pass : (setting : Setting) (state : State) (number : ℕ) (current : Open) → IsAtWork setting state number current.begun → (turn : Turn)
+writes_pass : (setting : Setting) (state : State) (number : ℕ) (current : Open) → IsAtWork setting state number current.begun → (turn : Turn Write)
     → WorkTurn setting state number current.begun turn → PassesTurn setting state number current turn
 writes_pass setting state number current w Done h = tt
 writes_pass setting state number current w (Waits by) h = tt
@@ -278,15 +278,15 @@ writes_pass setting state number current w (Answers writes reply took records) h
     goes_on setting state number current.begun writes (after_answer writes reply took records current) w h refl refl refl tt
 writes_pass setting state number current w Enters h = (w.may, h)
 writes_pass setting state number current w (Ends ending) h =
-    ((subst (λ (rank : Option ℕ). IfSome rank (Passed setting state.order current.begun)) (sym h.0) tt, h.1.0), h.1.1)
+    ((subst (λ (rank : Option ℕ). IfSome rank (Passed setting state.order current.begun)) (sym h.0) tt, h.1), h.2)
 
-unless_passes : (setting : Setting) (state : State) (number : ℕ) (current : Open) (turn : Turn) (by : Option Label)
+unless_passes : (setting : Setting) (state : State) (number : ℕ) (current : Open) (turn : Turn Write) (by : Option Label)
     → PassesTurn setting state number current turn → PassesTurn setting state number current (unless_blocked by turn)
 unless_passes setting state number current turn None h = h
 unless_passes setting state number current turn (Some by) h = tt
 
 -- a chunk less is held
-holds_less : (setting : Setting) (begun : Begun) (visited : ℕ) (cause : Cause) (table pos : ℕ)
+holds_less : (setting : Setting) (begun : Begun) (visited : ℕ) (cause : Ending) (table pos : ℕ)
     → holds setting table pos (Some (record { begun = begun; phase = Undoing (suc visited) cause })) ≡ true
     → holds setting table pos (Some (record { begun = begun; phase = Undoing visited cause })) ≡ true
 holds_less setting begun visited cause table pos h =
@@ -295,19 +295,19 @@ holds_less setting begun visited cause table pos h =
     and_from (is_some (item_at begun.own table pos)) (is_among (drop visited (written_chunks setting begun.own)) table (chunk_of setting pos))
     parts.0 (fewer_among visited (written_chunks setting begun.own) table (chunk_of setting pos) parts.1)
 
-undo_passes : (setting : Setting) (state : State) (number : ℕ) (begun : Begun) (visited : ℕ) (cause : Cause) → begun.low ≤ begun.prefix
-    → BornEmpty setting state.order begun → PhasePasses setting state.order begun (Undoing visited cause) → Names state (ending_of cause)
+undo_passes : (setting : Setting) (state : State) (number : ℕ) (begun : Begun) (visited : ℕ) (cause : Ending) → begun.low ≤ begun.prefix
+    → BornEmpty setting state.order begun → PhasePasses setting state.order begun (Undoing visited cause) → Names state cause
     → HoldsAlone setting state number (Some (record { begun = begun; phase = Undoing visited cause }))
     → PassesTurn setting state number (record { begun = begun; phase = Undoing visited cause }) (undo_turn setting state number begun visited cause)
 undo_passes setting state number begun visited cause low born h named alone = elim (cases_Bool (ltb visited (length (written_chunks setting begun.own)))) [
   | inl t ↦ rw t (
-    record { low = low; born = born; phase = (λ table pos held. h.0 table pos (holds_less setting begun visited cause table pos held), h.1) },
+    record { low = low; born = born; phase = (λ table pos held. h.0 table pos (holds_less setting begun visited cause table pos held), h.1, h.2) },
     λ other table pos apart held. alone other table pos apart (holds_less setting begun visited cause table pos held),
     named,
   )
-  | inr f ↦ rw f (unless_passes setting state number (record { begun = begun; phase = Undoing visited cause }) (Ends (ending_of cause))
+  | inr f ↦ rw f (unless_passes setting state number (record { begun = begun; phase = Undoing visited cause }) (Ends cause)
       (blocker state number)
-      ((subst (λ (rank : Option ℕ). IfSome rank (Passed setting state.order begun)) (sym (undone_is cause)) tt, h.1), named))
+      ((subst (λ (rank : Option ℕ). IfSome rank (Passed setting state.order begun)) (sym h.1) tt, h.2), named))
 ]
 
 stamp_passes : (setting : Setting) (state : State) (number : ℕ) (begun : Begun) (visited : ℕ) → begun.low ≤ begun.prefix

@@ -7,12 +7,13 @@ use Rattle.std.proofs.lemmas.Option.{same_Some}
 use Rattle.hy_stamp.specs.declared.Label.{Label}
 use Rattle.hy_render.specs.declared.Ending.{Ending}
 use Rattle.hy_render.specs.declared.Ending.TheVariants.{Committed, Read, RolledBack, Conflict, Invalid, Range, Full}
-use Rattle.hy_machine.specs.States.{State, Session, Open, Finished, Phase, Working, Stamping, Undoing}
+use Rattle.hy_protocol.specs.declared.Phase.{Phase}
+use Rattle.hy_protocol.specs.declared.Phase.TheVariants.{Working, Stamping, Undoing}
+use Rattle.hy_machine.specs.States.{State, Session, Open, Finished}
 use Rattle.hy_machine.specs.Tables.{Entry, Cell, Own}
 use Rattle.hy_machine.specs.Writes.{Write, with_write, with_writes}
 use Rattle.hy_machine.specs.Positions.{item_at}
 use Rattle.hy_machine.specs.Sessions.{session_at}
-use Rattle.hy_machine.specs.Turns.{ending_of}
 use Rattle.hy_lawful.proofs.Lists.{kept_in_front, last_item, all_so}
 use Rattle.hy_lawful.proofs.Moves.{moved_to, sessions_moved}
 
@@ -90,7 +91,7 @@ Names state (Full table) = Unit {0}
 abbrev pub PhaseNames : State → Phase → Type 0
 PhaseNames state (Working visited count) = Unit {0}
 PhaseNames state (Stamping visited) = Unit {0}
-PhaseNames state (Undoing visited cause) = Names state (ending_of cause)
+PhaseNames state (Undoing visited cause) = Names state cause
 
 abbrev pub NowNames : State → Option Open → Type 0
 NowNames state None = Unit {0}
@@ -116,7 +117,7 @@ names_stay state later stays (Full table) h = tt
 phase_stays : (state later : State) → Stays state later → (phase : Phase) → PhaseNames state phase → PhaseNames later phase
 phase_stays state later stays (Working visited count) h = tt
 phase_stays state later stays (Stamping visited) h = tt
-phase_stays state later stays (Undoing visited cause) h = names_stay state later stays (ending_of cause) h
+phase_stays state later stays (Undoing visited cause) h = names_stay state later stays cause h
 
 now_stays : (state later : State) → Stays state later → (now : Option Open) → NowNames state now → NowNames later now
 now_stays state later stays None h = tt

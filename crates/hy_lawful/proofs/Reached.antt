@@ -11,9 +11,12 @@ use Rattle.hy_bound.specs.declared.Txn.{Txn}
 use Rattle.hy_bound.specs.declared.Record.{Record}
 use Rattle.hy_stamp.specs.declared.Label.{Label}
 use Rattle.hy_render.specs.declared.Ending.TheVariants.{Committed}
+use Rattle.hy_machine.specs.Writes.{Write}
 use Rattle.hy_machine.specs.declared.Setting.{Setting}
-use Rattle.hy_machine.specs.States.{State, Open, Working, Stamping}
-use Rattle.hy_machine.specs.Turns.{Turn, Done, Waits, Begins, Visits, Answers, Enters, Ends, unless_blocked, session_turn, phase_turn}
+use Rattle.hy_protocol.specs.declared.Phase.TheVariants.{Working, Stamping}
+use Rattle.hy_machine.specs.States.{State, Open}
+use Rattle.hy_protocol.specs.Turns.{Turn, Done, Waits, Begins, Visits, Answers, Enters, Ends, unless_blocked}
+use Rattle.hy_machine.specs.Turns.{session_turn, phase_turn}
 use Rattle.hy_machine.specs.Sessions.{fresh, session_at, program_of, txn_at, blocker, entry_of}
 use Rattle.hy_machine.specs.Steps.{with_session, beginning, after_visit, after_answer, done_with, order_with, after_turn, step_of}
 use Rattle.hy_machine.specs.Runs.{opening_of, after_steps, IsReached}
@@ -106,7 +109,7 @@ numbered_more answered more records others e h k =
     (λ of same. (omega (arith, same), omega (arith, same, e))) k)
 
 -- a turn of an open transaction leaves what fits
-turn_fits : (setting : Setting) (state : State) (number : ℕ) (current : Open) → IsOpen setting state number current → (turn : Turn)
+turn_fits : (setting : Setting) (state : State) (number : ℕ) (current : Open) → IsOpen setting state number current → (turn : Turn Write)
     → FitsTurn setting state number current.begun turn → Fits setting (after_turn setting state number turn).0
 turn_fits setting state number current o Done h = absurd h
 turn_fits setting state number current o (Waits by) h = o.fits

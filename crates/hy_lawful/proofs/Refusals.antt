@@ -14,9 +14,10 @@ use Rattle.hy_bound.specs.Condition.{Condition}
 use Rattle.hy_bound.specs.Predicate.{truth_of}
 use Rattle.hy_value.specs.declared.change.Change.{Change}
 use Rattle.hy_stamp.specs.declared.Label.{Label}
+use Rattle.hy_render.specs.declared.Ending.{Ending}
+use Rattle.hy_render.specs.declared.Ending.TheVariants.{Committed, Read, RolledBack, Conflict, Invalid, Range, Full}
 use Rattle.hy_machine.specs.Tables.{Entry, Cell}
 use Rattle.hy_machine.specs.Writes.{Write}
-use Rattle.hy_machine.specs.States.{Cause, RolledBack, Conflict, Invalid, Range, Full}
 use Rattle.hy_machine.specs.Visits.{new_cell, judged, verdict, and_write, sweep}
 use Rattle.hy_machine.specs.Validation.{committed_of, record_hit, invalid_at, change_hits, hit_among, first_hit}
 use Rattle.hy_lawful.proofs.Lists.{or_some}
@@ -29,7 +30,9 @@ IsSet (kind.Set sets) = Unit {0}
 IsSet kind.Delete = ⊥
 
 -- a position of a table is refused: by an opponent, or since a value that is set is out of range
-abbrev pub Refuses : WriteKind → ℕ → ℕ → Option Label → Cause → Type 0
+abbrev pub Refuses : WriteKind → ℕ → ℕ → Option Label → Ending → Type 0
+Refuses kind table pos opponent (Committed rank) = ⊥
+Refuses kind table pos opponent Read = ⊥
 Refuses kind table pos opponent RolledBack = ⊥
 Refuses kind table pos opponent (Conflict of at other) = (table ≡ of) × (opponent ≡ Some other) × (pos ≡ at)
 Refuses kind table pos opponent (Invalid of at other statement) = ⊥
@@ -40,7 +43,7 @@ none_new : (kind : WriteKind) (row : List Value) → new_cell kind row ≡ None 
 none_new (kind.Set sets) row e = tt
 none_new kind.Delete row e = absurd cc
 
-judged_refuses : (kind : WriteKind) (table pos : ℕ) (opponent : Option Label) (row : List Value) (cell : Option Cell) (cause : Cause)
+judged_refuses : (kind : WriteKind) (table pos : ℕ) (opponent : Option Label) (row : List Value) (cell : Option Cell) (cause : Ending)
     → new_cell kind row ≡ cell
     → judged table pos opponent cell ≡ Err cause → Refuses kind table pos opponent cause
 judged_refuses kind table pos (Some other) row cell cause n e =
@@ -49,7 +52,7 @@ judged_refuses kind table pos None row None cause n e =
     let same : Range table pos ≡ cause = cc in subst (Refuses kind table pos None) same (refl, none_new kind row n)
 judged_refuses kind table pos None row (Some cell) cause n e = absurd cc
 
-pub verdict_refuses : (kind : WriteKind) (pred : Condition) (table pos : ℕ) (opponent : Option Label) (cell : Cell) (cause : Cause)
+pub verdict_refuses : (kind : WriteKind) (pred : Condition) (table pos : ℕ) (opponent : Option Label) (cell : Cell) (cause : Ending)
     → verdict kind pred table pos opponent cell ≡ Err cause → Refuses kind table pos opponent cause
 verdict_refuses kind pred table pos opponent None cause e = absurd cc
 verdict_refuses kind pred table pos opponent (Some row) cause e = by_truth (truth_of pred row) e
@@ -58,29 +61,29 @@ verdict_refuses kind pred table pos opponent (Some row) cause e = by_truth (trut
     by_truth true h = judged_refuses kind table pos opponent row (new_cell kind row) cause refl h
     by_truth false h = absurd cc
 
-pub and_refuses : (P : Cause → Type 0) (table pos : ℕ) (here : Result (Option Cell) Cause) (others : Result (List Write) Cause) (cause : Cause)
-    → ((one : Cause) → here ≡ Err one → P one) → (others ≡ Err cause → P cause) → and_write table pos here others ≡ Err cause → P cause
+pub and_refuses : (P : Ending → Type 0) (table pos : ℕ) (here : Result (Option Cell) Ending) (others : Result (List Write) Ending) (cause : Ending)
+    → ((one : Ending) → here ≡ Err one → P one) → (others ≡ Err cause → P cause) → and_write table pos here others ≡ Err cause → P cause
 and_refuses P table pos (Err one) others cause f g e = let same : one ≡ cause = cc in subst P same (f one refl)
 and_refuses P table pos (Ok cell) (Err one) cause f g e = g e
 and_refuses P table pos (Ok cell) (Ok writes) cause f g e = absurd cc
 
 -- a visit is refused as one of its positions is
-pub sweep_refuses : (P : Cause → Type 0) (table : ℕ) (judge : ℕ → Result (Option Cell) Cause) (positions : List ℕ) (cause : Cause)
-    → ((pos : ℕ) (one : Cause) → judge pos ≡ Err one → P one) → sweep table judge positions ≡ Err cause → P cause
+pub sweep_refuses : (P : Ending → Type 0) (table : ℕ) (judge : ℕ → Result (Option Cell) Ending) (positions : List ℕ) (cause : Ending)
+    → ((pos : ℕ) (one : Ending) → judge pos ≡ Err one → P one) → sweep table judge positions ≡ Err cause → P cause
 sweep_refuses P table judge [] cause f e = absurd cc
 sweep_refuses P table judge (pos ∷ positions) cause f e =
     and_refuses P table pos (judge pos) (sweep table judge positions) cause (f pos) (sweep_refuses P table judge positions cause f) e
 
 -- the same of a visit of the positions from one on
-pub range_refuses : (P : Cause → Type 0) (table : ℕ) (judge : ℕ → Result (Option Cell) Cause) (first many : ℕ) (cause : Cause)
-    → ((pos : ℕ) (one : Cause) → first ≤ pos → judge pos ≡ Err one → P one) → sweep table judge (range_with_len first many) ≡ Err cause → P cause
+pub range_refuses : (P : Ending → Type 0) (table : ℕ) (judge : ℕ → Result (Option Cell) Ending) (first many : ℕ) (cause : Ending)
+    → ((pos : ℕ) (one : Ending) → first ≤ pos → judge pos ≡ Err one → P one) → sweep table judge (range_with_len first many) ≡ Err cause → P cause
 range_refuses P table judge first zero cause f e = absurd cc
 range_refuses P table judge first (suc many) cause f e =
     and_refuses P table first (judge first) (sweep table judge (range_with_len (first + 1) many)) cause (λ one. f first one (omega arith))
     (range_refuses P table judge (first + 1) many cause (λ pos one from. f pos one (omega (arith, from)))) e
 
 -- a position is refused whose row is selected: by an opponent, or since a value goes out of range
-pub verdict_fails : (P : Cause → Type 0) (kind : WriteKind) (pred : Condition) (table pos : ℕ) (opponent : Option Label) (cell : Cell) (cause : Cause)
+pub verdict_fails : (P : Ending → Type 0) (kind : WriteKind) (pred : Condition) (table pos : ℕ) (opponent : Option Label) (cell : Cell) (cause : Ending)
     → ((row : List Value) (other : Label) → cell ≡ Some row → truth_of pred row ≡ true → opponent ≡ Some other → P (Conflict table pos other))
     → ((row : List Value) → cell ≡ Some row → truth_of pred row ≡ true → new_cell kind row ≡ None → P (Range table pos))
     → verdict kind pred table pos opponent cell ≡ Err cause → P cause
@@ -112,7 +115,7 @@ record_is Q (of ∷ others) table before after statement h e =
     by_hit true f k = subst Q (same_Some of.statement statement k) h.0
     by_hit false f k = f k
 
-hits_are : (P : Cause → Type 0) (Q : ℕ → Type 0) (records : List Record) (other : Label) (changes : List Change) (cause : Cause)
+hits_are : (P : Ending → Type 0) (Q : ℕ → Type 0) (records : List Record) (other : Label) (changes : List Change) (cause : Ending)
     → AllByRecursion (λ (of : Record). Q of.statement) records → ((table pos statement : ℕ) → Q statement → P (Invalid table pos other statement))
     → hit_among records other changes ≡ Some cause → P cause
 hits_are P Q records other [] cause q f e = absurd cc
@@ -128,7 +131,7 @@ hits_are P Q records other (change ∷ changes) cause q f e = elim (or_some (cha
         (f change.table change.pos statement (record_is Q records change.table change.before change.after statement q k))
 
 -- the transaction that invalidates another one has an entry, and the statement that it hits a record
-pub first_hit_is : (P : Cause → Type 0) (Q : ℕ → Type 0) (records : List Record) (entries : List Entry) (cause : Cause)
+pub first_hit_is : (P : Ending → Type 0) (Q : ℕ → Type 0) (records : List Record) (entries : List Entry) (cause : Ending)
     → AllByRecursion (λ (of : Record). Q of.statement) records
     → ((i : ℕ) (label : Label) → label_at entries i ≡ Some label → (table pos statement : ℕ) → Q statement → P (Invalid table pos label statement))
     → first_hit records (map committed_of entries) ≡ Some cause → P cause
@@ -144,7 +147,7 @@ any_record [] = tt
 any_record (of ∷ records) = (tt, any_record records)
 
 -- what validation refuses is invalid
-pub is_invalid : (P : Cause → Type 0) (records : List Record) (entries : List Entry) (cause : Cause)
+pub is_invalid : (P : Ending → Type 0) (records : List Record) (entries : List Entry) (cause : Ending)
     → ((table pos : ℕ) (label : Label) (statement : ℕ) → P (Invalid table pos label statement)) → first_hit records (map committed_of entries) ≡ Some cause
     → P cause
 is_invalid P records entries cause f e =

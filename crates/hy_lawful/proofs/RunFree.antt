@@ -8,7 +8,8 @@ use Rattle.std.proofs.lemmas.List.Folds.{list_any-append}
 use Rattle.std.proofs.lemmas.Option.{same_Some}
 use Rattle.std.proofs.Math.Nat.{div-lt_iff_lt-mul, div-mul-le_self, lt-div-mul-add}
 use Rattle.hy_machine.specs.declared.Setting.{Setting}
-use Rattle.hy_machine.specs.States.{State, Session, Open, Begun, Working}
+use Rattle.hy_protocol.specs.declared.Phase.TheVariants.{Working}
+use Rattle.hy_machine.specs.States.{State, Session, Open, Begun}
 use Rattle.hy_machine.specs.Tables.{Entry, Pair, Cell, Tables, Own, capacity, chunk_of, after_entry, history, opening_tables}
 use Rattle.hy_machine.specs.Positions.{item_at}
 use Rattle.hy_machine.specs.Writes.{has_written_in, chunks_in_table, chunks_from, written_chunks, is_among}

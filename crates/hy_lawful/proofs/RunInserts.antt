@@ -15,7 +15,8 @@ use Rattle.hy_bound.specs.Records.{shape_of}
 use Rattle.hy_plan.specs.Reads.{records_of}
 use Rattle.hy_meaning.specs.Statement.{has_key_of}
 use Rattle.hy_machine.specs.declared.Setting.{Setting}
-use Rattle.hy_machine.specs.States.{State, Begun, Working}
+use Rattle.hy_protocol.specs.declared.Phase.TheVariants.{Working}
+use Rattle.hy_machine.specs.States.{State, Begun}
 use Rattle.hy_machine.specs.Writes.{Write, with_write}
 use Rattle.hy_machine.specs.Positions.{item_at}
 use Rattle.hy_machine.specs.Tables.{Cell, Tables, Own, capacity, positions_in, over}
@@ -191,7 +192,7 @@ place_run setting state statements number begun given visited count table row l 
             short;
         few = omega (arith, ltb-true (suc chunk) setting.chunks t, at);
       }))
-  | inr f ↦ rw f (is_new setting state statements number begun given visited count table row l past)
+  | inr f ↦ rw f (refl, is_new setting state statements number begun given visited count table row l past)
 ]
 
 pub insert_run : (setting : Setting) (state : State) (statements : List Bound) (number : ℕ) (begun : Begun) (given : Ran) (visited count table : ℕ)

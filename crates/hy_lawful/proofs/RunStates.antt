@@ -13,10 +13,12 @@ use Rattle.hy_bound.specs.declared.Record.{Record}
 use Rattle.hy_bound.specs.declared.Reply.{Reply}
 use Rattle.hy_render.specs.declared.Ending.{Ending}
 use Rattle.hy_machine.specs.declared.Setting.{Setting}
-use Rattle.hy_machine.specs.States.{State, Session, Open, Begun, Finished, Working, Stamping}
+use Rattle.hy_protocol.specs.declared.Phase.TheVariants.{Working, Stamping}
+use Rattle.hy_machine.specs.States.{State, Session, Open, Begun, Finished}
 use Rattle.hy_machine.specs.Tables.{Entry, Tables, history, opening_tables, over}
 use Rattle.hy_machine.specs.Writes.{Write, blank_own, with_writes}
-use Rattle.hy_machine.specs.Turns.{Turn, Done, Waits, Begins, Visits, Answers, Enters, Ends, unless_blocked, session_turn, phase_turn}
+use Rattle.hy_protocol.specs.Turns.{Turn, Done, Waits, Begins, Visits, Answers, Enters, Ends, unless_blocked}
+use Rattle.hy_machine.specs.Turns.{session_turn, phase_turn}
 use Rattle.hy_machine.specs.Sessions.{session_at, txn_at, blocker, least_with, least_prefix, entry_of}
 use Rattle.hy_machine.specs.Outcomes.{statements_in}
 use Rattle.hy_machine.specs.Steps.{with_session, beginning, after_visit, after_answer, done_with, order_with, after_turn, step_of}
@@ -214,7 +216,7 @@ ends setting state number current o ending h =
     (λ other apart. o.all other)
 
 -- a turn of an open transaction leaves what has run
-turn_runs : (setting : Setting) (state : State) (number : ℕ) (current : Open) (o : IsOpen setting state number current) (turn : Turn)
+turn_runs : (setting : Setting) (state : State) (number : ℕ) (current : Open) (o : IsOpen setting state number current) (turn : Turn Write)
     → RunTurn setting (tables_at setting state.order current.begun.prefix) (statements_now setting state number)
     current.begun o.run.given turn
     → AllRun setting (after_turn setting state number turn).0

@@ -8,8 +8,8 @@ use Rattle.hy_stamp.specs.declared.Label.{Label}
 use Rattle.hy_bound.specs.declared.WriteKind.{WriteKind}
 use Rattle.hy_bound.specs.Condition.{Condition}
 use Rattle.hy_bound.specs.Predicate.{truth_of}
+use Rattle.hy_render.specs.declared.Ending.{Ending}
 use Rattle.hy_machine.specs.Writes.{Write, with_write, with_writes}
-use Rattle.hy_machine.specs.States.{Cause}
 use Rattle.hy_machine.specs.Positions.{item_at}
 use Rattle.hy_machine.specs.Tables.{Cell, Tables, Own, overlaid, covered, covered_tables, over}
 use Rattle.hy_machine.specs.Visits.{new_cell, judged, verdict, write_of, and_write, sweep}
@@ -82,33 +82,33 @@ range_joined first (suc many) more end e =
 
 -- ---- sweeps
 
-pub record AndWritten (table pos : ℕ) (first : Result (Option Cell) Cause) (rest : Result (List Write) Cause) (writes : List Write) : Type 0 where
+pub record AndWritten (table pos : ℕ) (first : Result (Option Cell) Ending) (rest : Result (List Write) Ending) (writes : List Write) : Type 0 where
   pub cell : Option Cell
   pub others : List Write
   pub here : first ≡ Ok cell
   pub there : rest ≡ Ok others
   pub both : write_of table pos cell ++ others ≡ writes
 
-pub and_written : (table pos : ℕ) (first : Result (Option Cell) Cause) (rest : Result (List Write) Cause) (writes : List Write)
+pub and_written : (table pos : ℕ) (first : Result (Option Cell) Ending) (rest : Result (List Write) Ending) (writes : List Write)
     → and_write table pos first rest ≡ Ok writes → AndWritten table pos first rest writes
 and_written table pos (Err cause) rest writes e = absurd cc
 and_written table pos (Ok cell) (Err cause) writes e = absurd cc
 and_written table pos (Ok cell) (Ok others) writes e = record { cell = cell; others = others; here = refl; there = refl; both = cc }
 
-pub sweep_joined : (table : ℕ) (judge : ℕ → Result (Option Cell) Cause) (positions more : List ℕ) (writes others : List Write)
+pub sweep_joined : (table : ℕ) (judge : ℕ → Result (Option Cell) Ending) (positions more : List ℕ) (writes others : List Write)
     → sweep table judge positions ≡ Ok writes → sweep table judge more ≡ Ok others → sweep table judge (positions ++ more) ≡ Ok (writes ++ others)
 sweep_joined table judge [] more writes others e f =
     let same : [] ≡ writes = cc in f ∙ ap (λ (front : List Write). Ok (front ++ others)) same
 sweep_joined table judge (pos ∷ positions) more writes others e f =
     let first : AndWritten table pos (judge pos) (sweep table judge positions) writes =
     and_written table pos (judge pos) (sweep table judge positions) writes e in
-    ap (λ (here : Result (Option Cell) Cause). and_write table pos here (sweep table judge (positions ++ more))) first.here
+    ap (λ (here : Result (Option Cell) Ending). and_write table pos here (sweep table judge (positions ++ more))) first.here
     ∙ (ap (and_write table pos (Ok first.cell)) (sweep_joined table judge positions more first.others others first.there f)
     ∙ (ap (λ (all : List Write). Ok all) (sym (append_assoc (write_of table pos first.cell) first.others others))
     ∙ ap (λ (front : List Write). Ok (front ++ others)) first.both))
 
 -- the same is written where the verdicts that write are the same
-pub sweep_same : (table : ℕ) (judge other : ℕ → Result (Option Cell) Cause) (first many : ℕ)
+pub sweep_same : (table : ℕ) (judge other : ℕ → Result (Option Cell) Ending) (first many : ℕ)
     → ((pos : ℕ) (cell : Option Cell) → first ≤ pos → judge pos ≡ Ok cell → other pos ≡ Ok cell) → (writes : List Write)
     → sweep table judge (range_with_len first many) ≡ Ok writes → sweep table other (range_with_len first many) ≡ Ok writes
 sweep_same table judge other first zero same writes e = e
@@ -117,7 +117,7 @@ sweep_same table judge other first (suc many) same writes e =
     and_written table first (judge first) (sweep table judge (range_with_len (first + 1) many)) writes e in
     let there : sweep table other (range_with_len (first + 1) many) ≡ Ok here.others =
     sweep_same table judge other (first + 1) many (λ pos cell h. same pos cell (omega arith)) here.others here.there in
-    ap (λ (one : Result (Option Cell) Cause). and_write table first one (sweep table other (range_with_len (first + 1) many)))
+    ap (λ (one : Result (Option Cell) Ending). and_write table first one (sweep table other (range_with_len (first + 1) many)))
     (same first here.cell (omega arith) here.here)
     ∙ (ap (and_write table first (Ok here.cell)) there ∙ ap (λ (all : List Write). Ok all) here.both)
 
@@ -127,7 +127,7 @@ below_first table pos end None writes h rest = rest
 below_first table pos end (Some cell) writes h rest = (h, rest)
 
 -- what is written at positions is written below their end
-pub sweep_below : (table : ℕ) (judge : ℕ → Result (Option Cell) Cause) (first many end : ℕ) (writes : List Write) → first + many ≤ end
+pub sweep_below : (table : ℕ) (judge : ℕ → Result (Option Cell) Ending) (first many end : ℕ) (writes : List Write) → first + many ≤ end
     → sweep table judge (range_with_len first many) ≡ Ok writes → AllByRecursion (λ (write : Write). write.pos < end) writes
 sweep_below table judge first zero end writes h e =
     subst (AllByRecursion (λ (write : Write). write.pos < end)) (let same : [] ≡ writes = cc in same) tt

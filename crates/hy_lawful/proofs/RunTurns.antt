@@ -1,6 +1,6 @@
 -- What a session's turn makes of what its open transaction has run.
-use Rattle.std.proofs.Common.{◌≡◌, ℕ, suc, ◌<◌, ◌≤◌, List, [], Option, None, Some, Bool, true, false, length, map, drop, cond, ltb, refl, ap, inl, inr}
-use Rattle.std.specs.Prelude.{slice_get, ◌&&◌, ◌==◌, is_none}
+use Rattle.std.proofs.Common.{◌≡◌, ℕ, suc, ◌<◌, ◌≤◌, List, [], Option, None, Some, Bool, true, false, length, map, drop, cond, ltb, refl, ap, sym, subst, inl, inr}
+use Rattle.std.specs.Prelude.{IfSome, slice_get, ◌&&◌, ◌==◌, is_none}
 use Rattle.std.specs.Option.{option_map}
 use Rattle.std.proofs.lemmas.Bool.{cases_Bool, and_from, eq-eqb}
 use Rattle.hy_value.specs.declared.Value.{Value}
@@ -14,21 +14,25 @@ use Rattle.hy_bound.specs.declared.Bound.{Bound}
 use Rattle.hy_bound.specs.declared.Bound.TheVariants.{Select, Group, Insert, Update, Delete}
 use Rattle.hy_bound.specs.declared.WriteKind.TheVariants as kind
 use Rattle.hy_meaning.specs.Statement.{answer_of, grouped}
-use Rattle.hy_render.specs.declared.Ending.TheVariants as ways
+use Rattle.hy_render.specs.declared.Ending.{Ending}
+use Rattle.hy_render.specs.declared.Ending.TheVariants.{Read, RolledBack}
 use Rattle.hy_machine.specs.declared.Setting.{Setting}
-use Rattle.hy_machine.specs.States.{State, Begun, Cause, RolledBack, Conflict, Invalid, Range, Full, Phase, Working, Stamping, Undoing}
-use Rattle.hy_machine.specs.Turns.{Turn, Ends}
-use Rattle.hy_machine.specs.Tables.{Entry, Cell, Tables, Own, over}
-use Rattle.hy_machine.specs.Writes.{wrote_nothing, written_chunks}
+use Rattle.hy_protocol.specs.declared.Phase.{Phase}
+use Rattle.hy_protocol.specs.declared.Phase.TheVariants.{Working, Stamping, Undoing}
+use Rattle.hy_machine.specs.States.{State, Begun}
+use Rattle.hy_protocol.specs.Turns.{Turn, Ends}
+use Rattle.hy_machine.specs.Tables.{Entry, Cell, Tables, Own}
+use Rattle.hy_machine.specs.Writes.{Write, wrote_nothing, written_chunks}
 use Rattle.hy_machine.specs.Sessions.{session_at, snapshot, view, blocker}
 use Rattle.hy_machine.specs.Validation.{committed_of, first_hit}
 use Rattle.hy_machine.specs.Visits.{swept}
-use Rattle.hy_machine.specs.Turns.{rows_seen, statement_turn, ending_of, unless_blocked}
-use Rattle.hy_machine.specs.Turns.{undo_turn, stamp_turn, validated_turn, commit_turn, closing_turn, working_turn, phase_turn}
+use Rattle.hy_protocol.specs.Turns.{unless_blocked}
+use Rattle.hy_machine.specs.Turns.{rows_seen, statement_turn}
+use Rattle.hy_protocol.specs.Closing.{validated_turn}
+use Rattle.hy_machine.specs.Turns.{undo_turn, stamp_turn, commit_turn, closing_turn, working_turn, phase_turn}
 use Rattle.hy_replay.specs.Ran.{Ran, one}
-use Rattle.hy_lawful.specs.Refusing.{WasRefused}
 use Rattle.hy_lawful.proofs.Refusals.{is_invalid}
-use Rattle.hy_lawful.proofs.RunVisits.{At, Stands, RunTurn, IsNext, Writes, read_run, write_run}
+use Rattle.hy_lawful.proofs.RunVisits.{At, Undone, Stands, RunTurn, IsNext, Writes, read_run, write_run}
 use Rattle.hy_lawful.proofs.RunInserts.{insert_run}
 
 -- ---- statements
@@ -84,27 +88,24 @@ statement_run setting state statements number begun given visited count (Delete 
 
 -- ---- what closes a transaction
 
-unless_run : (setting : Setting) (tables : Tables) (statements : List Bound) (begun : Begun) (given : Ran) (turn : Turn) (by : Option Label)
+unless_run : (setting : Setting) (tables : Tables) (statements : List Bound) (begun : Begun) (given : Ran) (turn : Turn Write) (by : Option Label)
     → RunTurn setting tables statements begun given turn → RunTurn setting tables statements begun given (unless_blocked by turn)
 unless_run setting tables statements begun given turn None h = h
 unless_run setting tables statements begun given turn (Some by) h = tt
 
 -- what is undone has not committed
-undone_run : (setting : Setting) (tables : Tables) (statements : List Bound) (begun : Begun) (given : Ran) (cause : Cause)
-    → WasRefused setting.shapes (over tables begun.own) (over tables given.own) (slice_get statements (length begun.replies)) (ending_of cause)
-    → RunTurn setting tables statements begun given (Ends (ending_of cause))
-undone_run setting tables statements begun given RolledBack h = (tt, h)
-undone_run setting tables statements begun given (Conflict table pos other) h = (tt, h)
-undone_run setting tables statements begun given (Invalid table pos other statement) h = (tt, h)
-undone_run setting tables statements begun given (Range table pos) h = (tt, h)
-undone_run setting tables statements begun given (Full table) h = (tt, h)
+undone_run : (setting : Setting) (tables : Tables) (statements : List Bound) (begun : Begun) (given : Ran) (cause : Ending)
+    → Undone setting tables begun given (slice_get statements (length begun.replies)) cause
+    → RunTurn setting tables statements begun given (Ends cause)
+undone_run setting tables statements begun given cause h =
+    (subst (λ (rank : Option ℕ). IfSome rank (λ (rank : ℕ). given.own ≡ begun.own)) (sym h.0) tt, h.1)
 
-undo_run : (setting : Setting) (state : State) (statements : List Bound) (number : ℕ) (begun : Begun) (given : Ran) (visited : ℕ) (cause : Cause)
+undo_run : (setting : Setting) (state : State) (statements : List Bound) (number : ℕ) (begun : Begun) (given : Ran) (visited : ℕ) (cause : Ending)
     → Stands setting (snapshot setting state begun.prefix) statements begun given (Undoing visited cause)
     → RunTurn setting (snapshot setting state begun.prefix) statements begun given (undo_turn setting state number begun visited cause)
 undo_run setting state statements number begun given visited cause h = elim (cases_Bool (ltb visited (length (written_chunks setting begun.own)))) [
   | inl t ↦ rw t h
-  | inr f ↦ rw f (unless_run setting (snapshot setting state begun.prefix) statements begun given (Ends (ending_of cause)) (blocker state number)
+  | inr f ↦ rw f (unless_run setting (snapshot setting state begun.prefix) statements begun given (Ends cause) (blocker state number)
       (undone_run setting (snapshot setting state begun.prefix) statements begun given cause h))
 ]
 
@@ -116,19 +117,18 @@ stamp_run setting state statements begun given visited same = elim (cases_Bool (
 ]
 
 validated_run : (setting : Setting) (tables : Tables) (statements : List Bound) (begun : Begun) (given : Ran) → given.own ≡ begun.own
-    → (entries : List Entry) (hit : Option Cause) → first_hit begun.records (map committed_of entries) ≡ hit
+    → (entries : List Entry) (hit : Option Ending) → first_hit begun.records (map committed_of entries) ≡ hit
     → RunTurn setting tables statements begun given (validated_turn hit)
 validated_run setting tables statements begun given same entries None e = same
 validated_run setting tables statements begun given same entries (Some cause) e =
-    is_invalid (λ (one : Cause). WasRefused setting.shapes (over tables begun.own) (over tables given.own) (slice_get statements (length begun.replies))
-    (ending_of one))
-    begun.records entries cause (λ table pos label statement. tt) e
+    is_invalid (λ (one : Ending). Undone setting tables begun given (slice_get statements (length begun.replies)) one)
+    begun.records entries cause (λ table pos label statement. (refl, tt)) e
 
 commit_run : (setting : Setting) (state : State) (statements : List Bound) (number : ℕ) (begun : Begun) (given : Ran) → given.own ≡ begun.own
     → RunTurn setting (snapshot setting state begun.prefix) statements begun given (commit_turn setting state number begun)
 commit_run setting state statements number begun given same =
     unless_run setting (snapshot setting state begun.prefix) statements begun given
-    (cond (wrote_nothing begun.own) (Ends ways.Read) (validated_turn (first_hit begun.records (map committed_of (drop begun.prefix state.order)))))
+    (cond (wrote_nothing begun.own) (Ends Read) (validated_turn (first_hit begun.records (map committed_of (drop begun.prefix state.order)))))
     (blocker state number)
     (elim (cases_Bool (wrote_nothing begun.own)) [
       | inl t ↦ rw t (tt, tt)
@@ -139,7 +139,7 @@ commit_run setting state statements number begun given same =
 closing_run : (setting : Setting) (state : State) (statements : List Bound) (number : ℕ) (begun : Begun) (given : Ran) → given.own ≡ begun.own
     → (commits : Bool) → RunTurn setting (snapshot setting state begun.prefix) statements begun given (closing_turn setting state number begun commits)
 closing_run setting state statements number begun given same true = commit_run setting state statements number begun given same
-closing_run setting state statements number begun given same false = undo_run setting state statements number begun given 0 RolledBack tt
+closing_run setting state statements number begun given same false = undo_run setting state statements number begun given 0 RolledBack (refl, tt)
 
 working_run : (setting : Setting) (state : State) (number : ℕ) (txn : Txn) (begun : Begun) (given : Ran) (visited count : ℕ)
     → Works setting state number begun visited count

@@ -15,10 +15,15 @@ use Rattle.hy_bound.specs.declared.WriteKind.TheVariants as kind
 use Rattle.hy_bound.specs.Condition.{Condition}
 use Rattle.hy_bound.specs.Records.{shape_of}
 use Rattle.hy_plan.specs.Reads.{records_of}
+use Rattle.hy_render.specs.declared.Ending.{Ending}
 use Rattle.hy_machine.specs.declared.Setting.{Setting}
-use Rattle.hy_machine.specs.States.{State, Begun, Cause, Phase, Working, Stamping, Undoing}
+use Rattle.hy_protocol.specs.declared.Phase.{Phase}
+use Rattle.hy_protocol.specs.declared.Phase.TheVariants.{Working, Stamping, Undoing}
+use Rattle.hy_machine.specs.States.{State, Begun}
 use Rattle.hy_machine.specs.Writes.{Write, with_writes}
-use Rattle.hy_machine.specs.Turns.{Turn, Done, Waits, Begins, Visits, Answers, Enters, Ends, ending_of, told_by, read_turn, write_turn}
+use Rattle.hy_protocol.specs.Turns.{Turn, Done, Waits, Begins, Visits, Answers, Enters, Ends}
+use Rattle.hy_protocol.specs.Statements.{told_by}
+use Rattle.hy_machine.specs.Turns.{read_turn, write_turn}
 use Rattle.hy_machine.specs.Positions.{item_at}
 use Rattle.hy_machine.specs.Tables.{Cell, Tables, Own, capacity, positions_in, over}
 use Rattle.hy_machine.specs.Sessions.{snapshot}
@@ -61,16 +66,21 @@ At setting tables begun given visited count (Some (Insert table row)) =
 At setting tables begun given visited count (Some (Update table sets pred)) = HasSwept setting tables begun given visited count (kind.Set sets) pred table
 At setting tables begun given visited count (Some (Delete table pred)) = HasSwept setting tables begun given visited count kind.Delete pred table
 
+-- how one that is undone ends before this statement: it has not committed, and was refused there
+abbrev pub Undone : Setting → Tables → Begun → Ran → Option Bound → Ending → Type 0
+Undone setting tables begun given next ending =
+    (committed_at ending ≡ None) × WasRefused setting.shapes (over tables begun.own) (over tables given.own) next ending
+
 -- where an open transaction stands whose answered statements came to this
 abbrev pub Stands : Setting → Tables → List Bound → Begun → Ran → Phase → Type 0
 Stands setting tables statements begun given (Working visited count) =
     At setting tables begun given visited count (slice_get statements (length begun.replies))
 Stands setting tables statements begun given (Stamping visited) = given.own ≡ begun.own
 Stands setting tables statements begun given (Undoing visited cause) =
-    WasRefused setting.shapes (over tables begun.own) (over tables given.own) (slice_get statements (length begun.replies)) (ending_of cause)
+    Undone setting tables begun given (slice_get statements (length begun.replies)) cause
 
 -- what a turn of an open transaction does
-abbrev pub RunTurn : Setting → Tables → List Bound → Begun → Ran → Turn → Type 0
+abbrev pub RunTurn : Setting → Tables → List Bound → Begun → Ran → Turn Write → Type 0
 RunTurn setting tables statements begun given Done = Unit {0}
 RunTurn setting tables statements begun given (Waits by) = Unit {0}
 RunTurn setting tables statements begun given Begins = ⊥
@@ -145,7 +155,7 @@ swept_more : (setting : Setting) (state : State) (number : ℕ) (begun : Begun) 
     → writes_at kind pred (over (snapshot setting state begun.prefix) given.own) table (range_with_len 0 (suc visited * setting.rows)) ≡ Ok (s.writes ++ writes)
 swept_more setting state number begun given visited count kind pred table writes s e =
     let tables : Tables = snapshot setting state begun.prefix in
-    let judge : ℕ → Result (Option Cell) Cause = λ pos. verdict kind pred table pos None (item_at (over tables given.own) table pos) in
+    let judge : ℕ → Result (Option Cell) Ending = λ pos. verdict kind pred table pos None (item_at (over tables given.own) table pos) in
     let start : ℕ = visited * setting.rows in
     ap (λ (positions : List ℕ). sweep table judge positions)
     (ap (range_with_len 0) (let same : suc visited * setting.rows ≡ start + setting.rows = omega arith in same)
@@ -170,7 +180,7 @@ left_behind : (setting : Setting) (tables : Tables) (begun : Begun) (given : Ran
     → HasSwept setting tables begun given visited count kind pred table → visited * setting.rows ≤ pos
     → item_at (over tables given.own) table pos ≡ item_at (over tables begun.own) table pos
 left_behind setting tables begun given visited count kind pred table pos s from =
-    let judge : ℕ → Result (Option Cell) Cause = λ pos. verdict kind pred table pos None (item_at (over tables given.own) table pos) in
+    let judge : ℕ → Result (Option Cell) Ending = λ pos. verdict kind pred table pos None (item_at (over tables given.own) table pos) in
     alike_over tables given.own begun.own table pos
     (sym (writes_apart given.own s.writes table pos (sweep_below table judge 0 (visited * setting.rows) pos s.writes (omega (arith, from)) s.swept))
     ∙ ap (λ (own : Own). item_at own table pos) s.own)
@@ -178,20 +188,19 @@ left_behind setting tables begun given visited count kind pred table pos s from 
 refused_run : (setting : Setting) (state : State) (number : ℕ) (begun : Begun) (given : Ran) (visited count : ℕ) (statement : Bound)
     (kind : WriteKind) (pred : Condition) (table : ℕ) → Writes statement kind pred table
     → HasSwept setting (snapshot setting state begun.prefix) begun given visited count kind pred table
-    → (cause : Cause) → swept setting state number begun kind pred table visited ≡ Err cause
-    → WasRefused setting.shapes (over (snapshot setting state begun.prefix) begun.own) (over (snapshot setting state begun.prefix) given.own) (Some statement)
-    (ending_of cause)
+    → (cause : Ending) → swept setting state number begun kind pred table visited ≡ Err cause
+    → Undone setting (snapshot setting state begun.prefix) begun given (Some statement) cause
 refused_run setting state number begun given visited count statement kind pred table w s cause e =
     let tables : Tables = snapshot setting state begun.prefix in
-    let P : Cause → Type 0 = λ one. WasRefused setting.shapes (over tables begun.own) (over tables given.own) (Some statement) (ending_of one) in
+    let P : Ending → Type 0 = λ one. Undone setting tables begun given (Some statement) one in
     range_refuses P table (verdict_at setting state number begun kind pred table) (visited * setting.rows) setting.rows cause
     (λ pos one from v.
     verdict_fails P kind pred table pos (opponent setting state number begun.prefix table pos) (item_at (over tables begun.own) table pos) one
-    (λ row other here t o. ap (would_write table (Some statement)) here ∙ w.selects row t)
+    (λ row other here t o. (refl, ap (would_write table (Some statement)) here ∙ w.selects row t))
     (λ row here t n.
     let same : item_at (over tables given.own) table pos ≡ item_at (over tables begun.own) table pos =
     left_behind setting tables begun given visited count kind pred table pos s from in
-    (ap (goes_out_at table (Some statement)) (same ∙ here) ∙ w.goes_out row t n, same))
+    (refl, (ap (goes_out_at table (Some statement)) (same ∙ here) ∙ w.goes_out row t n, same)))
     v)
     e
 
@@ -203,11 +212,10 @@ pub write_run : (setting : Setting) (state : State) (statements : List Bound) (n
     ≡ changed_by given.own kind (records_of setting.shapes (suc (length begun.replies)) statement [])
     (writes_at kind pred (over (snapshot setting state begun.prefix) given.own) table (range_with_len 0 (capacity setting)))
     → HasSwept setting (snapshot setting state begun.prefix) begun given visited count kind pred table
-    → (writes : Result (List Write) Cause) → swept setting state number begun kind pred table visited ≡ writes
+    → (writes : Result (List Write) Ending) → swept setting state number begun kind pred table visited ≡ writes
     → RunTurn setting (snapshot setting state begun.prefix) statements begun given (write_turn setting begun visited count statement kind writes)
 write_run setting state statements number begun given visited count statement kind pred table n w at gives s (Err cause) e =
-    subst (λ (next : Option Bound). WasRefused setting.shapes (over (snapshot setting state begun.prefix) begun.own)
-    (over (snapshot setting state begun.prefix) given.own) next (ending_of cause)) (sym n.here)
+    subst (λ (next : Option Bound). Undone setting (snapshot setting state begun.prefix) begun given next cause) (sym n.here)
     (refused_run setting state number begun given visited count statement kind pred table w s cause e)
 write_run setting state statements number begun given visited count statement kind pred table n w at gives s (Ok writes) e =
     let tables : Tables = snapshot setting state begun.prefix in

@@ -22,19 +22,24 @@ use Rattle.hy_bound.specs.Records.{shape_of}
 use Rattle.hy_meaning.specs.Statement.{answer_of, grouped}
 use Rattle.hy_stamp.specs.declared.Label.{Label}
 use Rattle.hy_render.specs.declared.Ending.{Ending}
+use Rattle.hy_render.specs.declared.Ending.TheVariants.{Committed, RolledBack, Conflict, Invalid, Range, Full}
 use Rattle.hy_render.specs.declared.Ending.TheVariants as ways
 use Rattle.hy_machine.specs.declared.Setting.{Setting}
-use Rattle.hy_machine.specs.States.{State, Begun, Cause, RolledBack, Conflict, Invalid, Range, Full, Phase, Working, Stamping, Undoing}
+use Rattle.hy_protocol.specs.declared.Phase.{Phase}
+use Rattle.hy_protocol.specs.declared.Phase.TheVariants.{Working, Stamping, Undoing}
+use Rattle.hy_machine.specs.States.{State, Begun}
 use Rattle.hy_machine.specs.Writes.{Write, with_writes, wrote_nothing, written_chunks}
-use Rattle.hy_machine.specs.Turns.{Turn, Done, Waits, Begins, Visits, Answers, Enters, Ends}
+use Rattle.hy_protocol.specs.Turns.{Turn, Done, Waits, Begins, Visits, Answers, Enters, Ends}
 use Rattle.hy_machine.specs.Tables.{positions_in}
 use Rattle.hy_machine.specs.Sessions.{session_at, blocker_of, blocker, label_of, view}
 use Rattle.hy_machine.specs.Positions.{item_at}
 use Rattle.hy_machine.specs.Holding.{opponent}
 use Rattle.hy_machine.specs.Validation.{committed_of, first_hit}
 use Rattle.hy_machine.specs.Visits.{verdict_at, swept, sees_key, free_position, checks_of}
-use Rattle.hy_machine.specs.Turns.{rows_seen, read_turn, write_turn, check_turn, place_turn, insert_turn, statement_turn, ending_of, unless_blocked}
-use Rattle.hy_machine.specs.Turns.{undo_turn, stamp_turn, validated_turn, commit_turn, closing_turn, working_turn, phase_turn}
+use Rattle.hy_protocol.specs.Turns.{unless_blocked}
+use Rattle.hy_machine.specs.Turns.{rows_seen, read_turn, write_turn, check_turn, place_turn, insert_turn, statement_turn}
+use Rattle.hy_protocol.specs.Closing.{validated_turn}
+use Rattle.hy_machine.specs.Turns.{undo_turn, stamp_turn, commit_turn, closing_turn, working_turn, phase_turn}
 use Rattle.hy_machine.specs.Outcomes.{txn_outcome_of}
 use Rattle.hy_lawful.specs.Scripts.{statements_in, statements_of, txn_of, ClosesWithCommit, ClosesWithRollback}
 use Rattle.hy_lawful.specs.Endings.{updates, changes_rows, inserts, EndsCommitted}
@@ -63,7 +68,7 @@ abbrev pub AreOfNext : Begun → List Record → Type 0
 AreOfNext begun records = AllByRecursion (λ (of : Record). of.statement ≡ suc (length begun.replies)) records
 
 -- a turn of an open transaction fits
-abbrev pub FitsTurn : Setting → State → ℕ → Begun → Turn → Type 0
+abbrev pub FitsTurn : Setting → State → ℕ → Begun → Turn Write → Type 0
 FitsTurn setting state number begun Done = ⊥
 FitsTurn setting state number begun (Waits by) = Unit {0}
 FitsTurn setting state number begun Begins = ⊥
@@ -73,11 +78,11 @@ FitsTurn setting state number begun (Visits writes phase) =
 FitsTurn setting state number begun (Answers writes reply took records) = MayAnswer setting state number begun × AreOfNext begun records
 FitsTurn setting state number begun Enters =
     EndsCommitted setting.programs
-    (txn_outcome_of setting number (before_of state number) (record { begun = begun; ending = ways.Committed (length state.order) }))
+    (txn_outcome_of setting number (before_of state number) (record { begun = begun; ending = Committed (length state.order) }))
     × ((other : ℕ) → state.mark ≡ Some other → ⊥)
 FitsTurn setting state number begun (Ends ending) =
     WouldEnd setting state number begun ending × ((other : ℕ) → state.mark ≡ Some other → other ≡ number)
-    × (state.mark ≡ Some number → ending ≡ ways.Committed (length state.order - 1))
+    × (state.mark ≡ Some number → ending ≡ Committed (length state.order - 1))
 
 -- an open transaction whose entry does not stand in the commit order
 pub record Works (setting : Setting) (state : State) (number : ℕ) (begun : Begun) : Type 0 where
@@ -92,8 +97,8 @@ statements_at setting state number = statements_of setting.programs (label_of nu
 
 -- ---- statements
 
-refused_fits : (setting : Setting) (state : State) (number : ℕ) (begun : Begun) (visited : ℕ) (cause : Cause) → Works setting state number begun
-    → WouldEnd setting state number begun (ending_of cause) → FitsTurn setting state number begun (Visits [] (Undoing visited cause))
+refused_fits : (setting : Setting) (state : State) (number : ℕ) (begun : Begun) (visited : ℕ) (cause : Ending) → Works setting state number begun
+    → WouldEnd setting state number begun cause → FitsTurn setting state number begun (Visits [] (Undoing visited cause))
 refused_fits setting state number begun visited cause w h = (h, λ e. absurd (w.free e))
 
 -- a statement that is the next one to answer
@@ -145,8 +150,10 @@ read_fits setting state number begun visited tables statement gathered reply n =
 -- a refusal of an UPDATE or a DELETE
 refusal_ends : (setting : Setting) (state : State) (number : ℕ) (begun : Begun) (statement : Bound) (kind : WriteKind) (table pos : ℕ)
     → IsNext setting state number begun statement → changes_rows table (Some statement) ≡ true → (IsSet kind → updates table (Some statement) ≡ true)
-    → (cause : Cause) → Refuses kind table pos (opponent setting state number begun.prefix table pos) cause
-    → WouldEnd setting state number begun (ending_of cause)
+    → (cause : Ending) → Refuses kind table pos (opponent setting state number begun.prefix table pos) cause
+    → WouldEnd setting state number begun cause
+refusal_ends setting state number begun statement kind table pos n changes sets (Committed rank) r = absurd r
+refusal_ends setting state number begun statement kind table pos n changes sets ways.Read r = absurd r
 refusal_ends setting state number begun statement kind table pos n changes sets RolledBack r = absurd r
 refusal_ends setting state number begun statement kind table pos n changes sets (Conflict of at other) r =
     let rival : IsRival setting number other =
@@ -164,11 +171,11 @@ refusal_ends setting state number begun statement kind table pos n changes sets 
 write_fits : (setting : Setting) (state : State) (number : ℕ) (begun : Begun) (visited count : ℕ) (statement : Bound) (kind : WriteKind) (pred : Condition)
     (table : ℕ)
     → IsNext setting state number begun statement → changes_rows table (Some statement) ≡ true → (IsSet kind → updates table (Some statement) ≡ true)
-    → (writes : Result (List Write) Cause) → swept setting state number begun kind pred table visited ≡ writes
+    → (writes : Result (List Write) Ending) → swept setting state number begun kind pred table visited ≡ writes
     → FitsTurn setting state number begun (write_turn setting begun visited count statement kind writes)
 write_fits setting state number begun visited count statement kind pred table n changes sets (Err cause) e =
     refused_fits setting state number begun 0 cause n.works
-    (sweep_refuses (λ (one : Cause). WouldEnd setting state number begun (ending_of one)) table (verdict_at setting state number begun kind pred table)
+    (sweep_refuses (λ (one : Ending). WouldEnd setting state number begun one) table (verdict_at setting state number begun kind pred table)
     (positions_in setting visited) cause
     (λ pos one refused. refusal_ends setting state number begun statement kind table pos n changes sets one
     (verdict_refuses kind pred table pos (opponent setting state number begun.prefix table pos) (item_at (view setting state begun) table pos) one refused))
@@ -230,22 +237,22 @@ unblocked state number (Some marked) e other m = by_number (marked == number) re
     by_number true t h = sym (same_Some marked other m) ∙ eqb-true marked number t
     by_number false t h = absurd cc
 
-unless_fits : (setting : Setting) (state : State) (number : ℕ) (begun : Begun) (turn : Turn) (by : Option Label)
+unless_fits : (setting : Setting) (state : State) (number : ℕ) (begun : Begun) (turn : Turn Write) (by : Option Label)
     → (by ≡ None → FitsTurn setting state number begun turn)
     → FitsTurn setting state number begun (unless_blocked by turn)
 unless_fits setting state number begun turn None f = f refl
 unless_fits setting state number begun turn (Some by) f = tt
 
-undo_fits : (setting : Setting) (state : State) (number : ℕ) (begun : Begun) (visited : ℕ) (cause : Cause) → Works setting state number begun
-    → WouldEnd setting state number begun (ending_of cause) → FitsTurn setting state number begun (undo_turn setting state number begun visited cause)
+undo_fits : (setting : Setting) (state : State) (number : ℕ) (begun : Begun) (visited : ℕ) (cause : Ending) → Works setting state number begun
+    → WouldEnd setting state number begun cause → FitsTurn setting state number begun (undo_turn setting state number begun visited cause)
 undo_fits setting state number begun visited cause w h = elim (cases_Bool (ltb visited (length (written_chunks setting begun.own)))) [
   | inl t ↦ rw t (refused_fits setting state number begun (suc visited) cause w h)
-  | inr f ↦ rw f (unless_fits setting state number begun (Ends (ending_of cause)) (blocker state number)
+  | inr f ↦ rw f (unless_fits setting state number begun (Ends cause) (blocker state number)
       (λ e. (h, unblocked state number state.mark e, λ m. absurd (w.free m))))
 ]
 
 stamp_fits : (setting : Setting) (state : State) (number : ℕ) (begun : Begun) (visited : ℕ) → state.mark ≡ Some number
-    → WouldEnd setting state number begun (ways.Committed (length state.order - 1)) → FitsTurn setting state number begun
+    → WouldEnd setting state number begun (Committed (length state.order - 1)) → FitsTurn setting state number begun
     (stamp_turn setting state begun visited)
 stamp_fits setting state number begun visited m h = elim (cases_Bool (ltb visited (length (written_chunks setting begun.own)))) [
   | inl t ↦ rw t ((m, h), λ e. tt)
@@ -259,10 +266,10 @@ record IsAnswered (setting : Setting) (state : State) (number : ℕ) (begun : Be
   pub all : length begun.replies ≡ length (statements_at setting state number)
 
 invalid_ends : (setting : Setting) (state : State) (number : ℕ) (begun : Begun) (txn : Txn) → IsAnswered setting state number begun txn → txn.commits ≡ true
-    → wrote_nothing begun.own ≡ false → (cause : Cause) → first_hit begun.records (map committed_of (drop begun.prefix state.order)) ≡ Some cause
-    → WouldEnd setting state number begun (ending_of cause)
+    → wrote_nothing begun.own ≡ false → (cause : Ending) → first_hit begun.records (map committed_of (drop begun.prefix state.order)) ≡ Some cause
+    → WouldEnd setting state number begun cause
 invalid_ends setting state number begun txn a commits wrote cause e =
-    first_hit_is (λ (one : Cause). WouldEnd setting state number begun (ending_of one)) (IsNumbered (length begun.replies)) begun.records
+    first_hit_is (λ (one : Ending). WouldEnd setting state number begun one) (IsNumbered (length begun.replies)) begun.records
     (drop begun.prefix state.order) cause
     a.works.records
     (λ i label at table pos statement named. record {
@@ -277,7 +284,7 @@ invalid_ends setting state number begun txn a commits wrote cause e =
     e
 
 validated_fits : (setting : Setting) (state : State) (number : ℕ) (begun : Begun) (txn : Txn) → IsAnswered setting state number begun txn → txn.commits ≡ true
-    → wrote_nothing begun.own ≡ false → blocker state number ≡ None → (hit : Option Cause)
+    → wrote_nothing begun.own ≡ false → blocker state number ≡ None → (hit : Option Ending)
     → first_hit begun.records (map committed_of (drop begun.prefix state.order)) ≡ hit → FitsTurn setting state number begun (validated_turn hit)
 validated_fits setting state number begun txn a commits wrote unblocked_now None e = (
   record { answers = a.all; closes = subst ClosesWithCommit (sym a.is) commits; wrote = something_written begun.own wrote },

@@ -7,10 +7,13 @@ use Rattle.std.specs.List.{All, AllByRecursion}
 use Rattle.std.proofs.lemmas.List.Elements.{recursion_from_All}
 use Rattle.hy_bound.specs.declared.Txn.{Txn}
 use Rattle.hy_stamp.specs.declared.Label.{Label}
+use Rattle.hy_machine.specs.Writes.{Write}
 use Rattle.hy_machine.specs.declared.Setting.{Setting}
-use Rattle.hy_machine.specs.States.{State, Session, Open, Begun, Working, Stamping}
+use Rattle.hy_protocol.specs.declared.Phase.TheVariants.{Working, Stamping}
+use Rattle.hy_machine.specs.States.{State, Session, Open, Begun}
 use Rattle.hy_machine.specs.Tables.{Entry, Cell}
-use Rattle.hy_machine.specs.Turns.{Turn, Done, Waits, Begins, Visits, Answers, Enters, Ends, unless_blocked, session_turn, phase_turn}
+use Rattle.hy_protocol.specs.Turns.{Turn, Done, Waits, Begins, Visits, Answers, Enters, Ends, unless_blocked}
+use Rattle.hy_machine.specs.Turns.{session_turn, phase_turn}
 use Rattle.hy_machine.specs.Sessions.{session_at, program_of, txn_at, blocker, snapshot, view, entry_of}
 use Rattle.hy_machine.specs.Steps.{with_session, beginning, after_visit, after_answer, done_with, order_with, after_turn, step_of}
 use Rattle.hy_machine.specs.Runs.{opening_of, after_steps, IsReached}
@@ -53,7 +56,7 @@ moves_meet P state order mark number session all there entries now = record {
 
 -- a turn of an open transaction leaves all so, if the rows that it writes meet the demand
 turn_meets : (P : Demand) (setting : Setting) (state : State) (number : ℕ) (current : Open) → StateMeets P state → number < length state.sessions
-    → (session_at state number).now ≡ Some current → OwnMeets P current.begun.own → (turn : Turn) → TurnMeets P turn
+    → (session_at state number).now ≡ Some current → OwnMeets P current.begun.own → (turn : Turn Write) → TurnMeets P turn
     → StateMeets P (after_turn setting state number turn).0
 turn_meets P setting state number current all there is own Done h = all
 turn_meets P setting state number current all there is own (Waits by) h = all

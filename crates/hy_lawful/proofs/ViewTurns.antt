@@ -18,24 +18,29 @@ use Rattle.hy_bound.specs.Predicate.{truth_of}
 use Rattle.hy_bound.specs.Records.{shape_of}
 use Rattle.hy_meaning.specs.Statement.{answer_of, grouped}
 use Rattle.hy_stamp.specs.declared.Label.{Label}
-use Rattle.hy_render.specs.declared.Ending.TheVariants as ways
+use Rattle.hy_render.specs.declared.Ending.{Ending}
+use Rattle.hy_render.specs.declared.Ending.TheVariants.{Read, RolledBack}
 use Rattle.hy_machine.specs.declared.Setting.{Setting}
-use Rattle.hy_machine.specs.States.{State, Begun, Cause, RolledBack, Phase, Working, Stamping, Undoing}
+use Rattle.hy_protocol.specs.declared.Phase.{Phase}
+use Rattle.hy_protocol.specs.declared.Phase.TheVariants.{Working, Stamping, Undoing}
+use Rattle.hy_machine.specs.States.{State, Begun}
 use Rattle.hy_machine.specs.Writes.{Write, wrote_nothing, written_chunks}
-use Rattle.hy_machine.specs.Turns.{Turn, Done, Waits, Begins, Visits, Answers, Enters, Ends}
+use Rattle.hy_protocol.specs.Turns.{Turn, Done, Waits, Begins, Visits, Answers, Enters, Ends}
 use Rattle.hy_machine.specs.Tables.{Cell, positions_in}
 use Rattle.hy_machine.specs.Holding.{opponent}
 use Rattle.hy_machine.specs.Positions.{item_at}
 use Rattle.hy_machine.specs.Sessions.{blocker, view}
 use Rattle.hy_machine.specs.Validation.{committed_of, first_hit}
 use Rattle.hy_machine.specs.Visits.{new_cell, judged, verdict, and_write, sweep, verdict_at, swept, sees_key, free_position, checks_of}
-use Rattle.hy_machine.specs.Turns.{rows_seen, read_turn, write_turn, check_turn, place_turn, insert_turn, statement_turn, ending_of, unless_blocked}
-use Rattle.hy_machine.specs.Turns.{undo_turn, stamp_turn, validated_turn, commit_turn, closing_turn, working_turn, phase_turn}
+use Rattle.hy_protocol.specs.Turns.{unless_blocked}
+use Rattle.hy_machine.specs.Turns.{rows_seen, read_turn, write_turn, check_turn, place_turn, insert_turn, statement_turn}
+use Rattle.hy_protocol.specs.Closing.{validated_turn}
+use Rattle.hy_machine.specs.Turns.{undo_turn, stamp_turn, commit_turn, closing_turn, working_turn, phase_turn}
 use Rattle.hy_lawful.specs.Rows.{Demand, StatementMeets}
 use Rattle.hy_lawful.proofs.ViewRows.{CellMeets, TablesMeet, WritesMeet, cell_meets}
 
 -- the rows that a turn of an open transaction writes meet the demand
-abbrev pub TurnMeets : Demand → Turn → Type 0
+abbrev pub TurnMeets : Demand → Turn Write → Type 0
 TurnMeets P Done = Unit {0}
 TurnMeets P (Waits by) = Unit {0}
 TurnMeets P Begins = ⊥
@@ -63,7 +68,7 @@ made_meets P table (kind.Set sets) row k h = by_row (assigned sets row) (k row h
     by_row (Some new) e = e
 made_meets P table kind.Delete row k h = tt
 
-abbrev VerdictMeets : Demand → ℕ → Result (Option Cell) Cause → Type 0
+abbrev VerdictMeets : Demand → ℕ → Result (Option Cell) Ending → Type 0
 VerdictMeets P table verdict = IfOk verdict (MadeMeets P table)
 
 judged_meets : (P : Demand) (table pos : ℕ) (other : Option Label) (made : Option Cell) → MadeMeets P table made
@@ -80,17 +85,17 @@ verdict_meets P kind pred table pos other (Some row) k h = elim (cases_Bool (tru
   | inr f ↦ rw f tt
 ]
 
-abbrev SweptMeets : Demand → Result (List Write) Cause → Type 0
+abbrev SweptMeets : Demand → Result (List Write) Ending → Type 0
 SweptMeets P result = IfOk result (WritesMeet P)
 
-and_meets : (P : Demand) (table pos : ℕ) (here : Result (Option Cell) Cause) (more : Result (List Write) Cause) → VerdictMeets P table here
+and_meets : (P : Demand) (table pos : ℕ) (here : Result (Option Cell) Ending) (more : Result (List Write) Ending) → VerdictMeets P table here
     → SweptMeets P more → SweptMeets P (and_write table pos here more)
 and_meets P table pos (Err cause) more h k = tt
 and_meets P table pos (Ok cell) (Err cause) h k = tt
 and_meets P table pos (Ok None) (Ok writes) h k = k
 and_meets P table pos (Ok (Some cell)) (Ok writes) h k = (h, k)
 
-sweep_meets : (P : Demand) (table : ℕ) (judge : ℕ → Result (Option Cell) Cause) (positions : List ℕ)
+sweep_meets : (P : Demand) (table : ℕ) (judge : ℕ → Result (Option Cell) Ending) (positions : List ℕ)
     → ((pos : ℕ) → VerdictMeets P table (judge pos)) → SweptMeets P (sweep table judge positions)
 sweep_meets P table judge [] h = tt
 sweep_meets P table judge (pos ∷ positions) h =
@@ -113,7 +118,7 @@ read_meets P setting begun visited tables statement gathered reply = elim (cases
 ]
 
 write_meets : (P : Demand) (setting : Setting) (begun : Begun) (visited count : ℕ) (statement : Bound) (kind : WriteKind)
-    (result : Result (List Write) Cause) → SweptMeets P result → TurnMeets P (write_turn setting begun visited count statement kind result)
+    (result : Result (List Write) Ending) → SweptMeets P result → TurnMeets P (write_turn setting begun visited count statement kind result)
 write_meets P setting begun visited count statement kind (Err cause) h = tt
 write_meets P setting begun visited count statement kind (Ok writes) h = elim (cases_Bool (ltb (suc visited) setting.chunks)) [
   | inl t ↦ rw t h
@@ -161,15 +166,15 @@ statement_meets P setting state number begun visited count (Delete table pred) f
 
 -- ---- what closes a transaction
 
-unless_meets : (P : Demand) (turn : Turn) (by : Option Label) → TurnMeets P turn → TurnMeets P (unless_blocked by turn)
+unless_meets : (P : Demand) (turn : Turn Write) (by : Option Label) → TurnMeets P turn → TurnMeets P (unless_blocked by turn)
 unless_meets P turn None h = h
 unless_meets P turn (Some by) h = tt
 
-undo_meets : (P : Demand) (setting : Setting) (state : State) (number : ℕ) (begun : Begun) (visited : ℕ) (cause : Cause)
+undo_meets : (P : Demand) (setting : Setting) (state : State) (number : ℕ) (begun : Begun) (visited : ℕ) (cause : Ending)
     → TurnMeets P (undo_turn setting state number begun visited cause)
 undo_meets P setting state number begun visited cause = elim (cases_Bool (ltb visited (length (written_chunks setting begun.own)))) [
   | inl t ↦ rw t tt
-  | inr f ↦ rw f (unless_meets P (Ends (ending_of cause)) (blocker state number) tt)
+  | inr f ↦ rw f (unless_meets P (Ends cause) (blocker state number) tt)
 ]
 
 stamp_meets : (P : Demand) (setting : Setting) (state : State) (begun : Begun) (visited : ℕ) → TurnMeets P (stamp_turn setting state begun visited)
@@ -178,13 +183,13 @@ stamp_meets P setting state begun visited = elim (cases_Bool (ltb visited (lengt
   | inr f ↦ rw f tt
 ]
 
-validated_meets : (P : Demand) (hit : Option Cause) → TurnMeets P (validated_turn hit)
+validated_meets : (P : Demand) (hit : Option Ending) → TurnMeets P (validated_turn hit)
 validated_meets P None = tt
 validated_meets P (Some cause) = tt
 
 commit_meets : (P : Demand) (setting : Setting) (state : State) (number : ℕ) (begun : Begun) → TurnMeets P (commit_turn setting state number begun)
 commit_meets P setting state number begun = unless_meets P
-    (cond (wrote_nothing begun.own) (Ends ways.Read) (validated_turn (first_hit begun.records (map committed_of (drop begun.prefix state.order)))))
+    (cond (wrote_nothing begun.own) (Ends Read) (validated_turn (first_hit begun.records (map committed_of (drop begun.prefix state.order)))))
     (blocker state number)
     (elim (cases_Bool (wrote_nothing begun.own)) [
       | inl t ↦ rw t tt

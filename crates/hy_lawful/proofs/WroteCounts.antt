@@ -10,8 +10,8 @@ use Rattle.hy_value.specs.declared.Value.{Value}
 use Rattle.hy_bound.specs.declared.WriteKind.{WriteKind}
 use Rattle.hy_bound.specs.Condition.{Condition}
 use Rattle.hy_render.specs.declared.Place.{Place}
+use Rattle.hy_render.specs.declared.Ending.{Ending}
 use Rattle.hy_machine.specs.Writes.{Write, with_write, with_writes, place_at, written}
-use Rattle.hy_machine.specs.States.{Cause}
 use Rattle.hy_machine.specs.Positions.{item_at, by_position, by_table}
 use Rattle.hy_machine.specs.Tables.{Cell, Own}
 use Rattle.hy_machine.specs.Visits.{verdict, write_of, sweep}
@@ -100,7 +100,7 @@ writes_kept test own (write ∷ all) h =
 
 -- ---- sweeps
 
-pub sweep_all : (P : Write → Type 0) (table : ℕ) (judge : ℕ → Result (Option Cell) Cause)
+pub sweep_all : (P : Write → Type 0) (table : ℕ) (judge : ℕ → Result (Option Cell) Ending)
     → ((pos : ℕ) (cell : Cell) → judge pos ≡ Ok (Some cell) → P (record { table = table; pos = pos; cell = cell }))
     → (positions : List ℕ) (all : List Write) → sweep table judge positions ≡ Ok all → AllByRecursion P all
 sweep_all P table judge f [] all e = subst (AllByRecursion P) (let same : [] ≡ all = cc in same) tt

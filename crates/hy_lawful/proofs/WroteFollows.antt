@@ -4,8 +4,8 @@ use Rattle.std.proofs.Common.{get_or, refl, ap, sym, ◌∙◌, subst, arith, in
 use Rattle.std.proofs.Math.ListN.{set}
 use Rattle.std.specs.List.{range_with_len}
 use Rattle.std.proofs.lemmas.Bool.{cases_lt}
+use Rattle.hy_render.specs.declared.Ending.{Ending}
 use Rattle.hy_machine.specs.Writes.{Write, with_write, with_writes}
-use Rattle.hy_machine.specs.States.{Cause}
 use Rattle.hy_machine.specs.Positions.{item_at}
 use Rattle.hy_machine.specs.Tables.{Cell, Own}
 use Rattle.hy_machine.specs.Visits.{write_of, sweep}
@@ -67,7 +67,7 @@ put_other (items ∷ own) (suc written) at cell (suc table) pos n = put_other ow
 
 -- ---- sweeps
 
-pub sweep_other : (of : ℕ) (judge : ℕ → Result (Option Cell) Cause) (first many : ℕ) (writes : List Write) (own : Own) (table pos : ℕ)
+pub sweep_other : (of : ℕ) (judge : ℕ → Result (Option Cell) Ending) (first many : ℕ) (writes : List Write) (own : Own) (table pos : ℕ)
     → sweep of judge (range_with_len first many) ≡ Ok writes → (of ≡ table → ⊥) → item_at (with_writes own writes) table pos ≡ item_at own table pos
 sweep_other of judge first zero writes own table pos e n =
     ap (λ (all : List Write). item_at (with_writes own all) table pos) (let same : writes ≡ [] = cc in same)
@@ -82,7 +82,7 @@ sweep_other of judge first (suc many) writes own table pos e n =
     by_cell None others f = f own
     by_cell (Some cell) others f = f _ ∙ put_other own of first cell table pos n
 
-pub sweep_above : (of : ℕ) (judge : ℕ → Result (Option Cell) Cause) (first many : ℕ) (writes : List Write) (own : Own) (table pos : ℕ)
+pub sweep_above : (of : ℕ) (judge : ℕ → Result (Option Cell) Ending) (first many : ℕ) (writes : List Write) (own : Own) (table pos : ℕ)
     → sweep of judge (range_with_len first many) ≡ Ok writes → pos < first → item_at (with_writes own writes) table pos ≡ item_at own table pos
 sweep_above of judge first zero writes own table pos e below =
     ap (λ (all : List Write). item_at (with_writes own all) table pos) (let same : writes ≡ [] = cc in same)
@@ -102,12 +102,12 @@ abbrev pub laid : Option Cell → Option Cell → Option Cell
 laid None item = item
 laid (Some cell) item = Some cell
 
-pub record SweptAt (judged : Result (Option Cell) Cause) (before after : Option Cell) : Type 0 where
+pub record SweptAt (judged : Result (Option Cell) Ending) (before after : Option Cell) : Type 0 where
   pub cell : Option Cell
   pub here : judged ≡ Ok cell
   pub item : after ≡ laid cell before
 
-pub sweep_at : (table : ℕ) (judge : ℕ → Result (Option Cell) Cause) (first many : ℕ) (writes : List Write) (own : Own) (pos : ℕ)
+pub sweep_at : (table : ℕ) (judge : ℕ → Result (Option Cell) Ending) (first many : ℕ) (writes : List Write) (own : Own) (pos : ℕ)
     → sweep table judge (range_with_len first many) ≡ Ok writes → Room own table pos → first ≤ pos → pos < first + many
     → SweptAt (judge pos) (item_at own table pos) (item_at (with_writes own writes) table pos)
 sweep_at table judge first zero writes own pos e room from below = absurd (omega arith)

@@ -17,9 +17,9 @@ use Rattle.hy_bound.specs.declared.WriteKind.TheVariants as kind
 use Rattle.hy_bound.specs.Condition.{Condition}
 use Rattle.hy_bound.specs.Predicate.{truth_of, truth_at}
 use Rattle.hy_bound.specs.Assignment.{assigned}
+use Rattle.hy_render.specs.declared.Ending.{Ending}
 use Rattle.hy_machine.specs.declared.Setting.{Setting}
 use Rattle.hy_machine.specs.Writes.{Write, with_write, with_writes}
-use Rattle.hy_machine.specs.States.{Cause}
 use Rattle.hy_machine.specs.Positions.{item_at}
 use Rattle.hy_machine.specs.Tables.{Cell, Tables, Own, capacity, covered, over}
 use Rattle.hy_machine.specs.Visits.{new_cell, judged, verdict}
@@ -196,12 +196,12 @@ insert_follows setting tables own of new records (Some at) first table pos row c
     ]) s)
 
 -- what an UPDATE or a DELETE that is answered wrote
-pub record IsChanged (own : Own) (result : Result (List Write) Cause) (first : One) : Type 0 where
+pub record IsChanged (own : Own) (result : Result (List Write) Ending) (first : One) : Type 0 where
   pub all : List Write
   pub swept : result ≡ Ok all
   pub own_is : with_writes own all ≡ first.own
 
-pub changed_so : (own : Own) (kind : WriteKind) (records : List Record) (result : Result (List Write) Cause) (first : One)
+pub changed_so : (own : Own) (kind : WriteKind) (records : List Record) (result : Result (List Write) Ending) (first : One)
     → changed_by own kind records result ≡ Some first → IsChanged own result first
 changed_so own kind records (Err cause) first e = absurd cc
 changed_so own kind records (Ok all) first e =

@@ -8,10 +8,12 @@ use Rattle.hy_bound.specs.declared.Txn.{Txn}
 use Rattle.hy_bound.specs.declared.Bound.{Bound}
 use Rattle.hy_render.specs.declared.Ending.{Ending}
 use Rattle.hy_machine.specs.declared.Setting.{Setting}
-use Rattle.hy_machine.specs.States.{State, Session, Open, Finished, Working, Stamping}
+use Rattle.hy_protocol.specs.declared.Phase.TheVariants.{Working, Stamping}
+use Rattle.hy_machine.specs.States.{State, Session, Open, Finished}
 use Rattle.hy_machine.specs.Tables.{Entry, Tables}
-use Rattle.hy_machine.specs.Turns.{Turn, Done, Waits, Begins, Visits, Answers, Enters, Ends, unless_blocked, session_turn, phase_turn}
-use Rattle.hy_machine.specs.Writes.{with_writes}
+use Rattle.hy_protocol.specs.Turns.{Turn, Done, Waits, Begins, Visits, Answers, Enters, Ends, unless_blocked}
+use Rattle.hy_machine.specs.Turns.{session_turn, phase_turn}
+use Rattle.hy_machine.specs.Writes.{Write, with_writes}
 use Rattle.hy_machine.specs.Sessions.{session_at, txn_at, blocker, entry_of}
 use Rattle.hy_machine.specs.Outcomes.{statements_in}
 use Rattle.hy_machine.specs.Steps.{with_session, beginning, after_visit, after_answer, done_with, order_with, after_turn, step_of}
@@ -129,7 +131,7 @@ ends setting state number current o ending wrote =
     (λ other apart. o.all other)
 
 -- a turn of an open transaction
-turn_wrote : (setting : Setting) (state : State) (number : ℕ) (current : Open) (o : IsWriting setting state number current) (turn : Turn)
+turn_wrote : (setting : Setting) (state : State) (number : ℕ) (current : Open) (o : IsWriting setting state number current) (turn : Turn Write)
     → WroteTurn setting (tables_at setting state.order current.begun.prefix) (statements_now setting state number) current.begun o.run.given turn
     → AllWrote setting (after_turn setting state number turn).0
 turn_wrote setting state number current o Done h = o.all

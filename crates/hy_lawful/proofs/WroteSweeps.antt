@@ -18,19 +18,23 @@ use Rattle.hy_bound.specs.Condition.{Condition}
 use Rattle.hy_bound.specs.Predicate.{truth_of}
 use Rattle.hy_bound.specs.Records.{shape_of}
 use Rattle.hy_render.specs.declared.Ending.{Ending}
-use Rattle.hy_render.specs.declared.Ending.TheVariants as ways
+use Rattle.hy_render.specs.declared.Ending.TheVariants.{Committed, Read, RolledBack, Conflict, Invalid, Range, Full}
 use Rattle.hy_machine.specs.declared.Setting.{Setting}
-use Rattle.hy_machine.specs.States.{State, Begun, Cause, RolledBack, Conflict, Invalid, Range, Full, Phase, Working, Stamping, Undoing}
+use Rattle.hy_protocol.specs.declared.Phase.{Phase}
+use Rattle.hy_protocol.specs.declared.Phase.TheVariants.{Working, Stamping, Undoing}
+use Rattle.hy_machine.specs.States.{State, Begun}
 use Rattle.hy_machine.specs.Tables.{Entry, Cell, Tables, over}
 use Rattle.hy_machine.specs.Writes.{Write, with_writes, wrote_nothing, written_chunks}
-use Rattle.hy_machine.specs.Turns.{Turn, Done, Waits, Begins, Visits, Answers, Enters, Ends}
+use Rattle.hy_protocol.specs.Turns.{Turn, Done, Waits, Begins, Visits, Answers, Enters, Ends}
 use Rattle.hy_machine.specs.Positions.{item_at}
 use Rattle.hy_machine.specs.Sessions.{snapshot, view, blocker}
 use Rattle.hy_machine.specs.Holding.{opponent}
 use Rattle.hy_machine.specs.Validation.{committed_of, first_hit}
 use Rattle.hy_machine.specs.Visits.{new_cell, judged, verdict, verdict_at, and_write, sweep, swept, sees_key, free_position, checks_of}
-use Rattle.hy_machine.specs.Turns.{read_turn, write_turn, check_turn, place_turn, statement_turn, ending_of, unless_blocked}
-use Rattle.hy_machine.specs.Turns.{undo_turn, stamp_turn, validated_turn, commit_turn, closing_turn, working_turn, phase_turn, rows_seen}
+use Rattle.hy_protocol.specs.Turns.{unless_blocked}
+use Rattle.hy_machine.specs.Turns.{read_turn, write_turn, check_turn, place_turn, statement_turn}
+use Rattle.hy_protocol.specs.Closing.{validated_turn}
+use Rattle.hy_machine.specs.Turns.{undo_turn, stamp_turn, commit_turn, closing_turn, working_turn, phase_turn, rows_seen}
 use Rattle.hy_meaning.specs.Statement.{answer_of, grouped}
 use Rattle.hy_replay.specs.Ran.{Ran, writes_at}
 use Rattle.hy_lawful.proofs.Refusals.{first_hit_is}
@@ -56,22 +60,22 @@ pub record HadSwept (setting : Setting) (tables : Tables) (statements : List Bou
 
 -- what a transaction had written that ended so
 abbrev pub HadWritten : Setting → Tables → List Bound → Begun → Ran → Ending → Type 0
-HadWritten setting tables statements begun given (ways.Committed rank) = given.own ≡ begun.own
-HadWritten setting tables statements begun given ways.Read = given.own ≡ begun.own
-HadWritten setting tables statements begun given ways.RolledBack = given.own ≡ begun.own
-HadWritten setting tables statements begun given (ways.Conflict table pos other) = HadSwept setting tables statements begun given table pos
-HadWritten setting tables statements begun given (ways.Invalid table pos other statement) = given.own ≡ begun.own
-HadWritten setting tables statements begun given (ways.Range table pos) = HadSwept setting tables statements begun given table pos
-HadWritten setting tables statements begun given (ways.Full table) = given.own ≡ begun.own
+HadWritten setting tables statements begun given (Committed rank) = given.own ≡ begun.own
+HadWritten setting tables statements begun given Read = given.own ≡ begun.own
+HadWritten setting tables statements begun given RolledBack = given.own ≡ begun.own
+HadWritten setting tables statements begun given (Conflict table pos other) = HadSwept setting tables statements begun given table pos
+HadWritten setting tables statements begun given (Invalid table pos other statement) = given.own ≡ begun.own
+HadWritten setting tables statements begun given (Range table pos) = HadSwept setting tables statements begun given table pos
+HadWritten setting tables statements begun given (Full table) = given.own ≡ begun.own
 
 -- what one has written that is being undone
 abbrev pub WrotePhase : Setting → Tables → List Bound → Begun → Ran → Phase → Type 0
 WrotePhase setting tables statements begun given (Working visited count) = Unit {0}
 WrotePhase setting tables statements begun given (Stamping visited) = Unit {0}
-WrotePhase setting tables statements begun given (Undoing visited cause) = HadWritten setting tables statements begun given (ending_of cause)
+WrotePhase setting tables statements begun given (Undoing visited cause) = HadWritten setting tables statements begun given cause
 
 -- what a turn leaves of it
-abbrev pub WroteTurn : Setting → Tables → List Bound → Begun → Ran → Turn → Type 0
+abbrev pub WroteTurn : Setting → Tables → List Bound → Begun → Ran → Turn Write → Type 0
 WroteTurn setting tables statements begun given Done = Unit {0}
 WroteTurn setting tables statements begun given (Waits by) = Unit {0}
 WroteTurn setting tables statements begun given Begins = ⊥
@@ -84,20 +88,22 @@ WroteTurn setting tables statements begun given (Ends ending) = HadWritten setti
 -- ---- a sweep that is refused
 
 -- the position at which one is refused
-abbrev IsRefusedAt : ℕ → ℕ → Cause → Type 0
+abbrev IsRefusedAt : ℕ → ℕ → Ending → Type 0
+IsRefusedAt table pos (Committed rank) = ⊥
+IsRefusedAt table pos Read = ⊥
 IsRefusedAt table pos RolledBack = ⊥
 IsRefusedAt table pos (Conflict of at other) = (of ≡ table) × (at ≡ pos)
 IsRefusedAt table pos (Invalid of at other statement) = ⊥
 IsRefusedAt table pos (Range of at) = (of ≡ table) × (at ≡ pos)
 IsRefusedAt table pos (Full of) = ⊥
 
-record RefusedWithin (table first end : ℕ) (cause : Cause) : Type 0 where
+record RefusedWithin (table first end : ℕ) (cause : Ending) : Type 0 where
   pos : ℕ
   from : first ≤ pos
   below : pos < end
   is : IsRefusedAt table pos cause
 
-judged_refused : (table pos : ℕ) (opponent : Option Label) (new : Option Cell) (cause : Cause) → judged table pos opponent new ≡ Err cause
+judged_refused : (table pos : ℕ) (opponent : Option Label) (new : Option Cell) (cause : Ending) → judged table pos opponent new ≡ Err cause
     → IsRefusedAt table pos cause
 judged_refused table pos (Some other) new cause e =
     subst (IsRefusedAt table pos) (let same : Conflict table pos other ≡ cause = cc in same) (refl, refl)
@@ -105,7 +111,7 @@ judged_refused table pos None None cause e =
     subst (IsRefusedAt table pos) (let same : Range table pos ≡ cause = cc in same) (refl, refl)
 judged_refused table pos None (Some cell) cause e = absurd cc
 
-verdict_refused : (kind : WriteKind) (pred : Condition) (table pos : ℕ) (opponent : Option Label) (cell : Cell) (cause : Cause)
+verdict_refused : (kind : WriteKind) (pred : Condition) (table pos : ℕ) (opponent : Option Label) (cell : Cell) (cause : Ending)
     → verdict kind pred table pos opponent cell ≡ Err cause → IsRefusedAt table pos cause
 verdict_refused kind pred table pos opponent None cause e = absurd cc
 verdict_refused kind pred table pos opponent (Some row) cause e = by_truth (truth_of pred row) e
@@ -114,14 +120,14 @@ verdict_refused kind pred table pos opponent (Some row) cause e = by_truth (trut
     by_truth true h = judged_refused table pos opponent (new_cell kind row) cause h
     by_truth false h = absurd cc
 
-sweep_refused : (table : ℕ) (judge : ℕ → Result (Option Cell) Cause) (first many end : ℕ) (cause : Cause) → first + many ≡ end
-    → ((pos : ℕ) (one : Cause) → judge pos ≡ Err one → IsRefusedAt table pos one)
+sweep_refused : (table : ℕ) (judge : ℕ → Result (Option Cell) Ending) (first many end : ℕ) (cause : Ending) → first + many ≡ end
+    → ((pos : ℕ) (one : Ending) → judge pos ≡ Err one → IsRefusedAt table pos one)
     → sweep table judge (range_with_len first many) ≡ Err cause → RefusedWithin table first end cause
 sweep_refused table judge first zero end cause l h e = absurd cc
 sweep_refused table judge first (suc many) end cause l h e =
     by_first (judge first) refl (sweep table judge (range_with_len (first + 1) many)) (sweep_refused table judge (first + 1) many end cause (omega arith) h) e
   where
-    by_first : (here : Result (Option Cell) Cause) → judge first ≡ here → (rest : Result (List Write) Cause)
+    by_first : (here : Result (Option Cell) Ending) → judge first ≡ here → (rest : Result (List Write) Ending)
         → (rest ≡ Err cause → RefusedWithin table (first + 1) end cause)
         → and_write table first here rest ≡ Err cause → RefusedWithin table first end cause
     by_first (Err one) f rest r e = record {
@@ -137,9 +143,11 @@ sweep_refused table judge first (suc many) end cause l h e =
 
 -- ---- turns of statements
 
-refused_so : (setting : Setting) (tables : Tables) (statements : List Bound) (begun : Begun) (given : Ran) (table pos : ℕ) (cause : Cause)
+refused_so : (setting : Setting) (tables : Tables) (statements : List Bound) (begun : Begun) (given : Ran) (table pos : ℕ) (cause : Ending)
     → IsRefusedAt table pos cause → HadSwept setting tables statements begun given table pos
-    → HadWritten setting tables statements begun given (ending_of cause)
+    → HadWritten setting tables statements begun given cause
+refused_so setting tables statements begun given table pos (Committed rank) is s = absurd is
+refused_so setting tables statements begun given table pos Read is s = absurd is
 refused_so setting tables statements begun given table pos RolledBack is s = absurd is
 refused_so setting tables statements begun given table pos (Conflict of at other) is s =
     subst (λ (n : ℕ). HadSwept setting tables statements begun given n at) (sym is.0)
@@ -154,7 +162,7 @@ write_wrote : (setting : Setting) (state : State) (statements : List Bound) (num
     (statement : Bound) (kind : WriteKind) (pred : Condition) (table : ℕ)
     → slice_get statements (length begun.replies) ≡ Some (change_of kind pred table)
     → HasSwept setting (snapshot setting state begun.prefix) begun given visited count kind pred table
-    → (writes : Result (List Write) Cause) → swept setting state number begun kind pred table visited ≡ writes
+    → (writes : Result (List Write) Ending) → swept setting state number begun kind pred table visited ≡ writes
     → WroteTurn setting (snapshot setting state begun.prefix) statements begun given (write_turn setting begun visited count statement kind writes)
 write_wrote setting state statements number begun given visited count statement kind pred table n s (Err cause) e =
     let at : RefusedWithin table (visited * setting.rows) (visited * setting.rows + setting.rows) cause =
@@ -231,18 +239,18 @@ statement_wrote setting state statements number begun given visited count (Delet
 
 -- ---- what closes a transaction
 
-unless_wrote : (setting : Setting) (tables : Tables) (statements : List Bound) (begun : Begun) (given : Ran) (turn : Turn) (by : Option Label)
+unless_wrote : (setting : Setting) (tables : Tables) (statements : List Bound) (begun : Begun) (given : Ran) (turn : Turn Write) (by : Option Label)
     → WroteTurn setting tables statements begun given turn → WroteTurn setting tables statements begun given (unless_blocked by turn)
 unless_wrote setting tables statements begun given turn None h = h
 unless_wrote setting tables statements begun given turn (Some by) h = tt
 
 undo_wrote : (setting : Setting) (state : State) (tables : Tables) (statements : List Bound) (number : ℕ) (begun : Begun) (given : Ran) (visited : ℕ)
-    (cause : Cause) → HadWritten setting tables statements begun given (ending_of cause)
+    (cause : Ending) → HadWritten setting tables statements begun given cause
     → WroteTurn setting tables statements begun given (undo_turn setting state number begun visited cause)
 undo_wrote setting state tables statements number begun given visited cause h =
     elim (cases_Bool (ltb visited (length (written_chunks setting begun.own)))) [
       | inl t ↦ rw t h
-      | inr f ↦ rw f (unless_wrote setting tables statements begun given (Ends (ending_of cause)) (blocker state number) h)
+      | inr f ↦ rw f (unless_wrote setting tables statements begun given (Ends cause) (blocker state number) h)
     ]
 
 stamp_wrote : (setting : Setting) (state : State) (tables : Tables) (statements : List Bound) (begun : Begun) (given : Ran) (visited : ℕ)
@@ -257,19 +265,19 @@ all_numbered [] = tt
 all_numbered (of ∷ others) = (tt, all_numbered others)
 
 -- whoever is refused by validation had written what its statements come to
-hit_wrote : (setting : Setting) (tables : Tables) (statements : List Bound) (begun : Begun) (given : Ran) (order : List Entry) (hit : Option Cause)
+hit_wrote : (setting : Setting) (tables : Tables) (statements : List Bound) (begun : Begun) (given : Ran) (order : List Entry) (hit : Option Ending)
     → given.own ≡ begun.own → first_hit begun.records (map committed_of order) ≡ hit
     → WroteTurn setting tables statements begun given (validated_turn hit)
 hit_wrote setting tables statements begun given order None same e = tt
 hit_wrote setting tables statements begun given order (Some cause) same e =
-    first_hit_is (λ (one : Cause). HadWritten setting tables statements begun given (ending_of one)) (λ (n : ℕ). Unit {0}) begun.records order cause
+    first_hit_is (λ (one : Ending). HadWritten setting tables statements begun given one) (λ (n : ℕ). Unit {0}) begun.records order cause
     (all_numbered begun.records) (λ i label at table pos statement named. same) e
 
 commit_wrote : (setting : Setting) (state : State) (tables : Tables) (statements : List Bound) (number : ℕ) (begun : Begun) (given : Ran)
     → given.own ≡ begun.own → WroteTurn setting tables statements begun given (commit_turn setting state number begun)
 commit_wrote setting state tables statements number begun given same =
     unless_wrote setting tables statements begun given
-    (cond (wrote_nothing begun.own) (Ends ways.Read) (validated_turn (first_hit begun.records (map committed_of (drop begun.prefix state.order)))))
+    (cond (wrote_nothing begun.own) (Ends Read) (validated_turn (first_hit begun.records (map committed_of (drop begun.prefix state.order)))))
     (blocker state number)
     (elim (cases_Bool (wrote_nothing begun.own)) [
       | inl t ↦ rw t same

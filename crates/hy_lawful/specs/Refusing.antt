@@ -19,7 +19,6 @@ use Rattle.hy_render.specs.declared.Committed.{Committed as Entry}
 use Rattle.hy_render.specs.declared.Outcome.{Outcome}
 use Rattle.hy_stamp.specs.declared.Label.{Label}
 use Rattle.hy_machine.specs.declared.Setting.{Setting}
-use Rattle.hy_machine.specs.States as cause
 use Rattle.hy_machine.specs.Positions.{item_at}
 use Rattle.hy_machine.specs.Tables.{Cell, Tables}
 use Rattle.hy_machine.specs.Turns.{rows_seen}
@@ -89,7 +88,7 @@ IsLeftAloneTo outcome txn other = IsSomeAnd (committed_at other.ending)
 -- invalid: the first hit of what the transaction logs alone by the entries from its start on is this one; that entry came
 -- before it ended, and up to it none from the start on changed what the transaction wrote
 pub record IsInvalidAt (setting : Setting) (outcome : Outcome) (txn : TxnOutcome) (table pos : ℕ) (other : Label) (statement : ℕ) : Type 0 where
-  pub hit : first_hit (logged_by setting outcome.order txn) (drop txn.start outcome.order) ≡ Some (cause.Invalid table pos other statement)
+  pub hit : first_hit (logged_by setting outcome.order txn) (drop txn.start outcome.order) ≡ Some (Invalid table pos other statement)
   pub met : IsSomeAnd (outcome_at outcome other) (IsMetBy outcome txn)
   pub left_alone : IsSomeAnd (outcome_at outcome other) (IsLeftAloneTo outcome txn)
 

@@ -6,9 +6,13 @@ use Rattle.std.proofs.lemmas.Bool.{cases_Bool, cases_lt, cases_eq, eq-eqb, and_f
 use Rattle.std.proofs.lemmas.List.{length-map, get_or-set_same, get_or_past, set-get_or}
 use Rattle.hy_bound.specs.declared.Txn.{Txn}
 use Rattle.hy_stamp.specs.declared.Label.{Label}
+use Rattle.hy_machine.specs.Writes.{Write}
 use Rattle.hy_machine.specs.declared.Setting.{Setting}
-use Rattle.hy_machine.specs.States.{State, Session, Finished, Open, Phase, Stamping}
-use Rattle.hy_machine.specs.Turns.{Turn, Done, Waits, Begins, Visits, Answers, Enters, Ends, turn, phase_turn, session_turn, unless_blocked}
+use Rattle.hy_protocol.specs.declared.Phase.{Phase}
+use Rattle.hy_protocol.specs.declared.Phase.TheVariants.{Stamping}
+use Rattle.hy_machine.specs.States.{State, Session, Finished, Open}
+use Rattle.hy_protocol.specs.Turns.{Turn, Done, Waits, Begins, Visits, Answers, Enters, Ends, unless_blocked}
+use Rattle.hy_machine.specs.Turns.{turn, phase_turn, session_turn}
 use Rattle.hy_machine.specs.Sessions.{fresh, session_at, program_of, txn_at, has_ended, blocker_of, blocker}
 use Rattle.hy_machine.specs.Steps.{after_turn, step_of, with_open, beginning, after_visit, after_answer, with_changed, with_ended}
 use Rattle.hy_machine.specs.Measures.{later_left, txns_left, steps_left, all_left, measure_of}
@@ -20,7 +24,7 @@ use Rattle.hy_machine.proofs.Reached.{IsAfter, whole_is_after, items_after, roun
 -- ---- what one turn does to the steps that are left
 
 -- a turn that leaves the state as it is
-abbrev pub IsIdle : Turn → Type 0
+abbrev pub IsIdle : Turn Write → Type 0
 IsIdle Done = Unit {0}
 IsIdle (Waits by) = Unit {0}
 IsIdle Begins = ⊥
@@ -29,7 +33,7 @@ IsIdle (Answers writes reply took records) = ⊥
 IsIdle Enters = ⊥
 IsIdle (Ends how) = ⊥
 
-idle_stays : (setting : Setting) (state : State) (number : ℕ) (turn : Turn) → IsIdle turn
+idle_stays : (setting : Setting) (state : State) (number : ℕ) (turn : Turn Write) → IsIdle turn
     → ((after_turn setting state number turn).0 ≡ state) × (is_moved (after_turn setting state number turn).1 ≡ false)
 idle_stays setting state number Done i = (refl, refl)
 idle_stays setting state number (Waits by) i = (refl, refl)
@@ -39,7 +43,7 @@ idle_stays setting state number (Answers writes reply took records) i = absurd i
 idle_stays setting state number Enters i = absurd i
 idle_stays setting state number (Ends how) i = absurd i
 
-idle_or_acting : (by : Option Label) (phase : Phase) (turn : Turn) → Follows by phase turn → IsIdle turn ⊎ IsActing turn
+idle_or_acting : (by : Option Label) (phase : Phase) (turn : Turn Write) → Follows by phase turn → IsIdle turn ⊎ IsActing turn
 idle_or_acting by phase Done f = absurd f
 idle_or_acting by phase (Waits other) f = inl tt
 idle_or_acting by phase Begins f = absurd f
@@ -49,7 +53,7 @@ idle_or_acting by phase Enters f = inr tt
 idle_or_acting by phase (Ends how) f = inr tt
 
 -- the steps that a session has left after a turn
-abbrev left_then : Setting → State → ℕ → Turn → ℕ
+abbrev left_then : Setting → State → ℕ → Turn Write → ℕ
 left_then setting state number turn = steps_left setting number (session_at (after_turn setting state number turn).0 number)
 
 -- the steps that a session with this open transaction has left, so many having ended
@@ -110,7 +114,7 @@ all_left_set setting first (suc i) number (one ∷ sessions) session e l =
     omega (arith, all_left_set setting (suc first) i number sessions session (omega arith) (omega arith))
 
 -- a turn puts one session in the place of another one
-put_by : (setting : Setting) (state : State) (number : ℕ) (turn : Turn)
+put_by : (setting : Setting) (state : State) (number : ℕ) (turn : Turn Write)
     → (session : Session) × ((after_turn setting state number turn).0.sessions ≡ set state.sessions number session)
 put_by setting state number Done = (session_at state number, sym (set-get_or state.sessions number fresh))
 put_by setting state number (Waits by) = (session_at state number, sym (set-get_or state.sessions number fresh))
@@ -232,7 +236,7 @@ fits_most : (now : Option Open) (done most : ℕ) → Fits now done most → don
 fits_most None done most f = f
 fits_most (Some current) done most f = omega (arith, f)
 
-waits_why : (by : Option Label) (phase : Phase) (turn : Turn) → Follows by phase turn → IsIdle turn → (by ≡ None → ⊥) × (is_stamping phase ≡ false)
+waits_why : (by : Option Label) (phase : Phase) (turn : Turn Write) → Follows by phase turn → IsIdle turn → (by ≡ None → ⊥) × (is_stamping phase ≡ false)
 waits_why by phase (Waits other) f i = ((λ e. absurd (cc (f.0, e))), f.1)
 waits_why by phase Done f i = absurd f
 waits_why by phase Begins f i = absurd i

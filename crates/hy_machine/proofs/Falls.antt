@@ -16,25 +16,30 @@ use Rattle.hy_bound.specs.Records.{shape_of}
 use Rattle.hy_meaning.specs.Statement.{answer_of, grouped}
 use Rattle.hy_value.specs.declared.Value.{Value}
 use Rattle.hy_stamp.specs.declared.Label.{Label}
-use Rattle.hy_render.specs.declared.Ending.TheVariants as ending
+use Rattle.hy_render.specs.declared.Ending.{Ending}
+use Rattle.hy_render.specs.declared.Ending.TheVariants.{Read, RolledBack}
 use Rattle.hy_machine.specs.declared.Setting.{Setting}
-use Rattle.hy_machine.specs.States.{State, Session, Finished, Open, Begun, Cause, RolledBack, Phase, Working, Stamping, Undoing}
+use Rattle.hy_protocol.specs.declared.Phase.{Phase}
+use Rattle.hy_protocol.specs.declared.Phase.TheVariants.{Working, Stamping, Undoing}
+use Rattle.hy_machine.specs.States.{State, Session, Finished, Open, Begun}
 use Rattle.hy_machine.specs.Writes.{Write, with_write, with_writes, chunks_in_table, chunks_from, written_chunks, has_written_in, wrote_nothing}
-use Rattle.hy_machine.specs.Turns.{Turn, Done, Waits, Begins, Visits, Answers, Enters, Ends}
+use Rattle.hy_protocol.specs.Turns.{Turn, Done, Waits, Begins, Visits, Answers, Enters, Ends}
 use Rattle.hy_machine.specs.Tables.{Own}
 use Rattle.hy_machine.specs.Sessions.{fresh, session_at, program_of, txn_at, blocker, view}
-use Rattle.hy_machine.specs.declared.Stepped.TheVariants.{Ended}
+use Rattle.hy_protocol.specs.declared.Progress.TheVariants.{Ended}
 use Rattle.hy_machine.specs.Runs.{is_moved, moves, whole_of}
 use Rattle.hy_machine.specs.Visits.{visits_of, checks_of, swept, sees_key, free_position}
 use Rattle.hy_machine.specs.Validation.{committed_of, first_hit}
-use Rattle.hy_machine.specs.Turns.{read_turn, write_turn, check_turn, place_turn, insert_turn, statement_turn, undo_turn, stamp_turn, validated_turn, commit_turn, closing_turn, working_turn, phase_turn, session_turn, unless_blocked, rows_seen, ending_of}
+use Rattle.hy_protocol.specs.Turns.{unless_blocked}
+use Rattle.hy_protocol.specs.Closing.{validated_turn}
+use Rattle.hy_machine.specs.Turns.{read_turn, write_turn, check_turn, place_turn, insert_turn, statement_turn, undo_turn, stamp_turn, commit_turn, closing_turn, working_turn, phase_turn, session_turn, rows_seen}
 use Rattle.hy_machine.specs.Steps.{with_session, after_turn, step_of, after_visit, after_answer, with_changed, with_ended}
 use Rattle.hy_machine.specs.Measures.{parts_of, open_left, later_left, txns_left, steps_left}
 
 -- ---- what a statement's turn may be
 
 -- it goes on in its statement, is refused, or answers
-abbrev pub Advances : ℕ → ℕ → Turn → Type 0
+abbrev pub Advances : ℕ → ℕ → Turn Write → Type 0
 Advances visited most Done = ⊥
 Advances visited most (Waits by) = ⊥
 Advances visited most Begins = ⊥
@@ -52,7 +57,7 @@ read_advances setting begun visited tables most statement gathered reply h = eli
   | inr f ↦ rw f tt
 ]
 
-write_advances : (setting : Setting) (begun : Begun) (visited count : ℕ) (statement : Bound) (kind : WriteKind) (writes : Result (List Write) Cause)
+write_advances : (setting : Setting) (begun : Begun) (visited count : ℕ) (statement : Bound) (kind : WriteKind) (writes : Result (List Write) Ending)
     → Advances visited setting.chunks (write_turn setting begun visited count statement kind writes)
 write_advances setting begun visited count statement kind (Err cause) = refl
 write_advances setting begun visited count statement kind (Ok writes) = elim (cases_Bool (ltb (suc visited) setting.chunks)) [
@@ -128,7 +133,7 @@ with_writes_length own (write ∷ writes) = with_writes_length (with_write own w
 -- ---- what is left after a turn of an open transaction
 
 -- the steps left of a session whose open transaction takes a turn, its script having these transactions behind it
-abbrev pub left_after : Setting → Txn → Begun → ℕ → Turn → ℕ
+abbrev pub left_after : Setting → Txn → Begun → ℕ → Turn Write → ℕ
 left_after setting txn begun rest Done = 0
 left_after setting txn begun rest (Waits by) = 0
 left_after setting txn begun rest Begins = 0
@@ -139,7 +144,7 @@ left_after setting txn begun rest Enters = open_left setting txn begun (Stamping
 left_after setting txn begun rest (Ends ending) = rest
 
 -- a turn that changes something
-abbrev pub IsActing : Turn → Type 0
+abbrev pub IsActing : Turn Write → Type 0
 IsActing Done = ⊥
 IsActing (Waits by) = ⊥
 IsActing Begins = ⊥
@@ -153,7 +158,7 @@ drop_at [] n x e = absurd (cc e)
 drop_at (y ∷ ys) zero x e = ap (λ z. z ∷ ys) (same_Some y x e)
 drop_at (y ∷ ys) (suc n) x e = drop_at ys n x e
 
-advance_falls : (setting : Setting) (txn : Txn) (begun : Begun) (visited count rest : ℕ) (statement : Bound) (turn : Turn) → slice_get txn.statements (length begun.replies) ≡ Some statement
+advance_falls : (setting : Setting) (txn : Txn) (begun : Begun) (visited count rest : ℕ) (statement : Bound) (turn : Turn Write) → slice_get txn.statements (length begun.replies) ≡ Some statement
     → Advances visited (visits_of setting statement) turn → left_after setting txn begun rest turn < open_left setting txn begun (Working visited count) + rest
 advance_falls setting txn begun visited count rest statement (Visits writes (Working next more)) e a =
     let left = drop_at txn.statements (length begun.replies) statement e in
@@ -171,7 +176,7 @@ advance_falls setting txn begun visited count rest statement (Visits writes (Sta
 advance_falls setting txn begun visited count rest statement Enters e a = absurd a
 advance_falls setting txn begun visited count rest statement (Ends how) e a = absurd a
 
-undo_falls : (setting : Setting) (state : State) (number : ℕ) (txn : Txn) (begun : Begun) (visited rest bound : ℕ) (cause : Cause) → suc (parts_of setting begun - visited) ≤ bound
+undo_falls : (setting : Setting) (state : State) (number : ℕ) (txn : Txn) (begun : Begun) (visited rest bound : ℕ) (cause : Ending) → suc (parts_of setting begun - visited) ≤ bound
     → IsActing (undo_turn setting state number begun visited cause) → left_after setting txn begun rest (undo_turn setting state number begun visited cause) < bound + rest
 undo_falls setting state number txn begun visited rest bound cause h a = elim (cases_Bool (ltb visited (length (written_chunks setting begun.own)))) [
   | inl t ↦
@@ -180,7 +185,7 @@ undo_falls setting state number txn begun visited rest bound cause h a = elim (c
   | inr f ↦ rw f (ended (blocker state number) (rw f at a))
 ]
   where
-    ended : (by : Option Label) → IsActing (unless_blocked by (Ends (ending_of cause))) → left_after setting txn begun rest (unless_blocked by (Ends (ending_of cause))) < bound + rest
+    ended : (by : Option Label) → IsActing (unless_blocked by (Ends cause)) → left_after setting txn begun rest (unless_blocked by (Ends cause)) < bound + rest
     ended None a = omega (arith, h)
     ended (Some by) a = absurd a
 
@@ -197,16 +202,16 @@ commit_falls : (setting : Setting) (state : State) (number : ℕ) (txn : Txn) (b
     → IsActing (commit_turn setting state number begun) → left_after setting txn begun rest (commit_turn setting state number begun) < bound + rest
 commit_falls setting state number txn begun rest bound h = by_blocker (blocker state number)
   where
-    validated : (cause : Option Cause) → left_after setting txn begun rest (validated_turn cause) < bound + rest
+    validated : (cause : Option Ending) → left_after setting txn begun rest (validated_turn cause) < bound + rest
     validated None = omega (arith, h)
     validated (Some cause) = omega (arith, h)
 
-    closed : (nothing : Bool) → left_after setting txn begun rest (cond nothing (Ends ending.Read) (validated_turn (first_hit begun.records (map committed_of (drop begun.prefix state.order))))) < bound + rest
+    closed : (nothing : Bool) → left_after setting txn begun rest (cond nothing (Ends Read) (validated_turn (first_hit begun.records (map committed_of (drop begun.prefix state.order))))) < bound + rest
     closed true = omega (arith, h)
     closed false = validated (first_hit begun.records (map committed_of (drop begun.prefix state.order)))
 
-    by_blocker : (by : Option Label) → IsActing (unless_blocked by (cond (wrote_nothing begun.own) (Ends ending.Read) (validated_turn (first_hit begun.records (map committed_of (drop begun.prefix state.order))))))
-        → left_after setting txn begun rest (unless_blocked by (cond (wrote_nothing begun.own) (Ends ending.Read) (validated_turn (first_hit begun.records (map committed_of (drop begun.prefix state.order)))))) < bound + rest
+    by_blocker : (by : Option Label) → IsActing (unless_blocked by (cond (wrote_nothing begun.own) (Ends Read) (validated_turn (first_hit begun.records (map committed_of (drop begun.prefix state.order))))))
+        → left_after setting txn begun rest (unless_blocked by (cond (wrote_nothing begun.own) (Ends Read) (validated_turn (first_hit begun.records (map committed_of (drop begun.prefix state.order)))))) < bound + rest
     by_blocker None a = closed (wrote_nothing begun.own)
     by_blocker (Some by) a = absurd a
 
@@ -244,7 +249,7 @@ none_open setting (txn ∷ txns) = refl
 pub session_set : (state : State) (number : ℕ) (session : Session) → number < length state.sessions → session_at (with_session state number session) number ≡ session
 session_set state number session l = get_or-set_same state.sessions number session fresh l
 
-pub left_is : (setting : Setting) (state : State) (number : ℕ) (done : List Finished) (current : Open) (txn : Txn) (txns : List Txn) (turn : Turn) → number < length state.sessions
+pub left_is : (setting : Setting) (state : State) (number : ℕ) (done : List Finished) (current : Open) (txn : Txn) (txns : List Txn) (turn : Turn Write) → number < length state.sessions
     → session_at state number ≡ record { done = done; now = Some current } → drop (length done) (program_of setting number) ≡ txn ∷ txns → IsActing turn
     → steps_left setting number (session_at (after_turn setting state number turn).0 number) ≡ left_after setting txn current.begun (later_left setting txns) turn
 left_is setting state number done current txn txns (Visits writes phase) l s d a =
@@ -264,7 +269,7 @@ left_is setting state number done current txn txns Done l s d a = absurd a
 left_is setting state number done current txn txns (Waits by) l s d a = absurd a
 left_is setting state number done current txn txns Begins l s d a = absurd a
 
-moved_acts : (setting : Setting) (state : State) (number : ℕ) (turn : Turn) → is_moved (after_turn setting state number turn).1 ≡ true → IsActing turn
+moved_acts : (setting : Setting) (state : State) (number : ℕ) (turn : Turn Write) → is_moved (after_turn setting state number turn).1 ≡ true → IsActing turn
 moved_acts setting state number Done e = absurd (cc e)
 moved_acts setting state number (Waits by) e = absurd (cc e)
 moved_acts setting state number Begins e = absurd (cc e)

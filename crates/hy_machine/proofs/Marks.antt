@@ -8,15 +8,20 @@ use Rattle.std.proofs.lemmas.Option.{slice_get_within}
 use Rattle.hy_bound.specs.declared.Txn.{Txn}
 use Rattle.hy_bound.specs.declared.Bound.{Bound}
 use Rattle.hy_stamp.specs.declared.Label.{Label}
-use Rattle.hy_render.specs.declared.Ending.TheVariants as ending
+use Rattle.hy_render.specs.declared.Ending.{Ending}
+use Rattle.hy_render.specs.declared.Ending.TheVariants.{Read, RolledBack}
 use Rattle.hy_machine.specs.declared.Setting.{Setting}
-use Rattle.hy_machine.specs.States.{State, Session, Finished, Open, Begun, Cause, RolledBack, Phase, Working, Stamping, Undoing}
-use Rattle.hy_machine.specs.Turns.{Turn, Done, Waits, Begins, Visits, Answers, Enters, Ends}
-use Rattle.hy_machine.specs.Writes.{written_chunks, wrote_nothing}
+use Rattle.hy_protocol.specs.declared.Phase.{Phase}
+use Rattle.hy_protocol.specs.declared.Phase.TheVariants.{Working, Stamping, Undoing}
+use Rattle.hy_machine.specs.States.{State, Session, Finished, Open, Begun}
+use Rattle.hy_protocol.specs.Turns.{Turn, Done, Waits, Begins, Visits, Answers, Enters, Ends}
+use Rattle.hy_machine.specs.Writes.{Write, written_chunks, wrote_nothing}
 use Rattle.hy_machine.specs.Sessions.{fresh, session_at, program_of, txn_at, blocker_of, blocker}
 use Rattle.hy_machine.specs.Validation.{committed_of, first_hit}
 use Rattle.hy_machine.specs.Visits.{visits_of}
-use Rattle.hy_machine.specs.Turns.{statement_turn, undo_turn, stamp_turn, validated_turn, commit_turn, closing_turn, working_turn, phase_turn, session_turn, unless_blocked, ending_of}
+use Rattle.hy_protocol.specs.Turns.{unless_blocked}
+use Rattle.hy_protocol.specs.Closing.{validated_turn}
+use Rattle.hy_machine.specs.Turns.{statement_turn, undo_turn, stamp_turn, commit_turn, closing_turn, working_turn, phase_turn, session_turn}
 use Rattle.hy_machine.specs.Steps.{after_turn, step_of, with_open, beginning, after_visit, after_answer, with_changed, with_ended}
 use Rattle.hy_machine.specs.Runs.{opening_of, after_steps}
 use Rattle.hy_machine.proofs.Falls.{Advances, statement_advances}
@@ -54,7 +59,7 @@ pub record IsKept (setting : Setting) (state : State) : Type 0 where
 -- ---- what a turn may be
 
 -- what the turn of an open transaction may be, that stands at this phase, where this one blocks it
-abbrev pub Follows : Option Label → Phase → Turn → Type 0
+abbrev pub Follows : Option Label → Phase → Turn Write → Type 0
 Follows by phase Done = ⊥
 Follows by phase (Waits other) = (by ≡ Some other) × (is_stamping phase ≡ false)
 Follows by phase Begins = ⊥
@@ -63,7 +68,7 @@ Follows by phase (Answers writes reply took records) = is_stamping phase ≡ fal
 Follows by phase Enters = by ≡ None
 Follows by phase (Ends how) = is_stamping phase ≡ false → by ≡ None
 
-advance_follows : (by : Option Label) (visited count most : ℕ) (turn : Turn) → Advances visited most turn → Follows by (Working visited count) turn
+advance_follows : (by : Option Label) (visited count most : ℕ) (turn : Turn Write) → Advances visited most turn → Follows by (Working visited count) turn
 advance_follows by visited count most (Visits writes (Working next more)) a = refl
 advance_follows by visited count most (Visits writes (Undoing next cause)) a = refl
 advance_follows by visited count most (Answers writes reply took records) a = refl
@@ -74,14 +79,14 @@ advance_follows by visited count most (Visits writes (Stamping next)) a = absurd
 advance_follows by visited count most Enters a = absurd a
 advance_follows by visited count most (Ends how) a = absurd a
 
-undo_follows : (setting : Setting) (state : State) (number : ℕ) (begun : Begun) (visited : ℕ) (cause : Cause) (phase : Phase) → is_stamping phase ≡ false
+undo_follows : (setting : Setting) (state : State) (number : ℕ) (begun : Begun) (visited : ℕ) (cause : Ending) (phase : Phase) → is_stamping phase ≡ false
     → Follows (blocker state number) phase (undo_turn setting state number begun visited cause)
 undo_follows setting state number begun visited cause phase p = elim (cases_Bool (ltb visited (length (written_chunks setting begun.own)))) [
   | inl t ↦ rw t (sym p)
   | inr f ↦ rw f (ended (blocker state number))
 ]
   where
-    ended : (by : Option Label) → Follows by phase (unless_blocked by (Ends (ending_of cause)))
+    ended : (by : Option Label) → Follows by phase (unless_blocked by (Ends cause))
     ended None = λ _. refl
     ended (Some by) = (refl, p)
 
@@ -96,18 +101,18 @@ commit_follows : (setting : Setting) (state : State) (number : ℕ) (begun : Beg
     → Follows (blocker state number) phase (commit_turn setting state number begun)
 commit_follows setting state number begun phase p = by_blocker (blocker state number)
   where
-    validated : (cause : Option Cause) → Follows None phase (validated_turn cause)
+    validated : (cause : Option Ending) → Follows None phase (validated_turn cause)
     validated None = refl
     validated (Some cause) = sym p
 
-    hit : Option Cause
+    hit : Option Ending
     hit = first_hit begun.records (map committed_of (drop begun.prefix state.order))
 
-    closed : (nothing : Bool) → Follows None phase (cond nothing (Ends ending.Read) (validated_turn hit))
+    closed : (nothing : Bool) → Follows None phase (cond nothing (Ends Read) (validated_turn hit))
     closed true = λ _. refl
     closed false = validated hit
 
-    by_blocker : (by : Option Label) → Follows by phase (unless_blocked by (cond (wrote_nothing begun.own) (Ends ending.Read) (validated_turn hit)))
+    by_blocker : (by : Option Label) → Follows by phase (unless_blocked by (cond (wrote_nothing begun.own) (Ends Read) (validated_turn hit)))
     by_blocker None = closed (wrote_nothing begun.own)
     by_blocker (Some by) = (refl, p)
 
@@ -181,7 +186,7 @@ kept_by setting state next number session k l s w m o = record {
     there : (other : ℕ) → (other ≡ number → ⊥) → session_at next other ≡ session_at state other
     there other n = ap (λ (sessions : List Session). get_or sessions other fresh) s ∙ get_or-set_other state.sessions number other session fresh n
 
-kept_open : (setting : Setting) (state : State) (number : ℕ) (done : List Finished) (current : Open) (turn : Turn) → IsKept setting state
+kept_open : (setting : Setting) (state : State) (number : ℕ) (done : List Finished) (current : Open) (turn : Turn Write) → IsKept setting state
     → number < length state.sessions
     → session_at state number ≡ record { done = done; now = Some current } → length done < length (program_of setting number)
     → Follows (blocker state number) current.phase turn

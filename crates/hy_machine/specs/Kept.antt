@@ -8,7 +8,9 @@ use Rattle.hy_bound.specs.declared.Bound.TheVariants.{Select, Group, Insert, Upd
 use Rattle.hy_bound.specs.Records.{shape_of}
 use Rattle.hy_render.specs.declared.Ending.TheVariants.{Committed}
 use Rattle.hy_machine.specs.declared.Setting.{Setting}
-use Rattle.hy_machine.specs.States.{State, Open, Begun, Finished, Phase, Working, Stamping, Undoing}
+use Rattle.hy_protocol.specs.declared.Phase.{Phase}
+use Rattle.hy_protocol.specs.declared.Phase.TheVariants.{Working, Stamping, Undoing}
+use Rattle.hy_machine.specs.States.{State, Open, Begun, Finished}
 use Rattle.hy_machine.specs.Tables.{Entry, Own, capacity}
 use Rattle.hy_machine.specs.Positions.{item_at}
 use Rattle.hy_machine.specs.Writes.{written_chunks}

@@ -3,8 +3,8 @@ use Rattle.std.specs.Prelude.{◌≡◌, ℕ, zero, suc, ◌<◌, List, [], ◌�
 use Rattle.hy_bound.specs.declared.schedule.Item.{Item}
 use Rattle.hy_machine.specs.declared.Setting.{Setting}
 use Rattle.hy_machine.specs.States.{State, Session}
-use Rattle.hy_machine.specs.declared.Stepped.{Stepped}
-use Rattle.hy_machine.specs.declared.Stepped.TheVariants.{Blocked, Moved, Answered, Ended}
+use Rattle.hy_protocol.specs.declared.Progress.{Progress}
+use Rattle.hy_protocol.specs.declared.Progress.TheVariants.{Blocked, Moved, Answered, Ended}
 use Rattle.hy_machine.specs.Sessions.{fresh, session_at, has_ended}
 use Rattle.hy_machine.specs.Measures.{steps_left, measure_of}
 use Rattle.hy_machine.specs.Steps.{step_of}
@@ -22,7 +22,7 @@ after_steps setting state (number ∷ numbers) = after_steps setting (step_of se
 abbrev pub IsReached : Setting → State → Type 0
 IsReached setting state = (numbers : List ℕ) × (state ≡ after_steps setting (opening_of setting) numbers)
 
-abbrev pub is_moved : Stepped → Bool
+abbrev pub is_moved : Progress → Bool
 is_moved (Blocked by) = false
 is_moved Moved = true
 is_moved Answered = false

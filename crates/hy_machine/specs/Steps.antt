@@ -5,17 +5,20 @@ use Rattle.hy_bound.specs.declared.Record.{Record}
 use Rattle.hy_bound.specs.declared.Reply.{Reply}
 use Rattle.hy_render.specs.declared.Ending.{Ending}
 use Rattle.hy_machine.specs.declared.Setting.{Setting}
-use Rattle.hy_machine.specs.States.{State, Session, Open, Begun, Finished, Phase, Working, Stamping}
+use Rattle.hy_protocol.specs.declared.Phase.{Phase}
+use Rattle.hy_protocol.specs.declared.Phase.TheVariants.{Working, Stamping}
+use Rattle.hy_machine.specs.States.{State, Session, Open, Begun, Finished}
 use Rattle.hy_machine.specs.Tables.{Entry}
 use Rattle.hy_machine.specs.Writes.{Write, blank_own, with_writes}
-use Rattle.hy_machine.specs.Turns.{Turn, Done, Waits, Begins, Visits, Answers, Enters, Ends, turn}
-use Rattle.hy_machine.specs.declared.Stepped.{Stepped}
-use Rattle.hy_machine.specs.declared.Stepped.TheVariants.{Blocked, Moved, Answered, Ended}
+use Rattle.hy_protocol.specs.Turns.{Turn, Done, Waits, Begins, Visits, Answers, Enters, Ends}
+use Rattle.hy_machine.specs.Turns.{turn}
+use Rattle.hy_protocol.specs.declared.Progress.{Progress}
+use Rattle.hy_protocol.specs.declared.Progress.TheVariants.{Blocked, Moved, Answered, Ended}
 use Rattle.hy_machine.specs.Sessions.{session_at, least_prefix, entry_of}
 
 -- the state after a step, and what the step came to
 abbrev pub Step : Type 0
-Step = State × Stepped
+Step = State × Progress
 
 -- the state with a session as it is then
 abbrev pub with_session : State → ℕ → Session → State
@@ -86,7 +89,7 @@ abbrev pub without_mark : State → State
 without_mark state = record state { mark = None }
 
 -- what a session's turn makes of the state
-abbrev pub after_turn : Setting → State → ℕ → Turn → Step
+abbrev pub after_turn : Setting → State → ℕ → Turn Write → Step
 after_turn setting state number Done = (state, Ended)
 after_turn setting state number (Waits by) = (state, Blocked by)
 after_turn setting state number Begins =

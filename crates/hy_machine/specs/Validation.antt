@@ -6,7 +6,8 @@ use Rattle.hy_bound.specs.Records.{is_hit}
 use Rattle.hy_value.specs.declared.change.Change.{Change}
 use Rattle.hy_render.specs.declared.Committed.{Committed}
 use Rattle.hy_stamp.specs.declared.Label.{Label}
-use Rattle.hy_machine.specs.States.{Cause, Invalid}
+use Rattle.hy_render.specs.declared.Ending.{Ending}
+use Rattle.hy_render.specs.declared.Ending.TheVariants.{Invalid}
 use Rattle.hy_machine.specs.Tables.{Entry, Pair, Cell}
 use Rattle.hy_machine.specs.Positions.{by_place}
 
@@ -30,19 +31,19 @@ record_hit (of ∷ others) table before after =
     if of.table == table && is_hit of before after then Some of.statement else record_hit others table before after
 
 -- a transaction is invalid where a change of another hits a record
-abbrev pub invalid_at : Label → ℕ → ℕ → ℕ → Cause
+abbrev pub invalid_at : Label → ℕ → ℕ → ℕ → Ending
 invalid_at other table pos statement = Invalid table pos other statement
 
-abbrev pub change_hits : List Record → Label → Change → Option Cause
+abbrev pub change_hits : List Record → Label → Change → Option Ending
 change_hits records other change =
     option_map (invalid_at other change.table change.pos) (record_hit records change.table change.before change.after)
 
 -- the first of a transaction's changes that hits a record
-abbrev pub hit_among : List Record → Label → List Change → Option Cause
+abbrev pub hit_among : List Record → Label → List Change → Option Ending
 hit_among records other [] = None
 hit_among records other (change ∷ changes) = option_or (change_hits records other change) (hit_among records other changes)
 
 -- the first hit of records: the entries in order, the changes of one in order, the records by number
-abbrev pub first_hit : List Record → List Committed → Option Cause
+abbrev pub first_hit : List Record → List Committed → Option Ending
 first_hit records [] = None
 first_hit records (entry ∷ entries) = option_or (hit_among records entry.label entry.changes) (first_hit records entries)

@@ -5,7 +5,6 @@ use Rattle.std.specs.Option.{option_map}
 use Rattle.hy_value.specs.declared.Value.{Value}
 use Rattle.hy_bound.specs.declared.Bound.{Bound}
 use Rattle.hy_bound.specs.declared.Bound.TheVariants.{Select, Group, Insert, Update, Delete}
-use Rattle.hy_bound.specs.declared.Assign.{Assign}
 use Rattle.hy_bound.specs.declared.WriteKind.{WriteKind}
 use Rattle.hy_bound.specs.declared.WriteKind.TheVariants as kind
 use Rattle.hy_bound.specs.Condition.{Condition}
@@ -13,18 +12,21 @@ use Rattle.hy_bound.specs.Predicate.{truth_of}
 use Rattle.hy_bound.specs.Assignment.{assigned}
 use Rattle.hy_meaning.specs.Statement.{has_key_of}
 use Rattle.hy_stamp.specs.declared.Label.{Label}
+use Rattle.hy_render.specs.declared.Ending.{Ending}
+use Rattle.hy_render.specs.declared.Ending.TheVariants.{Conflict, Range}
+use Rattle.hy_protocol.specs.Asking.{Layout}
+use Rattle.hy_protocol.specs.Statements as by_statement
 use Rattle.hy_machine.specs.declared.Setting.{Setting}
-use Rattle.hy_machine.specs.States.{State, Begun, Cause, Conflict, Range}
+use Rattle.hy_machine.specs.States.{State, Begun}
 use Rattle.hy_machine.specs.Writes.{Write}
 use Rattle.hy_machine.specs.Positions.{item_at}
 use Rattle.hy_machine.specs.Tables.{Cell, positions_in}
 use Rattle.hy_machine.specs.Sessions.{view}
 use Rattle.hy_machine.specs.Holding.{opponent, is_free}
 
--- what a statement that sets these does with the rows that it selects; one that sets nothing removes them
-abbrev pub kind_of : Option (List Assign) → WriteKind
-kind_of None = kind.Delete
-kind_of (Some sets) = kind.Set sets
+-- how the tables of a setting lie
+abbrev pub layout_of : Setting → Layout
+layout_of setting = record { shapes = setting.shapes; chunks = setting.chunks }
 
 -- what a row that is selected becomes, or none where a value is out of range
 abbrev pub new_cell : WriteKind → List Value → Option Cell
@@ -32,13 +34,13 @@ new_cell (kind.Set sets) row = option_map Some (assigned sets row)
 new_cell kind.Delete row = Some None
 
 -- what a position that is selected becomes, or why it is refused: a conflict first, then a value out of range
-abbrev pub judged : ℕ → ℕ → Option Label → Option Cell → Result (Option Cell) Cause
+abbrev pub judged : ℕ → ℕ → Option Label → Option Cell → Result (Option Cell) Ending
 judged table pos (Some other) cell = Err (Conflict table pos other)
 judged table pos None None = Err (Range table pos)
 judged table pos None (Some cell) = Ok (Some cell)
 
 -- what an UPDATE or a DELETE makes of a position with this cell: nothing where there is no row or it isn't selected
-abbrev pub verdict : WriteKind → Condition → ℕ → ℕ → Option Label → Cell → Result (Option Cell) Cause
+abbrev pub verdict : WriteKind → Condition → ℕ → ℕ → Option Label → Cell → Result (Option Cell) Ending
 verdict kind pred table pos other None = Ok None
 verdict kind pred table pos other (Some row) = if truth_of pred row then judged table pos other (new_cell kind row) else Ok None
 
@@ -48,23 +50,23 @@ write_of table pos None = []
 write_of table pos (Some cell) = record { table = table; pos = pos; cell = cell } ∷ []
 
 -- what is written at a position, and then at others; or the first refusal
-abbrev pub and_write : ℕ → ℕ → Result (Option Cell) Cause → Result (List Write) Cause → Result (List Write) Cause
+abbrev pub and_write : ℕ → ℕ → Result (Option Cell) Ending → Result (List Write) Ending → Result (List Write) Ending
 and_write table pos (Err cause) writes = Err cause
 and_write table pos (Ok cell) (Err cause) = Err cause
 and_write table pos (Ok cell) (Ok writes) = Ok (write_of table pos cell ++ writes)
 
 -- the verdicts at positions of a table, one after another
-abbrev pub sweep : ℕ → (ℕ → Result (Option Cell) Cause) → List ℕ → Result (List Write) Cause
+abbrev pub sweep : ℕ → (ℕ → Result (Option Cell) Ending) → List ℕ → Result (List Write) Ending
 sweep table judge [] = Ok []
 sweep table judge (pos ∷ positions) = and_write table pos (judge pos) (sweep table judge positions)
 
 -- what a session's UPDATE or DELETE makes of a position
-abbrev pub verdict_at : Setting → State → ℕ → Begun → WriteKind → Condition → ℕ → ℕ → Result (Option Cell) Cause
+abbrev pub verdict_at : Setting → State → ℕ → Begun → WriteKind → Condition → ℕ → ℕ → Result (Option Cell) Ending
 verdict_at setting state number begun kind pred table pos =
     verdict kind pred table pos (opponent setting state number begun.prefix table pos) (item_at (view setting state begun) table pos)
 
 -- what it does in a chunk: what it writes at the positions, ascending, or the first refusal
-abbrev pub swept : Setting → State → ℕ → Begun → WriteKind → Condition → ℕ → ℕ → Result (List Write) Cause
+abbrev pub swept : Setting → State → ℕ → Begun → WriteKind → Condition → ℕ → ℕ → Result (List Write) Ending
 swept setting state number begun kind pred table chunk =
     sweep table (verdict_at setting state number begun kind pred table) (positions_in setting chunk)
 
@@ -84,8 +86,7 @@ free_position setting state begun table chunk = find (is_free setting state begu
 
 -- how many chunks an INSERT checks for its key before it takes a position
 abbrev pub checks_of : Setting → Option ℕ → ℕ
-checks_of setting None = 0
-checks_of setting (Some key) = setting.chunks
+checks_of setting = by_statement.checks_of (layout_of setting)
 
 -- how many visits a statement has at most
 abbrev pub visits_of : Setting → Bound → ℕ

@@ -1,8 +1,8 @@
 //! The snapshot machine: what a run comes to, step by step, as definitions that no program computes.
 //!
-//! A state is the commit order, a mark, and where each session stands (States). What a session does next is read
-//! off the state (Turns), and what that makes of the state is its step (Steps). A run is a list of steps (Runs), and
-//! what the last state comes to is its outcome (Outcomes).
+//! A state is the commit order, a mark, and where each session stands (States). What a session does next follows from what
+//! it finds there (Turns), as it does in the engine, and what that makes of the state is its step (Steps). A run is a
+//! list of steps (Runs), and what the last state comes to is its outcome (Outcomes).
 //!
 //! A transaction reads the tables as they were after the commits that stood before its BEGIN, overlaid by its
 //! own writes (snapshot isolation: Berenson et al., "A Critique of ANSI SQL Isolation Levels", SIGMOD 1995),
@@ -11,7 +11,6 @@
 #![tactic(auto)]
 
 use hy_bound::{Rows, Shapes, Txns};
-use hy_stamp::Label;
 use hy_value::Seq;
 
 mod laws;
@@ -31,20 +30,4 @@ pub struct Setting {
     pub first: Seq<Rows>,
     /// The transactions of each session.
     pub programs: Seq<Txns>,
-}
-
-/// What a step came to.
-#[derive(Clone, Copy, Debug, PartialEq, Eq)]
-pub enum Stepped {
-    /// Nothing changed: a transaction stands between the entry of its commit and its end.
-    Blocked {
-        /// That transaction.
-        by: Label,
-    },
-    /// The session went on, and has not answered yet.
-    Moved,
-    /// The session began a transaction, or gave a reply or an ending.
-    Answered,
-    /// The session's script is at its end.
-    Ended,
 }

@@ -11,9 +11,9 @@ use Rattle.hy_journal.specs.declared.Entry.{Entry}
 use Rattle.hy_journal.specs.Core.{core_begun}
 use Rattle.hy_event.specs.declared.SessionData.{SessionData}
 use Rattle.hy_event.specs.declared.Open.{Open}
-use Rattle.hy_event.specs.declared.Phase.{Phase}
-use Rattle.hy_event.specs.declared.Phase.TheVariants as phase
-use Rattle.hy_event.specs.CoreTurns.{beginning}
+use Rattle.hy_protocol.specs.declared.Phase.{Phase}
+use Rattle.hy_protocol.specs.declared.Phase.TheVariants as phase
+use Rattle.hy_event.specs.Turns.{beginning}
 use Rattle.hy_machine.specs.declared.Setting.{Setting}
 use Rattle.hy_machine.specs.States.{State, Open as MachineOpen}
 use Rattle.hy_machine.specs.Sessions.{session_at, label_of}
@@ -135,17 +135,17 @@ module _ (setting : Setting) (state : State) (core : CoreData) (sessions : List 
   none_marked there (Some marked) e = absurd cc
 
   stamping : OfOpen after sessions_after (λ other another its present.
-      (visited time : ℕ) → its.phase ≡ phase.Stamping visited time → StampingShows (core_begun core) its present time)
+      (visited : ℕ) → its.phase ≡ phase.Stamping visited → StampingShows (core_begun core) its present)
   stamping = each_then
-      (λ other another its present. (visited time : ℕ) → its.phase ≡ phase.Stamping visited time → StampingShows (core_begun core) its present time)
-      (λ visited time e. absurd (let f : 0 ≡ 1 = ap kind_of e in cc))
-      (λ other another its present was visited time e.
-      let had = at.core_shows.mark_shows.stamping other another its present was visited time e in
+      (λ other another its present. (visited : ℕ) → its.phase ≡ phase.Stamping visited → StampingShows (core_begun core) its present)
+      (λ visited e. absurd (let f : 0 ≡ 1 = ap kind_of e in cc))
+      (λ other another its present was visited e.
+      let had = at.core_shows.mark_shows.stamping other another its present was visited e in
       record { entry = had.entry; last = had.last; time_is = had.time_is; wrote = had.wrote })
     where
       kind_of : Phase → ℕ
       kind_of (phase.Working visited count) = 0
-      kind_of (phase.Stamping visited time) = 1
+      kind_of (phase.Stamping visited) = 1
       kind_of (phase.Undoing visited cause) = 2
 
   -- ---- the core

@@ -15,7 +15,7 @@ use Rattle.hy_journal.specs.Core.{core_begun}
 use Rattle.hy_event.specs.declared.SessionData.{SessionData}
 use Rattle.hy_event.specs.declared.Open.{Open}
 use Rattle.hy_event.specs.Sessions.{label_of, viewer_of}
-use Rattle.hy_event.specs.CoreTurns.{beginning}
+use Rattle.hy_event.specs.Turns.{beginning}
 use Rattle.hy_machine.specs.declared.Setting.{Setting}
 use Rattle.hy_machine.specs.States.{State, Open as MachineOpen}
 use Rattle.hy_machine.specs.Tables.{Entry as Entered, opening_tables}

@@ -18,10 +18,10 @@ use Rattle.hy_journal.specs.declared.Entry.{Entry}
 use Rattle.hy_journal.specs.Core.{core_begun}
 use Rattle.hy_event.specs.declared.SessionData.{SessionData}
 use Rattle.hy_event.specs.declared.Open.{Open}
-use Rattle.hy_event.specs.declared.Phase.{Phase}
-use Rattle.hy_event.specs.declared.Phase.TheVariants as phase
+use Rattle.hy_protocol.specs.declared.Phase.{Phase}
+use Rattle.hy_protocol.specs.declared.Phase.TheVariants as phase
 use Rattle.hy_event.specs.Gathering.{select_read_plan}
-use Rattle.hy_event.specs.CoreTurns.{beginning}
+use Rattle.hy_event.specs.Turns.{beginning}
 use Rattle.hy_machine.specs.declared.Setting.{Setting}
 use Rattle.hy_machine.specs.States.{State, Session, Finished, Open as MachineOpen}
 use Rattle.hy_machine.specs.Positions.{item_at}
@@ -210,7 +210,7 @@ module _ (setting : Setting) (state : State) (core : CoreData) (sessions : List 
 
   abbrev visited_in : Phase → ℕ
   visited_in (phase.Working visited count) = visited
-  visited_in (phase.Stamping visited time) = visited
+  visited_in (phase.Stamping visited) = visited
   visited_in (phase.Undoing visited cause) = visited
 
   begun_shows : OpenShows setting after (core_begun core) number (beginning core) (begun_there setting state)
@@ -224,7 +224,7 @@ module _ (setting : Setting) (state : State) (core : CoreData) (sessions : List 
       below = below_by core.active refl;
       held = record { past = omega arith; safe = λ start c. inl c };
     };
-    open_shows = record { prefix = entries_long; replies = refl; records = refl; took = refl; phase = (refl, refl) };
+    open_shows = record { prefix = entries_long; replies = refl; records = refl; took = refl; phase = refl };
     notes_show = λ unmarked. record {
       notes = λ table pos. sym (ap (λ own. noted (pair_of (item_at (snapshot setting state (length state.order)) table pos) own)) (nothing_own setting table pos));
       ascends = tt;

@@ -12,9 +12,10 @@ use Rattle.hy_value.specs.declared.Value.{Value}
 use Rattle.hy_journal.specs.declared.CoreData.{CoreData}
 use Rattle.hy_event.specs.declared.SessionData.{SessionData}
 use Rattle.hy_event.specs.declared.Open.{Open}
-use Rattle.hy_event.specs.CoreTurns.{beginning}
+use Rattle.hy_event.specs.Turns.{beginning}
 use Rattle.hy_machine.specs.declared.Setting.{Setting}
-use Rattle.hy_machine.specs.States.{State, Session, Open as MachineOpen, Working}
+use Rattle.hy_protocol.specs.declared.Phase.TheVariants.{Working}
+use Rattle.hy_machine.specs.States.{State, Session, Open as MachineOpen}
 use Rattle.hy_machine.specs.Positions.{item_at}
 use Rattle.hy_machine.specs.Tables.{capacity, chunk_of}
 use Rattle.hy_machine.specs.Writes.{blank_own, written_chunks, is_among}

@@ -11,25 +11,24 @@ use Rattle.hy_prune.specs.OpenStarts.{without}
 use Rattle.hy_journal.specs.Core.{core_closed, core_left}
 use Rattle.hy_event.specs.declared.SessionData.{SessionData}
 use Rattle.hy_event.specs.declared.Open.{Open}
-use Rattle.hy_event.specs.declared.Phase.{Phase}
-use Rattle.hy_event.specs.declared.Phase.TheVariants as phase
-use Rattle.hy_event.specs.declared.Progress.{Progress}
-use Rattle.hy_event.specs.declared.Progress.TheVariants as came_to
+use Rattle.hy_protocol.specs.declared.Phase.{Phase}
+use Rattle.hy_protocol.specs.declared.Phase.TheVariants as phase
+use Rattle.hy_protocol.specs.declared.Progress.{Progress}
+use Rattle.hy_protocol.specs.declared.Progress.TheVariants as came_to
 use Rattle.hy_event.specs.Sessions.{place_noted, written_in, written}
 use Rattle.hy_event.specs.Turns.{with_ended as ended_here}
 use Rattle.hy_event.specs.Events.{Part, CorePart}
 use Rattle.hy_machine.specs.declared.Setting.{Setting}
-use Rattle.hy_machine.specs.States.{State, Open as MachineOpen, Phase as Stage}
-use Rattle.hy_machine.specs.States as stage
-use Rattle.hy_machine.specs.Turns.{Ends}
+use Rattle.hy_machine.specs.States.{State, Open as MachineOpen}
+use Rattle.hy_protocol.specs.Turns.{Ends}
 use Rattle.hy_machine.specs.Writes.{written as written_there}
 use Rattle.hy_machine.specs.Sessions.{session_at, label_of, blocker_of}
 use Rattle.hy_machine.specs.Steps.{after_turn}
-use Rattle.hy_refinement.specs.Sessions.{PhaseShows, OpenShows}
+use Rattle.hy_refinement.specs.Sessions.{OpenShows}
 use Rattle.hy_refinement.specs.Shows.{Shows}
 use Rattle.hy_machine.specs.Kept.{is_stamping}
 use Rattle.hy_refinement.specs.Stamped.{is_unstamped, is_unstamped_by, entries_counted}
-use Rattle.hy_refinement.specs.Taken.{AtOpen, stepped_of, core_number}
+use Rattle.hy_refinement.specs.Taken.{AtOpen, core_number}
 use Rattle.hy_refinement.specs.CoreVisits.{IsFreeToGo, ClosesAreTaken}
 use Rattle.hy_refinement.proofs.RivalTops.{open_shown}
 use Rattle.hy_refinement.proofs.NotedPlaces.{not_marked, places_are, written_places}
@@ -45,7 +44,7 @@ pub wrote_is : (setting : Setting) (state : State) (parts : List Part) (sessions
     → AtOpen setting state parts sessions number session now current → is_stamping current.phase ≡ false
     → written now ≡ written_there current.begun.own
 wrote_is setting state parts sessions number session now current at quiet =
-    same_places (written now) (written_there current.begun.own) (by now.phase current.phase refl open_is.open_shows.phase)
+    same_places (written now) (written_there current.begun.own) (by now.phase (sym open_is.open_shows.phase))
     (written_in_order current.begun.own) (λ table pos.
     places_are setting state parts sessions number session now current at table pos ∙ sym (written_places current.begun.own table pos))
   where
@@ -55,13 +54,10 @@ wrote_is setting state parts sessions number session now current at quiet =
     noted : InOrder (map place_noted now.notes)
     noted = notes_in_order now.notes (open_is.notes_show (not_marked setting state number current at.shown.kept at.is_open.open_there quiet)).ascends
 
-    by : (phase : Phase) (stage : Stage) → current.phase ≡ stage → PhaseShows phase stage → InOrder (written_in now phase)
-    by (phase.Working visited count) stage there shows = noted
-    by (phase.Undoing visited ending) stage there shows = noted
-    by (phase.Stamping visited time) (stage.Working other others) there shows = absurd shows
-    by (phase.Stamping visited time) (stage.Undoing other cause) there shows = absurd shows
-    by (phase.Stamping visited time) (stage.Stamping other) there shows =
-        absurd (let e : true ≡ false = sym (ap is_stamping there) ∙ quiet in cc)
+    by : (stands : Phase) → current.phase ≡ stands → InOrder (written_in now stands)
+    by (phase.Working visited count) there = noted
+    by (phase.Undoing visited ending) there = noted
+    by (phase.Stamping visited) there = absurd (let e : true ≡ false = sym (ap is_stamping there) ∙ quiet in cc)
 
 -- ---- the end
 
@@ -88,7 +84,7 @@ pub closes_are : ClosesAreTaken
 closes_are setting state parts sessions number session now current ending progress after new at free quiet holds_nothing takes =
     let after_is : after ≡ ended_here ending session = ap (λ (step : SessionData × Progress). step.0) takes.0 in
     let progress_is : progress ≡ came_to.Answered = ap (λ (step : SessionData × Progress). step.1) takes.0 in record {
-      answer = ap stepped_of (sym progress_is);
+      answer = sym progress_is;
       shows = subst (λ (s : SessionData). Shows setting (after_turn setting state number (Ends ending)).0
           (slice_set parts (core_number setting) (CorePart new)) (slice_set sessions number s)) (sym after_is)
           (subst (λ (c : CoreData). Shows setting (after_turn setting state number (Ends ending)).0

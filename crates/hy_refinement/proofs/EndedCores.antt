@@ -14,7 +14,7 @@ use Rattle.hy_journal.specs.declared.Entry.{Entry}
 use Rattle.hy_journal.specs.Core.{core_left}
 use Rattle.hy_event.specs.declared.SessionData.{SessionData}
 use Rattle.hy_event.specs.declared.Open.{Open}
-use Rattle.hy_event.specs.declared.Phase.TheVariants as phase
+use Rattle.hy_protocol.specs.declared.Phase.TheVariants as phase
 use Rattle.hy_event.specs.Sessions.{written}
 use Rattle.hy_event.specs.Ended.{outcome_of}
 use Rattle.hy_event.specs.Turns.{with_ended as ended_here, done_with as done_here}
@@ -114,9 +114,9 @@ module _ (setting : Setting) (state : State) (core : CoreData) (sessions : List 
     mark_shows = record {
       mark = refl;
       stamping = of_open_ended (λ (other : ℕ) (one : SessionData) (present : Open) (there : MachineOpen).
-          (visited time : ℕ) → present.phase ≡ phase.Stamping visited time → StampingShows (core_left core now.start) present there time)
-          state sessions number session now current ending is (λ other one present there apart open' visited time e.
-          let was = core_shows.mark_shows.stamping other one present there open' visited time e in record {
+          (visited : ℕ) → present.phase ≡ phase.Stamping visited → StampingShows (core_left core now.start) present there)
+          state sessions number session now current ending is (λ other one present there apart open' visited e.
+          let was = core_shows.mark_shows.stamping other one present there open' visited e in record {
             entry = was.entry;
             last = was.last;
             time_is = was.time_is;

@@ -10,7 +10,7 @@ use Rattle.hy_journal.specs.declared.Entry.{Entry as Noted}
 use Rattle.hy_journal.specs.Core.{core_entered, entry_of as note_of}
 use Rattle.hy_event.specs.declared.SessionData.{SessionData}
 use Rattle.hy_event.specs.declared.Open.{Open}
-use Rattle.hy_event.specs.declared.Phase.TheVariants as phase
+use Rattle.hy_protocol.specs.declared.Phase.TheVariants as phase
 use Rattle.hy_event.specs.Sessions.{label_of as label_here, written}
 use Rattle.hy_machine.specs.declared.Setting.{Setting}
 use Rattle.hy_machine.specs.States.{State, Finished, Open as MachineOpen}
@@ -27,7 +27,6 @@ use Rattle.hy_refinement.proofs.ListsAppended.{get_before, get_behind}
 use Rattle.hy_refinement.proofs.EnteredEntries.{entry_at}
 use Rattle.hy_refinement.proofs.Holders.{same_label}
 use Rattle.hy_refinement.proofs.RivalTops.{open_shown}
-use Rattle.hy_refinement.proofs.StampedStages.{stage_of}
 use Rattle.hy_refinement.proofs.FramesOpened.{WasOpen, same as itself, stays as another, was_open, done_stays}
 use Rattle.hy_refinement.proofs.FramesCores.{times_stay, active_stays}
 use Rattle.hy_refinement.proofs.EnteredStates.{entered_here, entered_there, with_entry_of, open_gone, open_entered}
@@ -183,31 +182,28 @@ module _ (setting : Setting) (state : State) (core : CoreData) (sessions : List 
         };
   }
 
-  stamping_now : (visited at : ℕ) → then.phase ≡ phase.Stamping visited at → StampingShows core_then then later at
-  stamping_now visited at e = record {
+  stamping_now : (visited : ℕ) → then.phase ≡ phase.Stamping visited → StampingShows core_then then later
+  stamping_now visited e = record {
     entry = note;
     last =
         let long = length-append core.entries (note ∷ []) in
         ap (slice_get (core.entries ++ note ∷ [])) (let n : length (core.entries ++ note ∷ []) - 1 ≡ length core.entries = omega (arith, long) in n)
         ∙ get_behind core.entries note;
-    time_is = time_of e;
+    time_is = refl;
     wrote = wrote_is;
   }
-    where
-      time_of : {a b c d : ℕ} → phase.Stamping a b ≡ phase.Stamping c d → b ≡ d
-      time_of f = cc
 
   stamping_by : (other : ℕ) (one : SessionData) (present : Open) (there : MachineOpen)
       → WasOpen state sessions number session then later other one present there
-      → (visited at : ℕ) → present.phase ≡ phase.Stamping visited at → StampingShows core_then present there at
-  stamping_by other one present there (another apart open') visited at e =
+      → (visited : ℕ) → present.phase ≡ phase.Stamping visited → StampingShows core_then present there
+  stamping_by other one present there (another apart open') visited e =
       let its = open_shown setting state core sessions other one present there sessions_show open' in
       absurd (none_marked other (kept.ranks.stamping other there open'.open_there
-      (ap is_stamping (stage_of visited at present.phase there.phase e its.open_shows.phase))))
-  stamping_by other one present there (itself same one_is present_is there_is) visited at e =
-      subst (λ (w : Open). StampingShows core_then w there at) (sym present_is)
-      (subst (λ (c : MachineOpen). StampingShows core_then then c at) (sym there_is)
-      (stamping_now visited at (ap (λ (w : Open). w.phase) (sym present_is) ∙ e)))
+      (ap is_stamping (sym its.open_shows.phase ∙ e))))
+  stamping_by other one present there (itself same one_is present_is there_is) visited e =
+      subst (λ (w : Open). StampingShows core_then w there) (sym present_is)
+      (subst (λ (c : MachineOpen). StampingShows core_then then c) (sym there_is)
+      (stamping_now visited (ap (λ (w : Open). w.phase) (sym present_is) ∙ e)))
 
   mark_shows : MarkShows after core_then news
   mark_shows = record {

@@ -3,11 +3,10 @@ use Rattle.std.proofs.Common.{◌≡◌, ℕ, ◌≤◌, List, [], ◌∷◌, �
 use Rattle.std.proofs.lemmas.List.{take-append-le}
 use Rattle.hy_event.specs.declared.SessionData.{SessionData}
 use Rattle.hy_event.specs.declared.Open.{Open}
-use Rattle.hy_event.specs.declared.Phase.TheVariants as phase
+use Rattle.hy_protocol.specs.declared.Phase.TheVariants as phase
 use Rattle.hy_event.specs.Sessions.{written}
 use Rattle.hy_machine.specs.declared.Setting.{Setting}
 use Rattle.hy_machine.specs.States.{State, Open as MachineOpen}
-use Rattle.hy_machine.specs.States as stage
 use Rattle.hy_machine.specs.Tables.{opening_tables, history}
 use Rattle.hy_machine.specs.Sessions.{snapshot, entry_of}
 use Rattle.hy_refinement.specs.Transactions.{IsOpen}
@@ -15,10 +14,10 @@ use Rattle.hy_refinement.specs.Frames.{gone_on}
 
 -- the open transaction that entered, at this time
 abbrev pub entered_here : ℕ → Open → Open
-entered_here time now = record now { notes = []; wrote = written now; phase = phase.Stamping 0 time }
+entered_here time now = record now { notes = []; wrote = written now; time = time; phase = phase.Stamping 0 }
 
 abbrev pub entered_there : MachineOpen → MachineOpen
-entered_there current = record { begun = current.begun; phase = stage.Stamping 0 }
+entered_there current = record { begun = current.begun; phase = phase.Stamping 0 }
 
 -- the state with one more entry, the session of which is marked
 abbrev pub with_entry_of : Setting → State → ℕ → MachineOpen → State

@@ -6,26 +6,23 @@ use Rattle.hy_journal.specs.declared.CoreData.{CoreData}
 use Rattle.hy_journal.specs.Core.{core_entered}
 use Rattle.hy_event.specs.declared.SessionData.{SessionData}
 use Rattle.hy_event.specs.declared.Open.{Open}
-use Rattle.hy_event.specs.declared.Phase.{Phase}
-use Rattle.hy_event.specs.declared.Phase.TheVariants as phase
-use Rattle.hy_event.specs.declared.Progress.{Progress}
-use Rattle.hy_event.specs.declared.Progress.TheVariants as came_to
+use Rattle.hy_protocol.specs.declared.Phase.TheVariants as phase
+use Rattle.hy_protocol.specs.declared.Progress.{Progress}
+use Rattle.hy_protocol.specs.declared.Progress.TheVariants as came_to
 use Rattle.hy_event.specs.Sessions.{label_of as label_here, written}
 use Rattle.hy_event.specs.Turns.{after_entry}
 use Rattle.hy_event.specs.Events.{Part, CorePart}
 use Rattle.hy_machine.specs.declared.Setting.{Setting}
-use Rattle.hy_machine.specs.States.{State, Open as MachineOpen, Phase as Stage}
-use Rattle.hy_machine.specs.States as stage
-use Rattle.hy_machine.specs.Turns.{Enters}
+use Rattle.hy_machine.specs.States.{State, Open as MachineOpen}
+use Rattle.hy_protocol.specs.Turns.{Enters}
 use Rattle.hy_machine.specs.Writes.{written as written_there}
 use Rattle.hy_machine.specs.Sessions.{session_at}
 use Rattle.hy_machine.specs.Holding.{undone}
 use Rattle.hy_machine.specs.Steps.{order_with, after_visit, after_turn}
 use Rattle.hy_machine.specs.Kept.{is_stamping}
-use Rattle.hy_refinement.specs.Sessions.{PhaseShows}
 use Rattle.hy_refinement.specs.Shows.{Shows}
 use Rattle.hy_refinement.specs.Frames.{went_on, sessions_on}
-use Rattle.hy_refinement.specs.Taken.{AtOpen, stepped_of, core_number}
+use Rattle.hy_refinement.specs.Taken.{AtOpen, core_number}
 use Rattle.hy_refinement.specs.CoreVisits.{IsFreeToGo, EntersAreTaken}
 use Rattle.hy_refinement.proofs.RivalTops.{open_shown}
 use Rattle.hy_refinement.proofs.NotedPlaces.{not_marked}
@@ -35,16 +32,6 @@ use Rattle.hy_refinement.proofs.EnteredStates.{entered_here, with_entry_of}
 use Rattle.hy_refinement.proofs.EnteredCores.{core_entered_shows}
 use Rattle.hy_refinement.proofs.EnteredSessions.{sessions_entered_show}
 use Rattle.hy_refinement.proofs.EnteredPlaces.{entered_shows}
-
--- a transaction that the engine has at work is so in the machine: it stamps nothing and has undone nothing
-at_work : (visited count : ℕ) (here : Phase) (there : Stage) → here ≡ phase.Working visited count → PhaseShows here there
-    → (is_stamping there ≡ false) × (undone there ≡ 0)
-at_work visited count here there e shows = by_stage there (subst (λ (p : Phase). PhaseShows p there) e shows)
-  where
-    by_stage : (there : Stage) → PhaseShows (phase.Working visited count) there → (is_stamping there ≡ false) × (undone there ≡ 0)
-    by_stage (stage.Working other others) h = (refl, refl)
-    by_stage (stage.Stamping other) h = absurd h
-    by_stage (stage.Undoing other cause) h = absurd h
 
 module _ (setting : Setting) (state : State) (parts : List Part) (sessions : List SessionData) (number : ℕ) (session : SessionData)
     (now : Open) (current : MachineOpen) (at : AtOpen setting state parts sessions number session now current) (free : IsFreeToGo state number)
@@ -56,8 +43,10 @@ module _ (setting : Setting) (state : State) (parts : List Part) (sessions : Lis
   core_then = core_entered core (label_here session) now.start now.notes
 
   works : (is_stamping current.phase ≡ false) × (undone current.phase ≡ 0)
-  works = at_work visited count now.phase current.phase phase_is
-      (open_shown setting state core sessions number session now current at.shown.shows.sessions_show at.is_open).open_shows.phase
+  works =
+      let shows_open = open_shown setting state core sessions number session now current at.shown.shows.sessions_show at.is_open in
+      let stands : current.phase ≡ phase.Working visited count = sym shows_open.open_shows.phase ∙ phase_is in
+      (ap is_stamping stands, ap undone stands)
 
   unmarked : state.mark ≡ None
   unmarked = nobody_marked state number free (not_marked setting state number current at.shown.kept at.is_open.open_there works.0)
@@ -92,7 +81,7 @@ module _ (setting : Setting) (state : State) (parts : List Part) (sessions : Lis
       let by : Option MachineOpen → State = λ (o : Option MachineOpen). record {
         order = order_with setting state number o;
         mark = Some number;
-        sessions = slice_set state.sessions number (record { done = (session_at state number).done; now = option_map (after_visit [] (stage.Stamping 0)) o });
+        sessions = slice_set state.sessions number (record { done = (session_at state number).done; now = option_map (after_visit [] (phase.Stamping 0)) o });
       } in
       ap by (sym at.is_open.open_there)
 
@@ -103,7 +92,7 @@ enters_are setting state parts sessions number session now current visited count
     ∙ (let by : Option Open → SessionData = λ (o : Option Open). record session { now = option_map (after_entry at.shown.shows.core.next) o } in
     ap by at.is_open.open_here) in
     let progress_is : progress ≡ came_to.Moved = ap (λ (step : SessionData × Progress). step.1) takes.0 in record {
-      answer = ap stepped_of (sym progress_is);
+      answer = sym progress_is;
       shows = subst (λ (s : SessionData). Shows setting (after_turn setting state number Enters).0
           (slice_set parts (core_number setting) (CorePart new)) (slice_set sessions number s)) (sym after_is)
           (subst (λ (c : CoreData). Shows setting (after_turn setting state number Enters).0

@@ -15,19 +15,21 @@ use Rattle.hy_undo.specs.Places.{Cell}
 use Rattle.hy_undo.specs.Chunks.{ChunkData}
 use Rattle.hy_event.specs.declared.SessionData.{SessionData}
 use Rattle.hy_event.specs.declared.Open.{Open}
-use Rattle.hy_event.specs.declared.Progress.{Progress}
-use Rattle.hy_event.specs.declared.Progress.TheVariants as came
+use Rattle.hy_protocol.specs.declared.Progress.{Progress}
+use Rattle.hy_protocol.specs.declared.Progress.TheVariants as came
 use Rattle.hy_event.specs.Events.{Part, ChunkPart}
 use Rattle.hy_event.specs.Sessions.{viewer_of}
-use Rattle.hy_event.specs.Turns.{Step, after_turn, answer_turn, goes_on, after_visit as visited_by, after_answer as answered_by, with_changed}
-use Rattle.hy_event.specs.declared.Phase.TheVariants as phase
+use Rattle.hy_protocol.specs.Turns.{goes_on}
+use Rattle.hy_event.specs.Turns.{Step, after_turn, answer_turn, after_visit as visited_by, after_answer as answered_by, with_changed}
+use Rattle.hy_protocol.specs.declared.Phase.TheVariants as phase
 use Rattle.hy_event.specs.Inserting.{sees_key, CheckVisit}
 use Rattle.hy_machine.specs.declared.Setting.{Setting}
 use Rattle.hy_machine.specs.States.{State, Open as MachineOpen}
 use Rattle.hy_machine.specs.Positions.{item_at}
 use Rattle.hy_machine.specs.Tables.{positions_in}
 use Rattle.hy_machine.specs.Sessions.{session_at, txn_at, view}
-use Rattle.hy_machine.specs.Turns.{answers as answers_there, goes_on as goes_on_there}
+use Rattle.hy_protocol.specs.Turns.{goes_on as goes_on_there}
+use Rattle.hy_machine.specs.Turns.{answers as answers_there}
 use Rattle.hy_machine.specs.Visits.{has_key_in, sees_key as sees_key_there}
 use Rattle.hy_refinement.specs.Sessions.{OpenShows, GatheredBy, statement_at}
 use Rattle.hy_refinement.specs.Taken.{AtChunk, AtStatement, IsTaken, chunk_number}
@@ -53,7 +55,7 @@ any_same row key cell (pos ∷ positions) =
 
 -- a session after a visit that goes on
 pub on_now : (session : SessionData) (now : Open) (visited : ℕ) → session.now ≡ Some now
-    → ◌≡◌ {A = Step} (after_turn session (goes_on visited)) (went_on session (read_on visited now.gathered now), came.Moved)
+    → ◌≡◌ {A = Step} (after_turn None session (goes_on visited)) (went_on session (read_on visited now.gathered now), came.Moved)
 on_now session now visited e =
     ap (λ (here : Option Open). let step : Step = (
       with_changed (visited_by [] (phase.Working (suc visited) 0))
@@ -62,7 +64,7 @@ on_now session now visited e =
     ) in step) e
 
 pub out_now : (session : SessionData) (now : Open) (statement : Bound) (gathered : List Table) (reply : Reply) → session.now ≡ Some now
-    → ◌≡◌ {A = Step} (after_turn session (answer_turn session now statement gathered [] reply None))
+    → ◌≡◌ {A = Step} (after_turn None session (answer_turn session now statement gathered [] reply None))
     (went_on session (read_out reply (records_of session.shapes (suc (length now.replies)) statement gathered) now), came.Answered)
 out_now session now statement gathered reply e =
     ap (λ (here : Option Open). let step : Step = (
@@ -117,7 +119,7 @@ module _ (own : OwnStepsShow) (setting : Setting) (state : State) (parts : List 
         (same_records setting session now current (Insert table row) []
         (at.at_open.shown.shows.sessions_show.each number session at.at_open.is_open.found).session_is.shapes was.open_shows.replies)
         (visit.turn
-        ∙ (ap (λ (b : Bool). after_turn session (cond b (answer_turn session now (Insert table row) [] [] reply.Duplicate None) (goes_on visited)))
+        ∙ (ap (λ (b : Bool). after_turn None session (cond b (answer_turn session now (Insert table row) [] [] reply.Duplicate None) (goes_on visited)))
         (found_same ∙ yes')
         ∙ out_now session now (Insert table row) [] reply.Duplicate at.at_open.is_open.open_here)))
     | inr isnt ↦
@@ -127,7 +129,7 @@ module _ (own : OwnStepsShow) (setting : Setting) (state : State) (parts : List 
         (read_moves own setting state parts sessions number session now current table chunk old at visited count stands.phase_is progress after new visit.chunk
         now.gathered nothing_gathered
         (visit.turn
-        ∙ (ap (λ (b : Bool). after_turn session (cond b (answer_turn session now (Insert table row) [] [] reply.Duplicate None) (goes_on visited)))
+        ∙ (ap (λ (b : Bool). after_turn None session (cond b (answer_turn session now (Insert table row) [] [] reply.Duplicate None) (goes_on visited)))
         (found_same ∙ isnt)
         ∙ on_now session now visited at.at_open.is_open.open_here)))
   ]

@@ -8,7 +8,7 @@ use Rattle.hy_journal.specs.declared.CoreData.{CoreData}
 use Rattle.hy_journal.specs.declared.Entry.{Entry}
 use Rattle.hy_event.specs.declared.SessionData.{SessionData}
 use Rattle.hy_event.specs.declared.Open.{Open}
-use Rattle.hy_event.specs.declared.Phase.TheVariants as phase
+use Rattle.hy_protocol.specs.declared.Phase.TheVariants as phase
 use Rattle.hy_machine.specs.declared.Setting.{Setting}
 use Rattle.hy_machine.specs.States.{State, Session, Finished, Open as MachineOpen}
 use Rattle.hy_machine.specs.Sessions.{session_at, label_of}
@@ -112,9 +112,9 @@ module _ (state : State) (core : CoreData) (sessions : List SessionData) (number
 
   module _ (setting : Setting) (on : WentOn setting state core number then later) where
     stamping : OfOpen after sessions_after (λ other another its present.
-        (visited time : ℕ) → its.phase ≡ phase.Stamping visited time → StampingShows core its present time)
+        (visited : ℕ) → its.phase ≡ phase.Stamping visited → StampingShows core its present)
     stamping = each_open state sessions number session now then current later is
-        (λ other another its present. (visited time : ℕ) → its.phase ≡ phase.Stamping visited time → StampingShows core its present time)
+        (λ other another its present. (visited : ℕ) → its.phase ≡ phase.Stamping visited → StampingShows core its present)
         on.stamping shows.mark_shows.stamping
 
     pub core_stays : CoreShows after core sessions_after

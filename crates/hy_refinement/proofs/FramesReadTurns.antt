@@ -10,17 +10,19 @@ use Rattle.hy_gathered.specs.Answers.{spread_all}
 use Rattle.hy_undo.specs.Chunks.{ChunkData}
 use Rattle.hy_event.specs.declared.SessionData.{SessionData}
 use Rattle.hy_event.specs.declared.Open.{Open}
-use Rattle.hy_event.specs.declared.Progress.{Progress}
-use Rattle.hy_event.specs.declared.Progress.TheVariants as came
-use Rattle.hy_event.specs.declared.Phase.TheVariants as phase
+use Rattle.hy_protocol.specs.declared.Progress.{Progress}
+use Rattle.hy_protocol.specs.declared.Progress.TheVariants as came
+use Rattle.hy_protocol.specs.declared.Phase.TheVariants as phase
 use Rattle.hy_event.specs.Events.{Part, ChunkPart}
 use Rattle.hy_event.specs.Gathering.{ReadPlan}
 use Rattle.hy_event.specs.Reading.{Reads, with_gathered}
-use Rattle.hy_event.specs.Turns.{Step, after_turn, answer_turn, goes_on, with_changed, after_visit as visited_by, after_answer as answered_by}
+use Rattle.hy_protocol.specs.Turns.{goes_on}
+use Rattle.hy_event.specs.Turns.{Step, after_turn, answer_turn, with_changed, after_visit as visited_by, after_answer as answered_by}
 use Rattle.hy_machine.specs.declared.Setting.{Setting}
 use Rattle.hy_machine.specs.States.{State, Open as MachineOpen}
 use Rattle.hy_machine.specs.Sessions.{view}
-use Rattle.hy_machine.specs.Turns.{answers as answers_there, goes_on as goes_on_there}
+use Rattle.hy_protocol.specs.Turns.{goes_on as goes_on_there}
+use Rattle.hy_machine.specs.Turns.{answers as answers_there}
 use Rattle.hy_refinement.specs.Sessions.{OpenShows, SessionIs, GatheredBy}
 use Rattle.hy_refinement.specs.Taken.{AtChunk, AtStatement, IsTaken, chunk_number}
 use Rattle.hy_refinement.specs.Frames.{went_on, OwnStepsShow}
@@ -44,11 +46,11 @@ module _ (own : OwnStepsShow) (setting : Setting) (state : State) (parts : List 
   abbrev is_on : Bool
   is_on = nat_lt (suc visited) (setting.chunks * plan.tables)
 
-  chosen : (b : Bool) → is_on ≡ b → ◌≡◌ {A = Step} (after, progress) (after_turn (with_gathered gathered session)
+  chosen : (b : Bool) → is_on ≡ b → ◌≡◌ {A = Step} (after, progress) (after_turn None (with_gathered gathered session)
       (cond b (goes_on visited) (answer_turn session now statement (spread_all plan.parts gathered) [] (plan.reply gathered) None)))
   chosen b is =
       reads
-      ∙ ap (λ (on : Bool). after_turn (with_gathered gathered session)
+      ∙ ap (λ (on : Bool). after_turn None (with_gathered gathered session)
       (cond on (goes_on visited) (answer_turn session now statement (spread_all plan.parts gathered) [] (plan.reply gathered) None)))
       (ap (λ (chunks : ℕ). nat_lt (suc visited) (chunks * plan.tables)) session_is.chunks ∙ is)
 

@@ -12,23 +12,22 @@ use Rattle.hy_undo.specs.Chunks.{ChunkData}
 use Rattle.hy_journal.specs.declared.CoreData.{CoreData}
 use Rattle.hy_event.specs.declared.SessionData.{SessionData}
 use Rattle.hy_event.specs.declared.Open.{Open}
-use Rattle.hy_event.specs.declared.Phase.{Phase}
-use Rattle.hy_event.specs.declared.Phase.TheVariants as phase
-use Rattle.hy_event.specs.declared.Progress.{Progress}
-use Rattle.hy_event.specs.declared.Progress.TheVariants as came
+use Rattle.hy_protocol.specs.declared.Phase.{Phase}
+use Rattle.hy_protocol.specs.declared.Phase.TheVariants as phase
+use Rattle.hy_protocol.specs.declared.Progress.{Progress}
+use Rattle.hy_protocol.specs.declared.Progress.TheVariants as came
 use Rattle.hy_event.specs.Events.{Part, ChunkPart}
 use Rattle.hy_event.specs.Gathering.{select_read_plan, group_read_plan}
 use Rattle.hy_event.specs.Turns.{Step, after_visit as visited_by, after_answer as answered_by}
 use Rattle.hy_machine.specs.declared.Setting.{Setting}
 use Rattle.hy_machine.specs.States.{State, Open as MachineOpen}
-use Rattle.hy_machine.specs.States as stage
-use Rattle.hy_machine.specs.Turns.{Visits, Answers}
+use Rattle.hy_protocol.specs.Turns.{Visits, Answers}
 use Rattle.hy_machine.specs.Tables.{Tables}
 use Rattle.hy_machine.specs.Sessions.{session_at, txn_at, view}
 use Rattle.hy_machine.specs.Steps.{after_visit, after_answer}
-use Rattle.hy_refinement.specs.Sessions.{OpenShows, PhaseShows, GatheredBy, tables_taken, statement_at}
+use Rattle.hy_refinement.specs.Sessions.{OpenShows, GatheredBy, tables_taken, statement_at}
 use Rattle.hy_refinement.specs.Shows.{Shows}
-use Rattle.hy_refinement.specs.Taken.{AtChunk, IsTaken, chunk_number, stepped_of}
+use Rattle.hy_refinement.specs.Taken.{AtChunk, IsTaken, chunk_number}
 use Rattle.hy_refinement.specs.Frames.{gone_on, went_on, sessions_on, KeepsStart, WentOn, OwnStepsShow}
 use Rattle.hy_refinement.proofs.FramesLists.{set_same}
 use Rattle.hy_refinement.proofs.FramesTurns.{gone_shown}
@@ -76,20 +75,20 @@ goes_to : (setting : Setting) (state : State) (core : CoreData) (number : ℕ) (
     → OpenShows setting state core number now current
     → GatheredBy setting (view setting state current.begun) (suc visited) gathered
     (statement_at (txn_at setting number (session_at state number)) (length now.replies))
-    → WentOn setting state core number (read_on visited gathered now) (after_visit [] (stage.Working (suc visited) 0) current)
+    → WentOn setting state core number (read_on visited gathered now) (after_visit [] (phase.Working (suc visited) 0) current)
 goes_to setting state core number now current visited gathered was has = record {
   open_shows = record {
     prefix = was.open_shows.prefix;
     replies = was.open_shows.replies;
     records = was.open_shows.records;
     took = was.open_shows.took;
-    phase = (refl, refl);
+    phase = refl;
   };
   notes_show = λ unmarked. let show = was.notes_show unmarked in record { notes = show.notes; ascends = show.ascends };
   gathered_shows = λ other count e.
       subst (λ (n : ℕ). GatheredBy setting (view setting state current.begun) n gathered
       (statement_at (txn_at setting number (session_at state number)) (length now.replies))) (sym (next_of (suc visited) 0 other count e)) has;
-  stamping = λ other time e. absurd cc;
+  stamping = λ other e. absurd cc;
 }
 
 pub answers_to : (setting : Setting) (state : State) (core : CoreData) (number : ℕ) (now : Open) (current : MachineOpen) (reply : Reply) (took : Option ℕ)
@@ -101,7 +100,7 @@ answers_to setting state core number now current reply took here there was same 
     replies = ap (λ (replies : List Reply). replies ++ reply ∷ []) was.open_shows.replies;
     records = ap (λ (records : List Record). records ++ here) was.open_shows.records ∙ ap (λ (records : List Record). current.begun.records ++ records) same;
     took = ap (λ (took' : List (Option ℕ)). took' ++ took ∷ []) was.open_shows.took;
-    phase = (refl, refl);
+    phase = refl;
   };
   notes_show = λ unmarked. let show = was.notes_show unmarked in record { notes = show.notes; ascends = show.ascends };
   gathered_shows = λ other count e.
@@ -109,7 +108,7 @@ answers_to setting state core number now current reply took here there was same 
       (statement_at (txn_at setting number (session_at state number)) (length (now.replies ++ reply ∷ [])))) (sym (next_of 0 0 other count e))
       (none_gathered setting (view setting state current.begun)
       (statement_at (txn_at setting number (session_at state number)) (length (now.replies ++ reply ∷ []))));
-  stamping = λ other time e. absurd cc;
+  stamping = λ other e. absurd cc;
 }
 
 -- ---- visits
@@ -125,8 +124,8 @@ module _ (own : OwnStepsShow) (setting : Setting) (state : State) (parts : List 
   was : OpenShows setting state core number now current
   was = was_shown setting state parts sessions number session now current table chunk old at visited count phase_is
 
-  works_there : PhaseShows (phase.Working visited count) current.phase
-  works_there = subst (λ (here : Phase). PhaseShows here current.phase) phase_is was.open_shows.phase
+  works_there : current.phase ≡ phase.Working visited count
+  works_there = sym was.open_shows.phase ∙ phase_is
 
   -- all is shown where it stands as before
   still_shown : (then : Open) (later : MachineOpen) → KeepsStart now then current later → WentOn setting state core number then later → IsStill current later
@@ -143,15 +142,15 @@ module _ (own : OwnStepsShow) (setting : Setting) (state : State) (parts : List 
       → GatheredBy setting (view setting state current.begun) (suc visited) gathered
       (statement_at (txn_at setting number (session_at state number)) (length now.replies))
       → ◌≡◌ {A = Step} (after, progress) (went_on session (read_on visited gathered now), came.Moved)
-      → IsTaken setting state parts sessions number (Visits [] (stage.Working (suc visited) 0)) (chunk_number setting table chunk)
+      → IsTaken setting state parts sessions number (Visits [] (phase.Working (suc visited) 0)) (chunk_number setting table chunk)
       progress after (ChunkPart new)
   read_moves gathered has takes = record {
-    answer = sym (ap (λ (step : Step). stepped_of step.1) takes);
+    answer = sym (ap (λ (step : Step). step.1) takes);
     shows =
         gone_shown setting state (set parts (chunk_number setting table chunk) (ChunkPart new))
         sessions number session now (read_on visited gathered now) current
-        (after_visit [] (stage.Working (suc visited) 0)) after at.at_open.is_open (ap (λ (step : Step). step.0) takes)
-        (still_shown (read_on visited gathered now) (after_visit [] (stage.Working (suc visited) 0) current)
+        (after_visit [] (phase.Working (suc visited) 0)) after at.at_open.is_open (ap (λ (step : Step). step.0) takes)
+        (still_shown (read_on visited gathered now) (after_visit [] (phase.Working (suc visited) 0) current)
         (record { start = refl; prefix = refl; cover = refl; prefix_there = refl; low_there = refl })
         (goes_to setting state core number now current visited gathered was has)
         (record {
@@ -166,7 +165,7 @@ module _ (own : OwnStepsShow) (setting : Setting) (state : State) (parts : List 
       → ◌≡◌ {A = Step} (after, progress) (went_on session (read_out reply here now), came.Answered)
       → IsTaken setting state parts sessions number (Answers [] reply None there) (chunk_number setting table chunk) progress after (ChunkPart new)
   read_answers reply here there records takes = record {
-    answer = sym (ap (λ (step : Step). stepped_of step.1) takes);
+    answer = sym (ap (λ (step : Step). step.1) takes);
     shows =
         gone_shown setting state (set parts (chunk_number setting table chunk) (ChunkPart new)) sessions number session now (read_out reply here now) current
         (after_answer [] reply None there) after at.at_open.is_open (ap (λ (step : Step). step.0) takes)

@@ -1,17 +1,15 @@
 -- A transaction that is refused stands as before, and will be undone.
-use Rattle.std.proofs.Common.{◌≡◌, ℕ, ◌+◌, ◌*◌, List, [], refl, sym, subst}
+use Rattle.std.proofs.Common.{◌≡◌, ℕ, ◌+◌, ◌*◌, List, [], refl, sym, subst, ◌∙◌}
 use Rattle.hy_journal.specs.declared.CoreData.{CoreData}
 use Rattle.hy_event.specs.declared.Open.{Open}
-use Rattle.hy_event.specs.declared.Phase.{Phase}
-use Rattle.hy_event.specs.declared.Phase.TheVariants as phase
+use Rattle.hy_protocol.specs.declared.Phase.TheVariants as phase
 use Rattle.hy_event.specs.Events.{Part}
 use Rattle.hy_event.specs.Turns.{after_visit as visited_by}
+use Rattle.hy_render.specs.declared.Ending.{Ending}
 use Rattle.hy_machine.specs.declared.Setting.{Setting}
-use Rattle.hy_machine.specs.States.{State, Cause, Open as MachineOpen}
-use Rattle.hy_machine.specs.States as stage
-use Rattle.hy_machine.specs.Turns.{ending_of}
+use Rattle.hy_machine.specs.States.{State, Open as MachineOpen}
 use Rattle.hy_machine.specs.Steps.{after_visit}
-use Rattle.hy_refinement.specs.Sessions.{OpenShows, PhaseShows}
+use Rattle.hy_refinement.specs.Sessions.{OpenShows}
 use Rattle.hy_refinement.specs.Shows.{Shows}
 use Rattle.hy_refinement.specs.CoreVisits.{RefusalsAreTaken}
 use Rattle.hy_refinement.specs.Frames.{gone_on, sessions_on, KeepsStart, WentOn, OwnStepsShow, GoingOnIsTaken}
@@ -20,16 +18,16 @@ use Rattle.hy_refinement.proofs.FramesLists.{set_same}
 use Rattle.hy_refinement.proofs.FramesStill.{IsStill, stands_still, works}
 
 -- a transaction that is to be undone
-abbrev pub refused_here : Cause → Open → Open
-refused_here cause now = visited_by [] (phase.Undoing 0 (ending_of cause)) now
+abbrev pub refused_here : Ending → Open → Open
+refused_here cause now = visited_by [] (phase.Undoing 0 cause) now
 
-abbrev pub refused_there : Cause → MachineOpen → MachineOpen
-refused_there cause current = after_visit [] (stage.Undoing 0 cause) current
+abbrev pub refused_there : Ending → MachineOpen → MachineOpen
+refused_there cause current = after_visit [] (phase.Undoing 0 cause) current
 
-pub refused_keeps : (cause : Cause) (now : Open) (current : MachineOpen) → KeepsStart now (refused_here cause now) current (refused_there cause current)
+pub refused_keeps : (cause : Ending) (now : Open) (current : MachineOpen) → KeepsStart now (refused_here cause now) current (refused_there cause current)
 refused_keeps cause now current = record { start = refl; prefix = refl; cover = refl; prefix_there = refl; low_there = refl }
 
-pub refused_goes : (setting : Setting) (state : State) (core : CoreData) (number : ℕ) (cause : Cause) (now : Open) (current : MachineOpen)
+pub refused_goes : (setting : Setting) (state : State) (core : CoreData) (number : ℕ) (cause : Ending) (now : Open) (current : MachineOpen)
     → OpenShows setting state core number now current
     → WentOn setting state core number (refused_here cause now) (refused_there cause current)
 refused_goes setting state core number cause now current was = record {
@@ -38,17 +36,17 @@ refused_goes setting state core number cause now current was = record {
     replies = was.open_shows.replies;
     records = was.open_shows.records;
     took = was.open_shows.took;
-    phase = (refl, refl);
+    phase = refl;
   };
   notes_show = λ unmarked. let show = was.notes_show unmarked in record { notes = show.notes; ascends = show.ascends };
   gathered_shows = λ visited count e. absurd cc;
-  stamping = λ visited time e. absurd cc;
+  stamping = λ visited e. absurd cc;
 }
 
-pub refused_still : (setting : Setting) (state : State) (core : CoreData) (number : ℕ) (cause : Cause) (now : Open) (current : MachineOpen) (visited count : ℕ)
+pub refused_still : (setting : Setting) (state : State) (core : CoreData) (number : ℕ) (cause : Ending) (now : Open) (current : MachineOpen) (visited count : ℕ)
     → OpenShows setting state core number now current → now.phase ≡ phase.Working visited count → IsStill current (refused_there cause current)
 refused_still setting state core number cause now current visited count was is =
-    let at_work = works visited count current.phase (subst (λ (here : Phase). PhaseShows here current.phase) is was.open_shows.phase) in
+    let at_work = works visited count current.phase (sym was.open_shows.phase ∙ is) in
     record { own = refl; prefix = refl; undone_same = sym at_work.0; stamped_same = sym at_work.1 }
 
 pub refusals : OwnStepsShow → GoingOnIsTaken → RefusalsAreTaken
@@ -56,7 +54,7 @@ refusals own going setting state parts sessions number session now current visit
     let shows = at.shown.shows in
     let was = open_shown setting state shows.core sessions number session now current shows.sessions_show at.is_open in
     let still = refused_still setting state shows.core number cause now current visited count was phase_is in
-    going.visits setting state parts sessions number session now current [] (phase.Undoing 0 (ending_of cause)) [] (stage.Undoing 0 cause)
+    going.visits setting state parts sessions number session now current [] (phase.Undoing 0 cause) [] (phase.Undoing 0 cause)
     part progress after present at.is_open takes
     (subst (λ (others : List Part).
     Shows setting (gone_on state number (refused_there cause current)) others (sessions_on sessions number session (refused_here cause now)))

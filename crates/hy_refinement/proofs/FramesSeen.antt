@@ -9,27 +9,24 @@ use Rattle.hy_undo.specs.Places.{Place, sees}
 use Rattle.hy_undo.specs.Chunks.{ChunkData, rows_seen}
 use Rattle.hy_event.specs.declared.SessionData.{SessionData}
 use Rattle.hy_event.specs.declared.Open.{Open}
-use Rattle.hy_event.specs.declared.Phase.{Phase}
-use Rattle.hy_event.specs.declared.Phase.TheVariants as phase
+use Rattle.hy_protocol.specs.declared.Phase.TheVariants as phase
 use Rattle.hy_event.specs.Sessions.{viewer_of}
 use Rattle.hy_event.specs.Events.{Part}
 use Rattle.hy_machine.specs.declared.Setting.{Setting}
-use Rattle.hy_machine.specs.States.{State, Open as MachineOpen, Phase as Stage}
-use Rattle.hy_machine.specs.States as stage
+use Rattle.hy_machine.specs.States.{State, Open as MachineOpen}
 use Rattle.hy_machine.specs.Positions.{item_at}
 use Rattle.hy_machine.specs.Tables.{chunk_of, positions_in}
 use Rattle.hy_machine.specs.Writes.{written_chunks, is_among}
 use Rattle.hy_machine.specs.Sessions.{snapshot, view}
 use Rattle.hy_machine.specs.Holding.{holds, undone}
 use Rattle.hy_machine.specs.Kept.{OwnFits, is_stamping}
-use Rattle.hy_refinement.specs.Sessions.{OpenShows, PhaseShows}
+use Rattle.hy_refinement.specs.Sessions.{OpenShows}
 use Rattle.hy_refinement.specs.Places.{cell_held}
 use Rattle.hy_refinement.specs.Taken.{AtChunk}
 use Rattle.hy_refinement.proofs.Orders.{tables_over}
 use Rattle.hy_refinement.proofs.WrittenPlaces.{own_among}
 use Rattle.hy_refinement.proofs.RivalTops.{open_shown}
 use Rattle.hy_refinement.proofs.FramesTurns.{one_chunk}
-use Rattle.hy_refinement.proofs.FramesStill.{works}
 
 -- ---- one position
 
@@ -61,11 +58,6 @@ held_cell setting state table pos current fits none = elim (cases_Bool (holds se
           absurd (let e : true ≡ false = sym here ∙ isnt in cc)
     ]
 
-works_on : (visited count : ℕ) (there : Stage) → PhaseShows (phase.Working visited count) there → is_stamping there ≡ false
-works_on visited count (stage.Working other others) shows = refl
-works_on visited count (stage.Stamping other) shows = absurd shows
-works_on visited count (stage.Undoing other cause) shows = absurd shows
-
 -- ---- lists
 
 maps_alike : {A B : Type 0} (f : A → B) (g : ℕ → B) (xs : List A) (first : ℕ) → ((i : ℕ) (x : A) → slice_get xs i ≡ Some x → f x ≡ g (first + i))
@@ -87,8 +79,8 @@ module _ (setting : Setting) (state : State) (parts : List Part) (sessions : Lis
 
   pub at_work : (undone current.phase ≡ 0) × (is_stamping current.phase ≡ false)
   at_work =
-      let shows = subst (λ (here : Phase). PhaseShows here current.phase) phase_is was_shown.open_shows.phase in
-      ((works visited count current.phase shows).0, works_on visited count current.phase shows)
+      let stands : current.phase ≡ phase.Working visited count = sym was_shown.open_shows.phase ∙ phase_is in
+      (ap undone stands, ap is_stamping stands)
 
   pub unmarked : state.mark ≢ Some number
   unmarked e =

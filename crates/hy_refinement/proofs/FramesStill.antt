@@ -2,17 +2,16 @@
 use Rattle.std.proofs.Common.{◌≡◌, ℕ, Option, Some, None, Bool, cond, not, refl, sym, ap, ◌∙◌, inl, inr, is_some, drop, take, List}
 use Rattle.std.specs.Prelude.{◌&&◌}
 use Rattle.std.proofs.lemmas.Bool.{cases_eq}
-use Rattle.hy_event.specs.declared.Phase.TheVariants as phase
+use Rattle.hy_protocol.specs.declared.Phase.TheVariants as phase
 use Rattle.hy_machine.specs.declared.Setting.{Setting}
-use Rattle.hy_machine.specs.States.{State, Session, Open as MachineOpen, Phase as Stage}
-use Rattle.hy_machine.specs.States as stage
+use Rattle.hy_protocol.specs.declared.Phase.{Phase}
+use Rattle.hy_machine.specs.States.{State, Session, Open as MachineOpen}
 use Rattle.hy_machine.specs.Positions.{item_at}
 use Rattle.hy_machine.specs.Tables.{Own, over, chunk_of}
 use Rattle.hy_machine.specs.Writes.{written_chunks, is_among}
 use Rattle.hy_machine.specs.Sessions.{session_at, snapshot}
 use Rattle.hy_machine.specs.Holding.{holds, undone}
 use Rattle.hy_refinement.specs.Stamped.{stamped, stamped_chunks, is_unstamped, is_unstamped_by}
-use Rattle.hy_refinement.specs.Sessions.{PhaseShows}
 use Rattle.hy_refinement.specs.Frames.{gone_on, StandsAsBefore}
 use Rattle.hy_refinement.proofs.FramesOpened.{goes_there, stays_there}
 
@@ -70,7 +69,5 @@ stands_still setting state number table chunk pos current later is still = recor
 }
 
 -- while it works it has neither stamped nor undone a chunk
-pub works : (visited count : ℕ) (there : Stage) → PhaseShows (phase.Working visited count) there → (undone there ≡ 0) × (stamped there ≡ 0)
-works visited count (stage.Working other others) shows = (refl, refl)
-works visited count (stage.Stamping other) shows = absurd shows
-works visited count (stage.Undoing other cause) shows = absurd shows
+pub works : (visited count : ℕ) (stands : Phase) → stands ≡ phase.Working visited count → (undone stands ≡ 0) × (stamped stands ≡ 0)
+works visited count stands e = (ap undone e, ap stamped e)

@@ -19,7 +19,6 @@ use Rattle.hy_refinement.specs.Transactions.{IsOpen}
 use Rattle.hy_refinement.specs.Parts.{ChunkIs}
 use Rattle.hy_refinement.specs.Shows.{Shows}
 use Rattle.hy_refinement.specs.Pruned.{PruningShowsNothing}
-use Rattle.hy_refinement.specs.Taken.{stepped_of}
 use Rattle.hy_refinement.specs.Frames.{gone_on, went_on, sessions_on, ChunkShows, GoingOnIsTaken, VisitedChunksShow, PrunedChunksShow}
 use Rattle.hy_refinement.specs.CoreVisits.{WaitsAreTaken}
 use Rattle.hy_refinement.proofs.FramesLists.{set_same}
@@ -51,12 +50,12 @@ went_shown setting state parts sessions number session now current change alter 
 pub going_on : GoingOnIsTaken
 going_on = record {
   visits = λ setting state parts sessions number session now current changes phase writes stage part progress after new is takes shows. record {
-    answer = sym (ap (λ (step : Step). stepped_of step.1) takes);
+    answer = sym (ap (λ (step : Step). step.1) takes);
     shows = went_shown setting state (set parts part new) sessions number session now current (after_visit writes stage) (visited_by changes phase) after is
         (ap (λ (step : Step). step.0) takes) shows;
   };
   answers = λ setting state parts sessions number session now current changes reply took records writes part progress after new is takes shows. record {
-    answer = sym (ap (λ (step : Step). stepped_of step.1) takes);
+    answer = sym (ap (λ (step : Step). step.1) takes);
     shows = went_shown setting state (set parts part new) sessions number session now current (after_answer writes reply took records)
         (answered_by changes reply took records) after is
         (ap (λ (step : Step). step.0) takes) shows;
@@ -65,7 +64,7 @@ going_on = record {
 
 pub waits_taken : WaitsAreTaken
 waits_taken setting state parts sessions number session by part present progress after shows found there takes = record {
-  answer = sym (ap (λ (step : Step). stepped_of step.1) takes);
+  answer = sym (ap (λ (step : Step). step.1) takes);
   shows =
       subst (λ (others : List Part). Shows setting state others (set sessions number after)) (sym (set_same parts part present there))
       (subst (λ (others : List SessionData). Shows setting state parts others)

@@ -7,7 +7,6 @@ use Rattle.hy_bound.specs.declared.Record.{Record}
 use Rattle.hy_bound.specs.Records.{is_hit}
 use Rattle.hy_value.specs.declared.change.Change.{Change}
 use Rattle.hy_render.specs.declared.Ending.{Ending}
-use Rattle.hy_render.specs.declared.Ending.TheVariants as ending
 use Rattle.hy_stamp.specs.declared.Label.{Label}
 use Rattle.hy_notes.specs.Notes.{is_change}
 use Rattle.hy_notes.specs.Telling.{TellingIsOne}
@@ -25,7 +24,6 @@ use Rattle.hy_machine.specs.Sessions.{session_at}
 use Rattle.hy_machine.specs.Tables.{Entry as Entered}
 use Rattle.hy_machine.specs.Positions.{by_place}
 use Rattle.hy_machine.specs.Validation.{committed_of, change_at, change_hits, first_hit, hit_among as hits_among, record_hit, invalid_at}
-use Rattle.hy_machine.specs.Turns.{ending_of}
 use Rattle.hy_refinement.specs.Numbers.{EntryShows, EntriesShow}
 use Rattle.hy_refinement.specs.Sessions.{NowShows, DoneSoFar}
 use Rattle.hy_refinement.specs.CoreVisits.{EntriesTellChanges, HitsAreTheMachines}
@@ -48,24 +46,15 @@ entry_changes one entered entry shows =
 
 -- ---- one change
 
--- how a transaction ends that a change hits, by the statement
-abbrev ends_at : Label → Change → ℕ → Ending
-ends_at other change statement = ending.Invalid change.table change.pos other statement
-
 same_statement : (records : List Record) (number : ℕ) → statement_of (slice_get records number) ≡ statement_at records number
 same_statement [] number = refl
 same_statement (of ∷ records) zero = refl
 same_statement (of ∷ records) (suc number) = same_statement records number
 
 by_statement : (records : List Record) (other : Label) (change : Change) (hit : Option ℕ)
-    → option_map (invalid_by records) (option_map (invalid_of other change) hit) ≡ option_map (ends_at other change) (option_map (statement_at records) hit)
+    → option_map (invalid_by records) (option_map (invalid_of other change) hit) ≡ option_map (invalid_at other change.table change.pos) (option_map (statement_at records) hit)
 by_statement records other change None = refl
-by_statement records other change (Some number) = ap (λ (n : ℕ). Some (ends_at other change n)) (same_statement records number)
-
-by_record : (other : Label) (change : Change) (hit : Option ℕ)
-    → option_map (ends_at other change) hit ≡ option_map ending_of (option_map (invalid_at other change.table change.pos) hit)
-by_record other change None = refl
-by_record other change (Some statement) = refl
+by_statement records other change (Some number) = ap (λ (n : ℕ). Some (invalid_at other change.table change.pos n)) (same_statement records number)
 
 same_record : (records : List Record) (change : Change) → statement_hit records change ≡ record_hit records change.table change.before change.after
 same_record [] change = refl
@@ -73,11 +62,10 @@ same_record (of ∷ records) change =
     ap (λ (rest : Option ℕ). cond (of.table == change.table && is_hit of change.before change.after) (Some of.statement) rest) (same_record records change)
 
 change_same : HitLaws → (records : List Record) (other : Label) (change : Change)
-    → option_map (invalid_by records) (change_hit records other change) ≡ option_map ending_of (change_hits records other change)
+    → option_map (invalid_by records) (change_hit records other change) ≡ change_hits records other change
 change_same laws records other change =
     by_statement records other change (first_hit_of records change)
-    ∙ (ap (λ (hit : Option ℕ). option_map (ends_at other change) hit) (laws.statements records change ∙ same_record records change)
-    ∙ by_record other change (record_hit records change.table change.before change.after))
+    ∙ ap (λ (hit : Option ℕ). option_map (invalid_at other change.table change.pos) hit) (laws.statements records change ∙ same_record records change)
 
 -- ---- many
 
@@ -86,17 +74,16 @@ map_or f None y = refl
 map_or f (Some x) y = refl
 
 changes_same : HitLaws → (records : List Record) (other : Label) (changes : List Change)
-    → option_map (invalid_by records) (hit_among records other changes) ≡ option_map ending_of (hits_among records other changes)
+    → option_map (invalid_by records) (hit_among records other changes) ≡ hits_among records other changes
 changes_same laws records other [] = refl
 changes_same laws records other (change ∷ changes) =
     map_or (invalid_by records) (change_hit records other change) (hit_among records other changes)
     ∙ (ap (λ (first : Option Ending). option_or first (option_map (invalid_by records) (hit_among records other changes))) (change_same laws records other change)
-    ∙ (ap (λ (rest : Option Ending). option_or (option_map ending_of (change_hits records other change)) rest) (changes_same laws records other changes)
-    ∙ sym (map_or ending_of (change_hits records other change) (hits_among records other changes))))
+    ∙ ap (λ (rest : Option Ending). option_or (change_hits records other change) rest) (changes_same laws records other changes))
 
 entry_same : HitLaws → (records : List Record) (entered : Entered) (entry : Entry) → EntryShows entered entry
     → option_map (invalid_by records) (hit_among records entry.label entry.notes)
-    ≡ option_map ending_of (hits_among records entered.label (by_place change_at entered.cells))
+    ≡ hits_among records entered.label (by_place change_at entered.cells)
 entry_same laws records entered entry shows =
     ap (λ (hit : Option Invalid). option_map (invalid_by records) hit) (sym (laws.rows records entry.label entry.notes))
     ∙ (ap (λ (changes : List Change). option_map (invalid_by records) (hit_among records entry.label changes)) (entry_changes laws.one entered entry shows)
@@ -105,7 +92,7 @@ entry_same laws records entered entry shows =
 
 -- the entries of a journal are those of the commit order, one by one
 entries_same : HitLaws → (records : List Record) (order : List Entered) (entries : List Entry) → EntriesShow order entries
-    → option_map (invalid_by records) (first_invalid records entries) ≡ option_map ending_of (first_hit records (map committed_of order))
+    → option_map (invalid_by records) (first_invalid records entries) ≡ first_hit records (map committed_of order)
 entries_same laws records [] [] shows = refl
 entries_same laws records [] (entry ∷ entries) shows = absurd (let e = shows.count in omega (arith, e))
 entries_same laws records (entered ∷ order) [] shows = absurd (let e = shows.count in omega (arith, e))
@@ -113,12 +100,11 @@ entries_same laws records (entered ∷ order) (entry ∷ entries) shows =
     map_or (invalid_by records) (hit_among records entry.label entry.notes) (first_invalid records entries)
     ∙ (ap (λ (first : Option Ending). option_or first (option_map (invalid_by records) (first_invalid records entries)))
     (entry_same laws records entered entry (shows.each zero entered entry refl refl))
-    ∙ (ap (λ (rest : Option Ending). option_or (option_map ending_of (hits_among records entered.label (by_place change_at entered.cells))) rest)
+    ∙ ap (λ (rest : Option Ending). option_or (hits_among records entered.label (by_place change_at entered.cells)) rest)
     (entries_same laws records order entries (record {
       count = let e = shows.count in omega (arith, e);
       each = λ rank one other e f. shows.each (suc rank) one other e f;
-    }))
-    ∙ sym (map_or ending_of (hits_among records entered.label (by_place change_at entered.cells)) (first_hit records (map committed_of order)))))
+    })))
 
 -- those behind a first part too
 behind : (count : ℕ) (order : List Entered) (entries : List Entry) → EntriesShow order entries → EntriesShow (drop count order) (drop count entries)
@@ -147,5 +133,5 @@ hits_are laws setting state parts sessions number session now current at =
     (shows.sessions_show.each number session at.is_open.found).now_shows now current at.is_open.open_here at.is_open.open_there in
     entries_same laws now.records (drop now.prefix state.order) (drop now.prefix shows.core.entries)
     (behind now.prefix state.order shows.core.entries shows.core_shows.entries_show)
-    ∙ (ap (λ (n : ℕ). option_map ending_of (first_hit now.records (map committed_of (drop n state.order)))) done.prefix
-    ∙ ap (λ (records : List Record). option_map ending_of (first_hit records (map committed_of (drop current.begun.prefix state.order)))) done.records)
+    ∙ (ap (λ (n : ℕ). first_hit now.records (map committed_of (drop n state.order))) done.prefix
+    ∙ ap (λ (records : List Record). first_hit records (map committed_of (drop current.begun.prefix state.order))) done.records)

@@ -16,9 +16,9 @@ use Rattle.hy_journal.specs.declared.CoreData.{CoreData}
 use Rattle.hy_journal.specs.Core.{core_left}
 use Rattle.hy_event.specs.declared.SessionData.{SessionData}
 use Rattle.hy_event.specs.declared.Open.{Open}
-use Rattle.hy_event.specs.declared.Phase.TheVariants as phase
-use Rattle.hy_event.specs.declared.Progress.{Progress}
-use Rattle.hy_event.specs.declared.Progress.TheVariants as came_to
+use Rattle.hy_protocol.specs.declared.Phase.TheVariants as phase
+use Rattle.hy_protocol.specs.declared.Progress.{Progress}
+use Rattle.hy_protocol.specs.declared.Progress.TheVariants as came_to
 use Rattle.hy_event.specs.Sessions.{label_of as label_here, written_in, written}
 use Rattle.hy_event.specs.Turns.{with_ended as ended_here}
 use Rattle.hy_event.specs.CoreTurns.{TakesAtCore, leave_turn}
@@ -26,8 +26,7 @@ use Rattle.hy_event.specs.Events.{Part, CorePart}
 use Rattle.hy_machine.specs.declared.Setting.{Setting}
 use Rattle.hy_machine.specs.States.{State, Open as MachineOpen}
 use Rattle.hy_machine.specs.Tables.{Entry, chunk_of}
-use Rattle.hy_machine.specs.States as stage
-use Rattle.hy_machine.specs.Turns.{Ends}
+use Rattle.hy_protocol.specs.Turns.{Ends}
 use Rattle.hy_machine.specs.Positions.{item_at}
 use Rattle.hy_machine.specs.Writes.{written_chunks, is_among, written as written_there}
 use Rattle.hy_machine.specs.Sessions.{snapshot}
@@ -40,34 +39,37 @@ use Rattle.hy_refinement.specs.Sessions.{OpenShows}
 use Rattle.hy_refinement.specs.Rivals.{ShownAt}
 use Rattle.hy_refinement.specs.Shows.{Shows}
 use Rattle.hy_refinement.specs.Frames.{VisitedChunksShow}
-use Rattle.hy_refinement.specs.Taken.{AtOpen, IsTaken, stepped_of, core_number}
+use Rattle.hy_refinement.specs.Taken.{AtOpen, IsTaken, core_number}
 use Rattle.hy_refinement.specs.CoreVisits.{LeavesAreTaken}
 use Rattle.hy_refinement.proofs.WrittenPlaces.{own_among}
 use Rattle.hy_refinement.proofs.LastCells.{any_true}
 use Rattle.hy_refinement.proofs.RivalTops.{open_shown}
 use Rattle.hy_refinement.proofs.Rivals.{LastEntry, last_entry, pair_there, own_there}
-use Rattle.hy_refinement.proofs.StampedStages.{stage_of, unstamped_is}
+use Rattle.hy_refinement.proofs.StampedStages.{unstamped_is}
 use Rattle.hy_refinement.proofs.EndedOpens.{ended, sessions_ended}
 use Rattle.hy_refinement.proofs.EndedPlaces.{LeavesNothing}
 use Rattle.hy_refinement.proofs.Endings.{ended_shown}
 
 module _ (setting : Setting) (state : State) (parts : List Part) (sessions : List SessionData) (number : ℕ) (session : SessionData)
-    (now : Open) (current : MachineOpen) (visited time : ℕ) (at : AtOpen setting state parts sessions number session now current)
-    (phase_is : now.phase ≡ phase.Stamping visited time) (all_visited : length (written_chunks setting current.begun.own) ≤ visited) where
+    (now : Open) (current : MachineOpen) (visited : ℕ) (at : AtOpen setting state parts sessions number session now current)
+    (phase_is : now.phase ≡ phase.Stamping visited) (all_visited : length (written_chunks setting current.begun.own) ≤ visited) where
   abbrev core : CoreData
   core = at.shown.shows.core
+
+  abbrev time : ℕ
+  time = now.time
 
   opened : OpenShows setting state core number now current
   opened = open_shown setting state core sessions number session now current at.shown.shows.sessions_show at.is_open
 
-  stage_is : current.phase ≡ stage.Stamping visited
-  stage_is = stage_of visited time now.phase current.phase phase_is opened.open_shows.phase
+  stage_is : current.phase ≡ phase.Stamping visited
+  stage_is = sym opened.open_shows.phase ∙ phase_is
 
   mark : state.mark ≡ Some number
   mark = at.shown.kept.ranks.stamping number current at.is_open.open_there (ap is_stamping stage_is)
 
-  its_time : StampingShows core now current time
-  its_time = at.shown.shows.core_shows.mark_shows.stamping number session now current at.is_open visited time phase_is
+  its_time : StampingShows core now current
+  its_time = at.shown.shows.core_shows.mark_shows.stamping number session now current at.is_open visited phase_is
 
   wrote_is : written now ≡ written_there current.begun.own
   wrote_is = ap (written_in now) phase_is ∙ its_time.wrote
@@ -151,14 +153,14 @@ module _ (setting : Setting) (state : State) (parts : List Part) (sessions : Lis
         let long = is.places in
         leaves_nothing table chunk index (omega (arith, within, long)) place shown)
 
-    left_taken : (progress : Progress) (after : SessionData) (new : CoreData) → TakesAtCore session (Some (leave_turn core now)) progress after new
+    left_taken : (progress : Progress) (after : SessionData) (new : CoreData) → TakesAtCore session core (Some (leave_turn core now)) progress after new
         → IsTaken setting state parts sessions number (Ends ending) (core_number setting) progress after (CorePart new)
     left_taken progress after new takes =
         let after_is : after ≡ ended_here ending session =
         ap (λ (step : SessionData × Progress). step.0) takes.0
         ∙ ap (λ (n : ℕ). ended_here (Committed (n - 1)) session) at.shown.shows.core_shows.entries_show.count in
         let progress_is : progress ≡ came_to.Answered = ap (λ (step : SessionData × Progress). step.1) takes.0 in record {
-          answer = ap stepped_of (sym progress_is);
+          answer = sym progress_is;
           shows = subst (λ (s : SessionData). Shows setting (after_turn setting state number (Ends ending)).0
               (slice_set parts (core_number setting) (CorePart new)) (slice_set sessions number s)) (sym after_is)
               (subst (λ (c : CoreData). Shows setting (after_turn setting state number (Ends ending)).0
@@ -166,5 +168,5 @@ module _ (setting : Setting) (state : State) (parts : List Part) (sessions : Lis
         }
 
 pub leaves_are : VisitedChunksShow → LeavesAreTaken
-leaves_are visited_show setting state parts sessions number session now current visited time progress after new at phase_is all_visited takes =
-    left_taken setting state parts sessions number session now current visited time at phase_is all_visited visited_show progress after new takes
+leaves_are visited_show setting state parts sessions number session now current visited progress after new at phase_is all_visited takes =
+    left_taken setting state parts sessions number session now current visited at phase_is all_visited visited_show progress after new takes

@@ -12,19 +12,18 @@ use Rattle.hy_notes.specs.Notes.{Cell, note_at}
 use Rattle.hy_render.specs.declared.Place.{Place}
 use Rattle.hy_event.specs.declared.SessionData.{SessionData}
 use Rattle.hy_event.specs.declared.Open.{Open}
-use Rattle.hy_event.specs.declared.Phase.{Phase}
-use Rattle.hy_event.specs.declared.Phase.TheVariants as phase
+use Rattle.hy_protocol.specs.declared.Phase.{Phase}
+use Rattle.hy_protocol.specs.declared.Phase.TheVariants as phase
 use Rattle.hy_event.specs.Sessions.{place_noted, written_in, written}
 use Rattle.hy_event.specs.Events.{Part}
 use Rattle.hy_machine.specs.declared.Setting.{Setting}
-use Rattle.hy_machine.specs.States.{State, Open as MachineOpen, Phase as Stage}
-use Rattle.hy_machine.specs.States as stage
+use Rattle.hy_machine.specs.States.{State, Open as MachineOpen}
 use Rattle.hy_machine.specs.Positions.{item_at, by_position, by_table}
 use Rattle.hy_machine.specs.Tables.{Own}
 use Rattle.hy_machine.specs.Writes.{place_at, written as written_there}
 use Rattle.hy_machine.specs.Sessions.{session_at, snapshot, pair_of}
 use Rattle.hy_refinement.specs.Numbers.{noted}
-use Rattle.hy_refinement.specs.Sessions.{PhaseShows, OpenShows}
+use Rattle.hy_refinement.specs.Sessions.{OpenShows}
 use Rattle.hy_machine.specs.Kept.{Kept, is_stamping}
 use Rattle.hy_refinement.specs.Taken.{AtOpen}
 use Rattle.hy_refinement.proofs.RivalTops.{open_shown}
@@ -136,7 +135,7 @@ not_marked setting state number current kept is quiet marked =
 pub places_are : (setting : Setting) (state : State) (parts : List Part) (sessions : List SessionData) (number : ℕ) (session : SessionData)
     (now : Open) (current : MachineOpen)
     → AtOpen setting state parts sessions number session now current → PlacesAre (written now) current.begun.own
-places_are setting state parts sessions number session now current at = by now.phase current.phase refl refl open_is.open_shows.phase
+places_are setting state parts sessions number session now current at = by now.phase refl (sym open_is.open_shows.phase)
   where
     open_is : OpenShows setting state at.shown.shows.core number now current
     open_is = open_shown setting state at.shown.shows.core sessions number session now current at.shown.shows.sessions_show at.is_open
@@ -147,17 +146,10 @@ places_are setting state parts sessions number session now current at = by now.p
         ∙ (ap is_some ((open_is.notes_show (not_marked setting state number current at.shown.kept at.is_open.open_there quiet)).notes table pos)
         ∙ some_noted (item_at (snapshot setting state current.begun.prefix) table pos) (item_at current.begun.own table pos))
 
-    by : (phase : Phase) (stage : Stage) → now.phase ≡ phase → current.phase ≡ stage → PhaseShows phase stage
-        → PlacesAre (written_in now phase) current.begun.own
-    by (phase.Working visited count) (stage.Working other others) here there shows = by_notes (ap is_stamping there)
-    by (phase.Working visited count) (stage.Stamping other) here there shows = absurd shows
-    by (phase.Working visited count) (stage.Undoing other cause) here there shows = absurd shows
-    by (phase.Stamping visited time) (stage.Working other others) here there shows = absurd shows
-    by (phase.Stamping visited time) (stage.Stamping other) here there shows =
+    by : (stands : Phase) → now.phase ≡ stands → current.phase ≡ stands → PlacesAre (written_in now stands) current.begun.own
+    by (phase.Working visited count) here there = by_notes (ap is_stamping there)
+    by (phase.Stamping visited) here there =
         subst (λ (places : List Place). PlacesAre places current.begun.own)
-        (sym (at.shown.shows.core_shows.mark_shows.stamping number session now current at.is_open visited time here).wrote)
+        (sym (at.shown.shows.core_shows.mark_shows.stamping number session now current at.is_open visited here).wrote)
         (written_places current.begun.own)
-    by (phase.Stamping visited time) (stage.Undoing other cause) here there shows = absurd shows
-    by (phase.Undoing visited ending) (stage.Working other others) here there shows = absurd shows
-    by (phase.Undoing visited ending) (stage.Stamping other) here there shows = absurd shows
-    by (phase.Undoing visited ending) (stage.Undoing other cause) here there shows = by_notes (ap is_stamping there)
+    by (phase.Undoing visited ending) here there = by_notes (ap is_stamping there)

@@ -17,32 +17,34 @@ use Rattle.hy_bound.specs.declared.Reply.TheVariants as reply
 use Rattle.hy_value.specs.declared.change.Change.{Change}
 use Rattle.hy_notes.specs.Notes.{with_note}
 use Rattle.hy_plan.specs.Reads.{records_of}
-use Rattle.hy_render.specs.declared.Ending.TheVariants as ending
 use Rattle.hy_undo.specs.Places.{Place, Cell, is_free as is_free_here}
 use Rattle.hy_undo.specs.Chunks.{ChunkData, Placed}
 use Rattle.hy_journal.specs.declared.CoreData.{CoreData}
 use Rattle.hy_event.specs.declared.SessionData.{SessionData}
 use Rattle.hy_event.specs.declared.Open.{Open}
-use Rattle.hy_event.specs.declared.Phase.{Phase}
-use Rattle.hy_event.specs.declared.Phase.TheVariants as phase
-use Rattle.hy_event.specs.declared.Progress.{Progress}
+use Rattle.hy_protocol.specs.declared.Phase.{Phase}
+use Rattle.hy_protocol.specs.declared.Phase.TheVariants as phase
+use Rattle.hy_protocol.specs.declared.Progress.{Progress}
 use Rattle.hy_event.specs.Sessions.{label_of, viewer_of}
 use Rattle.hy_event.specs.Changing.{OnlyPlaces, OnlyAt}
 use Rattle.hy_event.specs.Events.{Part, ChunkPart}
-use Rattle.hy_event.specs.Turns.{Takes, answer_turn, goes_on as goes_on_here, refused as refuses}
-use Rattle.hy_event.specs.Turns.{after_visit as visited_by, after_answer as answered_by, Visits as visits_here}
+use Rattle.hy_protocol.specs.Turns.{goes_on as goes_on_here, refused as refuses}
+use Rattle.hy_event.specs.Turns.{Takes, answer_turn}
+use Rattle.hy_protocol.specs.Turns.{Visits as visits_here}
+use Rattle.hy_event.specs.Turns.{after_visit as visited_by, after_answer as answered_by}
 use Rattle.hy_event.specs.Inserting.{PlaceVisit, Comes, place_turn as place_turn_here}
+use Rattle.hy_render.specs.declared.Ending.TheVariants.{Full}
 use Rattle.hy_machine.specs.declared.Setting.{Setting}
-use Rattle.hy_machine.specs.States.{State, Open as MachineOpen, Phase as Stage, Full}
-use Rattle.hy_machine.specs.States as stage
-use Rattle.hy_machine.specs.Turns.{Visits, Answers, place_turn, goes_on, refused, answers}
+use Rattle.hy_machine.specs.States.{State, Open as MachineOpen}
+use Rattle.hy_protocol.specs.Turns.{Visits, Answers, goes_on, refused}
+use Rattle.hy_machine.specs.Turns.{place_turn, answers}
 use Rattle.hy_machine.specs.Writes.{Write}
 use Rattle.hy_machine.specs.Sessions.{session_at, view, txn_at}
 use Rattle.hy_machine.specs.Holding.{undone, is_free}
 use Rattle.hy_machine.specs.Visits.{free_position}
 use Rattle.hy_machine.specs.Steps.{after_visit, after_answer}
 use Rattle.hy_refinement.specs.Transactions.{IsOpen}
-use Rattle.hy_refinement.specs.Sessions.{PhaseShows, NotesShow, GatheredBy, OpenShows, statement_at}
+use Rattle.hy_refinement.specs.Sessions.{NotesShow, GatheredBy, OpenShows, statement_at}
 use Rattle.hy_refinement.specs.Parts.{ChunkIs}
 use Rattle.hy_refinement.specs.Free.{FreeIsTheMachines}
 use Rattle.hy_refinement.specs.Taken.{AtChunk, AtStatement, IsTaken, chunk_number}
@@ -100,13 +102,13 @@ module _ (laws : Laws) (setting : Setting) (state : State) (parts : List Part) (
   -- ---- no position of the chunk is free
 
   -- it goes on with nothing written
-  module _ (stands_then : Phase) (stands_later : Stage) (same : PhaseShows stands_then stands_later) (free : undone stands_later ≡ 0)
-      (no_stamps : (visits time : ℕ) → stands_then ≡ phase.Stamping visits time → ⊥) where
+  module _ (stands_then : Phase) (free : undone stands_then ≡ 0)
+      (no_stamps : (visits : ℕ) → stands_then ≡ phase.Stamping visits → ⊥) where
     abbrev then : Open
     then = visited_by [] stands_then now
 
     abbrev later : MachineOpen
-    later = after_visit [] stands_later current
+    later = after_visit [] stands_then current
 
     keeps : KeepsStart now then current later
     keeps = record { start = refl; prefix = refl; cover = refl; prefix_there = refl; low_there = refl }
@@ -118,14 +120,14 @@ module _ (laws : Laws) (setting : Setting) (state : State) (parts : List Part) (
         replies = shows_open.open_shows.replies;
         records = shows_open.open_shows.records;
         took = shows_open.open_shows.took;
-        phase = same;
+        phase = refl;
       };
       notes_show = λ unmarked. record { notes = (shows_open.notes_show unmarked).notes; ascends = (shows_open.notes_show unmarked).ascends };
       gathered_shows = λ visits counts e.
           subst (GatheredBy setting (view setting state later.begun) visits now.gathered) (sym stands_at.statement_is)
           (subst (GatheredBy setting (view setting state current.begun) visited now.gathered) stands_at.statement_is
           (shows_open.gathered_shows visited count stands_at.phase_is));
-      stamping = λ visits time e. absurd (no_stamps visits time e);
+      stamping = λ visits e. absurd (no_stamps visits e);
     }
 
     stands_on : (other another pos : ℕ) → StandsAsBefore setting state number other another pos current later
@@ -136,9 +138,9 @@ module _ (laws : Laws) (setting : Setting) (state : State) (parts : List Part) (
     none_taken : (between new : ChunkData) (progress : Progress) (after : SessionData) → ChunkIs setting table chunk between
         → ChunkShows setting state core sessions table chunk between → new ≡ between
         → Takes session (visits_here [] stands_then) progress after
-        → IsTaken setting state parts sessions number (Visits [] stands_later) (chunk_number setting table chunk) progress after (ChunkPart new)
+        → IsTaken setting state parts sessions number (Visits [] stands_then) (chunk_number setting table chunk) progress after (ChunkPart new)
     none_taken between new progress after chunk_is chunk_shows same_chunk takes =
-        laws.taken.visits setting state parts sessions number session now current [] stands_then [] stands_later (chunk_number setting table chunk)
+        laws.taken.visits setting state parts sessions number session now current [] stands_then [] stands_then (chunk_number setting table chunk)
         progress after (ChunkPart new) is takes
         (laws.visits setting state parts sessions number session now then current later table chunk old new at keeps went
         (λ other another index apart below. stands_on other another (another * setting.rows + index))
@@ -154,16 +156,16 @@ module _ (laws : Laws) (setting : Setting) (state : State) (parts : List Part) (
       (chunk_number setting table chunk) progress after (ChunkPart new)
   none_free between new progress after chunk_is chunk_shows same_chunk takes =
       by_more (nat_lt (suc chunk) setting.chunks)
-      (subst (λ (n : ℕ). Takes session (cond (nat_lt (suc chunk) n) (goes_on_here visited) (refuses (ending.Full table))) progress after) same_chunks takes)
+      (subst (λ (n : ℕ). Takes session (cond (nat_lt (suc chunk) n) (goes_on_here visited) (refuses (Full table))) progress after) same_chunks takes)
     where
-      by_more : (more : Bool) → Takes session (cond more (goes_on_here visited) (refuses (ending.Full table))) progress after
+      by_more : (more : Bool) → Takes session (cond more (goes_on_here visited) (refuses (Full table))) progress after
           → IsTaken setting state parts sessions number (cond more (goes_on visited) (refused (Full table)))
           (chunk_number setting table chunk) progress after (ChunkPart new)
       by_more true goes =
-          none_taken (phase.Working (suc visited) 0) (stage.Working (suc visited) 0) (refl, refl) refl (λ visits time e. absurd cc)
+          none_taken (phase.Working (suc visited) 0) refl (λ visits e. absurd cc)
           between new progress after chunk_is chunk_shows same_chunk goes
       by_more false goes =
-          none_taken (phase.Undoing 0 (ending.Full table)) (stage.Undoing 0 (Full table)) (refl, refl) refl (λ visits time e. absurd cc)
+          none_taken (phase.Undoing 0 (Full table)) refl (λ visits e. absurd cc)
           between new progress after chunk_is chunk_shows same_chunk goes
 
   -- ---- a position is free
@@ -215,7 +217,7 @@ module _ (laws : Laws) (setting : Setting) (state : State) (parts : List Part) (
         replies = ap (λ (replies : List Reply). replies ++ reply.Inserted ∷ []) shows_open.open_shows.replies;
         records = ap (λ (all : List Record). all ++ records) shows_open.open_shows.records;
         took = ap (λ (took : List (Option ℕ)). took ++ Some pos ∷ []) shows_open.open_shows.took;
-        phase = (refl, refl);
+        phase = refl;
       };
       notes_show = λ unmarked. record { notes = notes.notes; ascends = notes.ascends };
       gathered_shows = λ visits counts e.
@@ -224,7 +226,7 @@ module _ (laws : Laws) (setting : Setting) (state : State) (parts : List Part) (
           (length then_placed.replies))) none
           (gathered_first setting (view setting state later_placed.begun) (statement_at (txn_at setting number (session_at state number))
           (length then_placed.replies)));
-      stamping = λ visits time e. absurd cc;
+      stamping = λ visits e. absurd cc;
     }
 
     placed_taken : (progress : Progress) (after : SessionData)

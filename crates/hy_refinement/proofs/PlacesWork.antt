@@ -10,19 +10,17 @@ use Rattle.hy_undo.specs.Chunks.{ChunkData}
 use Rattle.hy_journal.specs.declared.CoreData.{CoreData}
 use Rattle.hy_event.specs.declared.SessionData.{SessionData}
 use Rattle.hy_event.specs.declared.Open.{Open}
-use Rattle.hy_event.specs.declared.Phase.{Phase}
-use Rattle.hy_event.specs.declared.Phase.TheVariants as phase
+use Rattle.hy_protocol.specs.declared.Phase.TheVariants as phase
 use Rattle.hy_event.specs.Gathering.{select_read_plan, group_read_plan}
 use Rattle.hy_event.specs.Sessions.{label_of}
 use Rattle.hy_event.specs.Events.{Part}
 use Rattle.hy_machine.specs.declared.Setting.{Setting}
-use Rattle.hy_machine.specs.States.{State, Open as MachineOpen, Phase as Stage}
-use Rattle.hy_machine.specs.States as stage
+use Rattle.hy_machine.specs.States.{State, Open as MachineOpen}
 use Rattle.hy_machine.specs.Tables.{Tables}
 use Rattle.hy_machine.specs.Holding.{undone}
 use Rattle.hy_machine.specs.Kept.{is_stamping}
 use Rattle.hy_refinement.specs.Transactions.{IsOpen}
-use Rattle.hy_refinement.specs.Sessions.{PhaseShows, GatheredBy, tables_taken}
+use Rattle.hy_refinement.specs.Sessions.{GatheredBy, tables_taken}
 use Rattle.hy_refinement.specs.Taken.{AtChunk}
 use Rattle.hy_refinement.proofs.RivalTops.{open_shown}
 use Rattle.hy_refinement.proofs.WritesChunk.{AtWork}
@@ -47,14 +45,6 @@ gathered_first setting tables (Some (Delete table pred)) = refl
 
 -- ---- at work
 
-working_there : (visited count : ℕ) (there : Stage) → PhaseShows (phase.Working visited count) there → there ≡ stage.Working visited count
-working_there visited count (stage.Working other others) e =
-    let one = e.0 in
-    let two = e.1 in
-    (cc)
-working_there visited count (stage.Stamping other) e = absurd e
-working_there visited count (stage.Undoing other cause) e = absurd e
-
 module _ (one_id : (a b : Label) → IsLabel a → IsLabel b → id_of a ≡ id_of b → a ≡ b) (setting : Setting) (state : State) (parts : List Part)
     (sessions : List SessionData) (number : ℕ) (session : SessionData) (now : Open) (current : MachineOpen) (table chunk : ℕ) (old : ChunkData)
     (visited count : ℕ) (at : AtChunk setting state parts sessions number session now current table chunk old)
@@ -65,10 +55,10 @@ module _ (one_id : (a b : Label) → IsLabel a → IsLabel b → id_of a ≡ id_
   is : IsOpen state sessions number session now current
   is = at.at_open.is_open
 
-  works : current.phase ≡ stage.Working visited count
+  works : current.phase ≡ phase.Working visited count
   works =
       let shows_open = open_shown setting state core sessions number session now current at.at_open.shown.shows.sessions_show is in
-      working_there visited count current.phase (subst (λ (p : Phase). PhaseShows p current.phase) phase_is shows_open.open_shows.phase)
+      sym shows_open.open_shows.phase ∙ phase_is
 
   unmarked : state.mark ≡ Some number → ⊥
   unmarked e =

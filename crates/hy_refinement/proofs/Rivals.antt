@@ -17,7 +17,9 @@ use Rattle.hy_event.specs.declared.SessionData.{SessionData}
 use Rattle.hy_event.specs.declared.Open.{Open}
 use Rattle.hy_event.specs.Sessions.{viewer_of, label_of as label_here}
 use Rattle.hy_machine.specs.declared.Setting.{Setting}
-use Rattle.hy_machine.specs.States.{State, Session, Open as MachineOpen, Phase, Working, Stamping, Undoing}
+use Rattle.hy_protocol.specs.declared.Phase.{Phase}
+use Rattle.hy_protocol.specs.declared.Phase.TheVariants.{Working, Stamping, Undoing}
+use Rattle.hy_machine.specs.States.{State, Session, Open as MachineOpen}
 use Rattle.hy_machine.specs.Tables.{Entry, Cell, chunk_of}
 use Rattle.hy_machine.specs.Positions.{item_at, last_some}
 use Rattle.hy_machine.specs.Writes.{written_chunks, is_among}

@@ -14,16 +14,15 @@ use Rattle.hy_undo.specs.Chunks.{ChunkData, StampedPlace, AtOwn, Everywhere, is_
 use Rattle.hy_journal.specs.declared.CoreData.{CoreData}
 use Rattle.hy_event.specs.declared.SessionData.{SessionData}
 use Rattle.hy_event.specs.declared.Open.{Open}
-use Rattle.hy_event.specs.declared.Phase.TheVariants as phase
-use Rattle.hy_event.specs.declared.Progress.{Progress}
+use Rattle.hy_protocol.specs.declared.Phase.TheVariants as phase
+use Rattle.hy_protocol.specs.declared.Progress.{Progress}
 use Rattle.hy_event.specs.Sessions.{label_of as label_here}
 use Rattle.hy_event.specs.Stamping.{StampVisit}
 use Rattle.hy_event.specs.Events.{Part, ChunkPart}
 use Rattle.hy_machine.specs.declared.Setting.{Setting}
 use Rattle.hy_machine.specs.States.{State, Session, Open as MachineOpen}
 use Rattle.hy_machine.specs.Tables.{Entry, opening_tables, chunk_of}
-use Rattle.hy_machine.specs.States as stage
-use Rattle.hy_machine.specs.Turns.{Visits}
+use Rattle.hy_protocol.specs.Turns.{Visits}
 use Rattle.hy_machine.specs.Positions.{item_at}
 use Rattle.hy_machine.specs.Writes.{written_chunks, is_among}
 use Rattle.hy_machine.specs.Sessions.{session_at, snapshot, view}
@@ -49,22 +48,22 @@ use Rattle.hy_refinement.proofs.FramesCores.{core_stays}
 use Rattle.hy_refinement.proofs.FramesTurns.{everywhere_length, everywhere_at, chunk_still}
 use Rattle.hy_refinement.proofs.StillOpens.{open_after}
 use Rattle.hy_refinement.proofs.StampedChunks.{written_apart, not_before, is_with_it, others_with_it}
-use Rattle.hy_refinement.proofs.StampedStages.{stage_of, unstamped_is}
+use Rattle.hy_refinement.proofs.StampedStages.{unstamped_is}
 use Rattle.hy_refinement.proofs.StampedPlaces.{stamped_shows}
 use Rattle.hy_refinement.proofs.UnwrittenPlaces.{StoodSo, shows_still}
 use Rattle.hy_refinement.proofs.ChunkPlaces.{has_position}
 
 module _ (setting : Setting) (state : State) (parts : List Part) (sessions : List SessionData) (number : ℕ) (session : SessionData)
-    (now : Open) (current : MachineOpen) (table chunk : ℕ) (old : ChunkData) (visited time : ℕ) (progress : Progress) (gone : SessionData) (new : ChunkData)
+    (now : Open) (current : MachineOpen) (table chunk : ℕ) (old : ChunkData) (visited : ℕ) (progress : Progress) (gone : SessionData) (new : ChunkData)
     (at : AtChunk setting state parts sessions number session now current table chunk old)
-    (phase_is : now.phase ≡ phase.Stamping visited time)
+    (phase_is : now.phase ≡ phase.Stamping visited)
     (turn_of : slice_get (written_chunks setting current.begun.own) visited ≡ Some (table, chunk))
-    (visit : StampVisit session now visited time old progress gone new) where
+    (visit : StampVisit session now visited old progress gone new) where
   abbrev then : Open
-  then = record now { phase = phase.Stamping (suc visited) time }
+  then = record now { phase = phase.Stamping (suc visited) }
 
   abbrev later : MachineOpen
-  later = record { begun = current.begun; phase = stage.Stamping (suc visited) }
+  later = record { begun = current.begun; phase = phase.Stamping (suc visited) }
 
   abbrev after : State
   after = gone_on state number later
@@ -75,6 +74,9 @@ module _ (setting : Setting) (state : State) (parts : List Part) (sessions : Lis
   abbrev core : CoreData
   core = at.at_open.shown.shows.core
 
+  abbrev time : ℕ
+  time = now.time
+
   is : IsOpen state sessions number session now current
   is = at.at_open.is_open
 
@@ -84,8 +86,8 @@ module _ (setting : Setting) (state : State) (parts : List Part) (sessions : Lis
   opened : OpenShows setting state core number now current
   opened = open_shown setting state core sessions number session now current at.at_open.shown.shows.sessions_show is
 
-  stage_is : current.phase ≡ stage.Stamping visited
-  stage_is = stage_of visited time now.phase current.phase phase_is opened.open_shows.phase
+  stage_is : current.phase ≡ phase.Stamping visited
+  stage_is = sym opened.open_shows.phase ∙ phase_is
 
   marks_time : is_stamping current.phase ≡ true
   marks_time = ap is_stamping stage_is
@@ -93,8 +95,8 @@ module _ (setting : Setting) (state : State) (parts : List Part) (sessions : Lis
   mark : state.mark ≡ Some number
   mark = at.at_open.shown.kept.ranks.stamping number current is.open_there marks_time
 
-  its_time : StampingShows core now current time
-  its_time = core_shows.mark_shows.stamping number session now current is visited time phase_is
+  its_time : StampingShows core now current
+  its_time = core_shows.mark_shows.stamping number session now current is visited phase_is
 
   has_noted : slice_get core.entries (length state.order - 1) ≡ Some its_time.entry
   has_noted = ap (λ (n : ℕ). slice_get core.entries (n - 1)) (sym core_shows.entries_show.count) ∙ its_time.last
@@ -104,16 +106,13 @@ module _ (setting : Setting) (state : State) (parts : List Part) (sessions : Lis
   keeps : KeepsStart now then current later
   keeps = record { start = refl; prefix = refl; cover = refl; prefix_there = refl; low_there = refl }
 
-  stamping_still : (done at' : ℕ) → then.phase ≡ phase.Stamping done at' → StampingShows core then later at'
-  stamping_still done at' e = record {
+  stamping_still : (done : ℕ) → then.phase ≡ phase.Stamping done → StampingShows core then later
+  stamping_still done e = record {
     entry = its_time.entry;
     last = its_time.last;
-    time_is = its_time.time_is ∙ time_of e;
+    time_is = its_time.time_is;
     wrote = its_time.wrote;
   }
-    where
-      time_of : {a b c d : ℕ} → phase.Stamping a b ≡ phase.Stamping c d → b ≡ d
-      time_of f = cc
 
   went : WentOn setting state core number then later
   went = record {
@@ -323,14 +322,14 @@ module _ (setting : Setting) (state : State) (parts : List Part) (sessions : Lis
     new_shown = pruned_show setting after core news session now.cover table chunk visit.between new at.at_open.shown.below_ids core_then
         opened.cover_holds.held between_is between_shows visit.prunes
 
-    stamp_taken : IsTaken setting state parts sessions number (Visits [] (stage.Stamping (suc visited))) (chunk_number setting table chunk) progress gone
+    stamp_taken : IsTaken setting state parts sessions number (Visits [] (phase.Stamping (suc visited))) (chunk_number setting table chunk) progress gone
         (ChunkPart new)
-    stamp_taken = going.visits setting state parts sessions number session now current [] (phase.Stamping (suc visited) time) [] (stage.Stamping (suc visited))
+    stamp_taken = going.visits setting state parts sessions number session now current [] (phase.Stamping (suc visited)) [] (phase.Stamping (suc visited))
         (chunk_number setting table chunk) progress gone (ChunkPart new) is visit.turn
         (visits_show setting state parts sessions number session now then current later table chunk old new at keeps went elsewhere new_shown.0 new_shown.1)
 
 pub stamps_are : VisitedChunksShow → PrunedChunksShow → ChunkVisitsShow → GoingOnIsTaken → StampsAreTaken
-stamps_are visited_show pruned_show visits_show going setting state parts sessions number session now current table chunk old visited time progress gone new at
+stamps_are visited_show pruned_show visits_show going setting state parts sessions number session now current table chunk old visited progress gone new at
     phase_is turn_of visit =
-    stamp_taken setting state parts sessions number session now current table chunk old visited time progress gone new at phase_is turn_of visit
+    stamp_taken setting state parts sessions number session now current table chunk old visited progress gone new at phase_is turn_of visit
     visited_show pruned_show visits_show going

@@ -9,16 +9,16 @@ use Rattle.hy_bound.specs.declared.Reply.{Reply}
 use Rattle.hy_bound.specs.declared.Txn.{Txn}
 use Rattle.hy_undo.specs.Chunks.{ChunkData}
 use Rattle.hy_render.specs.declared.Ending.{Ending}
-use Rattle.hy_render.specs.declared.Ending.TheVariants as ending
+use Rattle.hy_render.specs.declared.Ending.TheVariants.{Committed, RolledBack}
 use Rattle.hy_journal.specs.declared.CoreData.{CoreData}
 use Rattle.hy_journal.specs.Core.{blocked_by}
 use Rattle.hy_event.specs.declared.SessionData.{SessionData}
 use Rattle.hy_event.specs.declared.Open.{Open}
 use Rattle.hy_event.specs.declared.Need.{Need}
 use Rattle.hy_event.specs.declared.Need.TheVariants.{Core, Chunk, Done}
-use Rattle.hy_event.specs.declared.Phase.{Phase}
-use Rattle.hy_event.specs.declared.Phase.TheVariants as phase
-use Rattle.hy_event.specs.declared.Progress.{Progress}
+use Rattle.hy_protocol.specs.declared.Phase.{Phase}
+use Rattle.hy_protocol.specs.declared.Phase.TheVariants as phase
+use Rattle.hy_protocol.specs.declared.Progress.{Progress}
 use Rattle.hy_event.specs.Sessions.{label_of, written_chunks as chunks_written}
 use Rattle.hy_event.specs.Needs.{phase_need, working_need, closing_need, written_need, chunk_or_core}
 use Rattle.hy_event.specs.Stamping.{StampVisit}
@@ -26,14 +26,14 @@ use Rattle.hy_event.specs.Undoing.{UndoVisit}
 use Rattle.hy_event.specs.CoreTurns.{TakesAtCore, phase_turn as phase_at, working_turn as working_at, unless_blocked as unless_waits, closing_turn as closes_at}
 use Rattle.hy_event.specs.Events.{Part, ChunkPart, CorePart, PhaseVisit, WorkingVisit, ClosingVisit}
 use Rattle.hy_machine.specs.declared.Setting.{Setting}
-use Rattle.hy_machine.specs.States.{State, Open as MachineOpen, Cause, RolledBack, Phase as Stage}
-use Rattle.hy_machine.specs.Turns.{Ends, Visits, phase_turn, working_turn, closing_turn, stamp_turn, undo_turn, unless_blocked, ending_of}
-use Rattle.hy_machine.specs.States as stage
+use Rattle.hy_machine.specs.States.{State, Open as MachineOpen}
+use Rattle.hy_protocol.specs.Turns.{Ends, Visits, unless_blocked}
+use Rattle.hy_machine.specs.Turns.{phase_turn, working_turn, closing_turn, stamp_turn, undo_turn}
 use Rattle.hy_machine.specs.Writes.{written_chunks}
 use Rattle.hy_machine.specs.Sessions.{session_at, txn_at, blocker, view}
 use Rattle.hy_machine.specs.Holding.{undone}
-use Rattle.hy_machine.specs.Kept.{is_stamping, PhaseFits, visits_in}
-use Rattle.hy_refinement.specs.Sessions.{PhaseShows, statement_at}
+use Rattle.hy_machine.specs.Kept.{is_stamping, PhaseFits}
+use Rattle.hy_refinement.specs.Sessions.{statement_at}
 use Rattle.hy_refinement.specs.Steps.{ReadsFit}
 use Rattle.hy_refinement.specs.Taken.{AtChunk, AtStatement, IsTaken, core_number, chunk_number}
 use Rattle.hy_refinement.proofs.StepLaws.{StepLaws}
@@ -97,13 +97,13 @@ undo_chunk : StepLaws
     → (setting : Setting) (state : State) (parts : List Part) (sessions : List SessionData) (number : ℕ)
     (session : SessionData) (now : Open) (current : MachineOpen) (txn : Txn)
     → (is : Opening setting state parts sessions number session now current txn)
-    → (visited : ℕ) (cause : Cause) (ends : Ending) → ends ≡ ending_of cause → is_stamping current.phase ≡ false → undone current.phase ≡ visited
+    → (visited : ℕ) (cause : Ending) → is_stamping current.phase ≡ false → undone current.phase ≡ visited
     → (table chunk : ℕ) (old : ChunkData) → written_need session now visited ≡ Chunk table chunk
     → slice_get parts (table * setting.chunks + chunk) ≡ Some (ChunkPart old)
-    → (progress : Progress) (after : SessionData) (new : ChunkData) → UndoVisit session now visited ends old progress after new
+    → (progress : Progress) (after : SessionData) (new : ChunkData) → UndoVisit session now visited cause old progress after new
     → IsTaken setting state parts sessions number (undo_turn setting state number current.begun visited cause)
     (chunk_number setting table chunk) progress after (ChunkPart new)
-undo_chunk laws setting state parts sessions number session now current txn is visited cause ends same working so_far table chunk old need found progress after new visit =
+undo_chunk laws setting state parts sessions number session now current txn is visited cause working so_far table chunk old need found progress after new visit =
     by_left (written_need session now visited) need (what_is_left setting session now current visited is.written)
   where
     by_left : (needed : Need) → needed ≡ Chunk table chunk → Left setting current visited needed
@@ -116,25 +116,24 @@ undo_chunk laws setting state parts sessions number session now current txn is v
         let chosen : slice_get (written_chunks setting current.begun.own) visited ≡ Some (table, chunk) =
         one ∙ (ap (λ (t : ℕ). Some (t, another)) here.0 ∙ ap (λ (c : ℕ). Some (table, c)) here.1) in
         subst (λ (b : Bool). IsTaken setting state parts sessions number
-        (cond b (Visits [] (stage.Undoing (suc visited) cause)) (unless_blocked (blocker state number) (Ends (ending_of cause))))
+        (cond b (Visits [] (phase.Undoing (suc visited) cause)) (unless_blocked (blocker state number) (Ends cause)))
         (chunk_number setting table chunk) progress after (ChunkPart new))
         (sym (left_within (written_chunks setting current.begun.own) visited (table, chunk) chosen))
         (laws.undos setting state parts sessions number session now current table chunk old visited cause progress after new
         (written_part setting state parts sessions number session now current txn is visited table chunk old chosen found)
-        working so_far chosen
-        (subst (λ (e : Ending). UndoVisit session now visited e old progress after new) same visit))
+        working so_far chosen visit)
 
 stamp_chunk : StepLaws
     → (setting : Setting) (state : State) (parts : List Part) (sessions : List SessionData) (number : ℕ)
     (session : SessionData) (now : Open) (current : MachineOpen) (txn : Txn)
     → (is : Opening setting state parts sessions number session now current txn)
-    → (visited time : ℕ) → now.phase ≡ phase.Stamping visited time
+    → (visited : ℕ) → now.phase ≡ phase.Stamping visited
     → (table chunk : ℕ) (old : ChunkData) → written_need session now visited ≡ Chunk table chunk
     → slice_get parts (table * setting.chunks + chunk) ≡ Some (ChunkPart old)
-    → (progress : Progress) (after : SessionData) (new : ChunkData) → StampVisit session now visited time old progress after new
+    → (progress : Progress) (after : SessionData) (new : ChunkData) → StampVisit session now visited old progress after new
     → IsTaken setting state parts sessions number (stamp_turn setting state current.begun visited)
     (chunk_number setting table chunk) progress after (ChunkPart new)
-stamp_chunk laws setting state parts sessions number session now current txn is visited time stamps table chunk old need found progress after new visit =
+stamp_chunk laws setting state parts sessions number session now current txn is visited stamps table chunk old need found progress after new visit =
     by_left (written_need session now visited) need (what_is_left setting session now current visited is.written)
   where
     by_left : (needed : Need) → needed ≡ Chunk table chunk → Left setting current visited needed
@@ -147,10 +146,10 @@ stamp_chunk laws setting state parts sessions number session now current txn is 
         let chosen : slice_get (written_chunks setting current.begun.own) visited ≡ Some (table, chunk) =
         one ∙ (ap (λ (t : ℕ). Some (t, another)) here.0 ∙ ap (λ (c : ℕ). Some (table, c)) here.1) in
         subst (λ (b : Bool). IsTaken setting state parts sessions number
-        (cond b (Visits [] (stage.Stamping (suc visited))) (Ends (ending.Committed (length state.order - 1))))
+        (cond b (Visits [] (phase.Stamping (suc visited))) (Ends (Committed (length state.order - 1))))
         (chunk_number setting table chunk) progress after (ChunkPart new))
         (sym (left_within (written_chunks setting current.begun.own) visited (table, chunk) chosen))
-        (laws.stamps setting state parts sessions number session now current table chunk old visited time progress after new
+        (laws.stamps setting state parts sessions number session now current table chunk old visited progress after new
         (written_part setting state parts sessions number session now current txn is visited table chunk old chosen found)
         stamps chosen visit)
 
@@ -159,24 +158,17 @@ pub chunk_step : StepLaws
     → (setting : Setting) (state : State) (parts : List Part) (sessions : List SessionData) (number : ℕ)
     (session : SessionData) (now : Open) (current : MachineOpen) (txn : Txn)
     → (is : Opening setting state parts sessions number session now current txn)
-    → (here : Phase) (there : Stage) → now.phase ≡ here → current.phase ≡ there → PhaseShows here there
-    → PhaseFits setting (Some txn) current.begun there
-    → (table chunk : ℕ) (old : ChunkData) → phase_need session txn now here ≡ Chunk table chunk
+    → (stands : Phase) → now.phase ≡ stands → current.phase ≡ stands → PhaseFits setting (Some txn) current.begun stands
+    → (table chunk : ℕ) (old : ChunkData) → phase_need session txn now stands ≡ Chunk table chunk
     → slice_get parts (table * setting.chunks + chunk) ≡ Some (ChunkPart old)
-    → (progress : Progress) (after : SessionData) (new : ChunkData) → PhaseVisit session txn now here old progress after new
-    → IsTaken setting state parts sessions number (phase_turn setting state number txn current.begun there)
+    → (progress : Progress) (after : SessionData) (new : ChunkData) → PhaseVisit session txn now stands old progress after new
+    → IsTaken setting state parts sessions number (phase_turn setting state number txn current.begun stands)
     (chunk_number setting table chunk) progress after (ChunkPart new)
-chunk_step laws setting state parts sessions number session now current txn is (phase.Working visited count) (stage.Working other others) at_here at_there shows fits table chunk old need found progress after new visit =
-    subst (λ (n : ℕ). IsTaken setting state parts sessions number
-    (working_turn setting state number txn current.begun n others (slice_get txn.statements (length current.begun.replies)))
-    (chunk_number setting table chunk) progress after (ChunkPart new)) shows.0
-    (subst (λ (n : ℕ). IsTaken setting state parts sessions number
-    (working_turn setting state number txn current.begun visited n (slice_get txn.statements (length current.begun.replies)))
-    (chunk_number setting table chunk) progress after (ChunkPart new)) shows.1
-    (subst (λ (replies : List Reply). IsTaken setting state parts sessions number
+chunk_step laws setting state parts sessions number session now current txn is (phase.Working visited count) at_here at_there fits table chunk old need found progress after new visit =
+    subst (λ (replies : List Reply). IsTaken setting state parts sessions number
     (working_turn setting state number txn current.begun visited count (slice_get txn.statements (length replies)))
     (chunk_number setting table chunk) progress after (ChunkPart new)) is.replies
-    (by_statement (slice_get txn.statements (length now.replies)) refl need visit)))
+    (by_statement (slice_get txn.statements (length now.replies)) refl need visit)
   where
     working : is_stamping current.phase ≡ false
     working = ap is_stamping at_there
@@ -189,7 +181,7 @@ chunk_step laws setting state parts sessions number session now current txn is (
         (chunk_number setting table chunk) progress after (ChunkPart new)
     by_closing true need visit = absurd visit
     by_closing false need visit =
-        undo_chunk laws setting state parts sessions number session now current txn is 0 RolledBack ending.RolledBack refl working none_undone
+        undo_chunk laws setting state parts sessions number session now current txn is 0 RolledBack working none_undone
         table chunk old need found progress after new visit
 
     by_statement : (statement : Option Bound) → slice_get txn.statements (length now.replies) ≡ statement
@@ -207,28 +199,17 @@ chunk_step laws setting state parts sessions number session now current txn is (
             statement_is = ap (λ (txn : Option Txn). statement_at txn (length now.replies)) is.txn_is ∙ at;
           };
           reads_fit = subst (λ (statement : Option Bound). ReadsFit setting (view setting state current.begun) statement) at is.reads_fit;
-          visits = subst (λ (n : ℕ). (n ≡ 0) ⊎ (n < visits_in setting statement)) (sym shows.0)
-              (fits.visits statement (ap (λ (replies : List Reply). slice_get txn.statements (length replies)) (sym is.replies) ∙ at));
+          visits = fits.visits statement (ap (λ (replies : List Reply). slice_get txn.statements (length replies)) (sym is.replies) ∙ at);
           shapes = is.shapes;
           chunks = is.chunks;
           found = found;
         })
         need progress after new visit
-chunk_step laws setting state parts sessions number session now current txn is (phase.Working visited count) (stage.Stamping other) at_here at_there shows fits table chunk old need found progress after new visit = absurd shows
-chunk_step laws setting state parts sessions number session now current txn is (phase.Working visited count) (stage.Undoing other cause) at_here at_there shows fits table chunk old need found progress after new visit = absurd shows
-chunk_step laws setting state parts sessions number session now current txn is (phase.Stamping visited time) (stage.Working other others) at_here at_there shows fits table chunk old need found progress after new visit = absurd shows
-chunk_step laws setting state parts sessions number session now current txn is (phase.Stamping visited time) (stage.Stamping other) at_here at_there shows fits table chunk old need found progress after new visit =
-    subst (λ (n : ℕ). IsTaken setting state parts sessions number (stamp_turn setting state current.begun n)
-    (chunk_number setting table chunk) progress after (ChunkPart new)) shows
-    (stamp_chunk laws setting state parts sessions number session now current txn is visited time at_here table chunk old need found progress after new visit)
-chunk_step laws setting state parts sessions number session now current txn is (phase.Stamping visited time) (stage.Undoing other cause) at_here at_there shows fits table chunk old need found progress after new visit = absurd shows
-chunk_step laws setting state parts sessions number session now current txn is (phase.Undoing visited ends) (stage.Working other others) at_here at_there shows fits table chunk old need found progress after new visit = absurd shows
-chunk_step laws setting state parts sessions number session now current txn is (phase.Undoing visited ends) (stage.Stamping other) at_here at_there shows fits table chunk old need found progress after new visit = absurd shows
-chunk_step laws setting state parts sessions number session now current txn is (phase.Undoing visited ends) (stage.Undoing other cause) at_here at_there shows fits table chunk old need found progress after new visit =
-    subst (λ (n : ℕ). IsTaken setting state parts sessions number (undo_turn setting state number current.begun n cause)
-    (chunk_number setting table chunk) progress after (ChunkPart new)) shows.0
-    (undo_chunk laws setting state parts sessions number session now current txn is visited cause ends shows.1 (ap is_stamping at_there)
-    (ap undone at_there ∙ sym shows.0) table chunk old need found progress after new visit)
+chunk_step laws setting state parts sessions number session now current txn is (phase.Stamping visited) at_here at_there fits table chunk old need found progress after new visit =
+    stamp_chunk laws setting state parts sessions number session now current txn is visited at_here table chunk old need found progress after new visit
+chunk_step laws setting state parts sessions number session now current txn is (phase.Undoing visited cause) at_here at_there fits table chunk old need found progress after new visit =
+    undo_chunk laws setting state parts sessions number session now current txn is visited cause (ap is_stamping at_there) (ap undone at_there)
+    table chunk old need found progress after new visit
 
 -- ---- the core
 
@@ -247,14 +228,13 @@ pub core_step : StepLaws
     → (setting : Setting) (state : State) (parts : List Part) (sessions : List SessionData) (number : ℕ)
     (session : SessionData) (now : Open) (current : MachineOpen) (txn : Txn)
     → (is : Opening setting state parts sessions number session now current txn)
-    → (here : Phase) (there : Stage) → now.phase ≡ here → current.phase ≡ there → PhaseShows here there
-    → phase_need session txn now here ≡ Core
+    → (stands : Phase) → now.phase ≡ stands → current.phase ≡ stands → phase_need session txn now stands ≡ Core
     → (progress : Progress) (after : SessionData) (new : CoreData)
-    → TakesAtCore session (phase_at session is.at_core.at_open.shown.shows.core txn now here) progress after new
-    → IsTaken setting state parts sessions number (phase_turn setting state number txn current.begun there) (core_number setting) progress after (CorePart new)
-core_step laws setting state parts sessions number session now current txn is (phase.Working visited count) (stage.Working other others) at_here at_there shows need progress after new takes =
+    → TakesAtCore session is.at_core.at_open.shown.shows.core (phase_at session is.at_core.at_open.shown.shows.core txn now stands) progress after new
+    → IsTaken setting state parts sessions number (phase_turn setting state number txn current.begun stands) (core_number setting) progress after (CorePart new)
+core_step laws setting state parts sessions number session now current txn is (phase.Working visited count) at_here at_there need progress after new takes =
     subst (λ (replies : List Reply). IsTaken setting state parts sessions number
-    (working_turn setting state number txn current.begun other others (slice_get txn.statements (length replies)))
+    (working_turn setting state number txn current.begun visited count (slice_get txn.statements (length replies)))
     (core_number setting) progress after (CorePart new)) is.replies
     (by_statement (slice_get txn.statements (length now.replies)) refl need takes)
   where
@@ -265,18 +245,18 @@ core_step laws setting state parts sessions number session now current txn is (p
     working = ap is_stamping at_there
 
     by_closing : AtStatement setting state number now visited count None → (commits : Bool) → closing_need session now commits ≡ Core
-        → TakesAtCore session (Some (unless_waits core (blocked_by core (label_of session)) (closes_at session core now commits))) progress after new
+        → TakesAtCore session core (Some (unless_waits core (blocked_by core (label_of session)) (closes_at session core now commits))) progress after new
         → IsTaken setting state parts sessions number (closing_turn setting state number current.begun commits) (core_number setting) progress after (CorePart new)
     by_closing stands true need takes =
         commit_step laws setting state parts sessions number session now current is.at_core visited count stands working progress after new takes
     by_closing stands false need takes =
-        end_step laws setting state parts sessions number session now current is.at_core 0 RolledBack ending.RolledBack refl working (ap undone at_there)
+        end_step laws setting state parts sessions number session now current is.at_core 0 RolledBack working (ap undone at_there)
         (over_by setting session now current 0 is.written need) progress after new takes
 
     by_statement : (statement : Option Bound) → slice_get txn.statements (length now.replies) ≡ statement
         → working_need session txn now visited statement ≡ Core
-        → TakesAtCore session (working_at session core txn now statement) progress after new
-        → IsTaken setting state parts sessions number (working_turn setting state number txn current.begun other others statement)
+        → TakesAtCore session core (working_at session core txn now statement) progress after new
+        → IsTaken setting state parts sessions number (working_turn setting state number txn current.begun visited count statement)
         (core_number setting) progress after (CorePart new)
     by_statement None at need takes =
         by_closing (record {
@@ -284,21 +264,13 @@ core_step laws setting state parts sessions number session now current txn is (p
           statement_is = ap (λ (txn : Option Txn). statement_at txn (length now.replies)) is.txn_is ∙ at;
         }) txn.commits need takes
     by_statement (Some statement) at need takes = absurd takes
-core_step laws setting state parts sessions number session now current txn is (phase.Working visited count) (stage.Stamping other) at_here at_there shows need progress after new takes = absurd shows
-core_step laws setting state parts sessions number session now current txn is (phase.Working visited count) (stage.Undoing other cause) at_here at_there shows need progress after new takes = absurd shows
-core_step laws setting state parts sessions number session now current txn is (phase.Stamping visited time) (stage.Working other others) at_here at_there shows need progress after new takes = absurd shows
-core_step laws setting state parts sessions number session now current txn is (phase.Stamping visited time) (stage.Stamping other) at_here at_there shows need progress after new takes =
+core_step laws setting state parts sessions number session now current txn is (phase.Stamping visited) at_here at_there need progress after new takes =
     let over = over_by setting session now current visited is.written need in
-    subst (λ (n : ℕ). IsTaken setting state parts sessions number (stamp_turn setting state current.begun n) (core_number setting) progress after (CorePart new)) shows
-    (subst (λ (b : Bool). IsTaken setting state parts sessions number
-    (cond b (Visits [] (stage.Stamping (suc visited))) (Ends (ending.Committed (length state.order - 1))))
+    subst (λ (b : Bool). IsTaken setting state parts sessions number
+    (cond b (Visits [] (phase.Stamping (suc visited))) (Ends (Committed (length state.order - 1))))
     (core_number setting) progress after (CorePart new))
     (sym (le-ltb visited (length (written_chunks setting current.begun.own)) over))
-    (laws.leaves setting state parts sessions number session now current visited time progress after new is.at_core.at_open at_here over takes))
-core_step laws setting state parts sessions number session now current txn is (phase.Stamping visited time) (stage.Undoing other cause) at_here at_there shows need progress after new takes = absurd shows
-core_step laws setting state parts sessions number session now current txn is (phase.Undoing visited ends) (stage.Working other others) at_here at_there shows need progress after new takes = absurd shows
-core_step laws setting state parts sessions number session now current txn is (phase.Undoing visited ends) (stage.Stamping other) at_here at_there shows need progress after new takes = absurd shows
-core_step laws setting state parts sessions number session now current txn is (phase.Undoing visited ends) (stage.Undoing other cause) at_here at_there shows need progress after new takes =
-    subst (λ (n : ℕ). IsTaken setting state parts sessions number (undo_turn setting state number current.begun n cause) (core_number setting) progress after (CorePart new)) shows.0
-    (end_step laws setting state parts sessions number session now current is.at_core visited cause ends shows.1 (ap is_stamping at_there)
-    (ap undone at_there ∙ sym shows.0) (over_by setting session now current visited is.written need) progress after new takes)
+    (laws.leaves setting state parts sessions number session now current visited progress after new is.at_core.at_open at_here over takes)
+core_step laws setting state parts sessions number session now current txn is (phase.Undoing visited cause) at_here at_there need progress after new takes =
+    end_step laws setting state parts sessions number session now current is.at_core visited cause (ap is_stamping at_there)
+    (ap undone at_there) (over_by setting session now current visited is.written need) progress after new takes

@@ -12,13 +12,15 @@ use Rattle.hy_undo.specs.Chunks.{ChunkData}
 use Rattle.hy_event.specs.declared.SessionData.{SessionData}
 use Rattle.hy_event.specs.declared.Open.{Open}
 use Rattle.hy_event.specs.declared.Need.TheVariants.{Chunk}
-use Rattle.hy_event.specs.declared.Progress.{Progress}
+use Rattle.hy_protocol.specs.declared.Progress.{Progress}
 use Rattle.hy_event.specs.Needs.{statement_need, insert_need, checks_of as checks_here}
 use Rattle.hy_event.specs.Inserting.{CheckVisit, PlaceVisit, InsertVisit}
 use Rattle.hy_event.specs.Events.{Part, ChunkPart, StatementVisit}
+use Rattle.hy_machine.specs.Writes.{Write}
 use Rattle.hy_machine.specs.declared.Setting.{Setting}
 use Rattle.hy_machine.specs.States.{State, Open as MachineOpen}
-use Rattle.hy_machine.specs.Turns.{Turn, statement_turn, insert_turn, check_turn, place_turn}
+use Rattle.hy_protocol.specs.Turns.{Turn}
+use Rattle.hy_machine.specs.Turns.{statement_turn, insert_turn, check_turn, place_turn}
 use Rattle.hy_machine.specs.Sessions.{view}
 use Rattle.hy_machine.specs.Visits.{checks_of, sees_key, free_position}
 use Rattle.hy_machine.specs.Kept.{visits_in}
@@ -112,7 +114,7 @@ insert_step laws setting state parts sessions number session now current visited
         (free_position setting state current.begun inserted (visited - checks_of setting at_key))))
         (sym e ∙ ap (λ (n : ℕ). nat_lt visited n) (same at_key))
 
-    taken : Turn → Type 0
+    taken : Turn Write → Type 0
     taken turn = IsTaken setting state parts sessions number turn (chunk_number setting table chunk) progress after (ChunkPart new)
 
     checking : (at_key : Option ℕ) → nat_lt visited (checks_here session at_key) ≡ true → Chunk inserted visited ≡ Chunk table chunk

@@ -12,12 +12,14 @@ use Rattle.hy_event.specs.declared.SessionData.{SessionData}
 use Rattle.hy_event.specs.declared.Open.{Open}
 use Rattle.hy_event.specs.declared.Need.TheVariants.{Core, Chunk}
 use Rattle.hy_event.specs.Sessions.{txn_at as txn_here}
-use Rattle.hy_event.specs.Needs.{session_need}
-use Rattle.hy_event.specs.CoreTurns.{TakesAtCore, session_turn as session_at_core, unless_blocked as unless_waits, begin_turn}
-use Rattle.hy_event.specs.Events.{Part, ChunkPart, CorePart, SessionVisit}
+use Rattle.hy_event.specs.Needs.{session_need, phase_need}
+use Rattle.hy_event.specs.CoreTurns.{TakesAtCore, session_turn as session_at_core, phase_turn as phase_at_core, unless_blocked as unless_waits, begin_turn}
+use Rattle.hy_event.specs.Events.{Part, ChunkPart, CorePart, SessionVisit, PhaseVisit}
+use Rattle.hy_protocol.specs.declared.Phase.{Phase}
 use Rattle.hy_machine.specs.declared.Setting.{Setting}
 use Rattle.hy_machine.specs.States.{State, Open as MachineOpen}
-use Rattle.hy_machine.specs.Turns.{Begins, turn, session_turn, unless_blocked}
+use Rattle.hy_protocol.specs.Turns.{Begins, unless_blocked}
+use Rattle.hy_machine.specs.Turns.{turn, session_turn}
 use Rattle.hy_machine.specs.Sessions.{session_at, txn_at, blocker, view}
 use Rattle.hy_machine.specs.Kept.{PhaseFits}
 use Rattle.hy_refinement.specs.Sessions.{SessionShows, NowShows, OpenShows, statement_at}
@@ -109,26 +111,27 @@ steps_are laws setting state parts sessions number session part old progress aft
         record { shown = shown; is_open = record { found = found; open_here = here_is; open_there = there_is } } in
         chunk_step laws setting state parts sessions number session now current txn
         (opening laws setting state parts sessions number session now current txn at shows now_shows fit txn_is)
-        now.phase current.phase refl refl now_shows.open_shows.phase
+        current.phase now_shows.open_shows.phase refl
         (subst (λ (txn : Option Txn). PhaseFits setting txn current.begun current.phase) txn_is (shown.kept.fits.opens number current there_is).phase)
-        table chunk old need there progress after new visit
+        table chunk old (subst (λ (stands : Phase). phase_need session txn now stands ≡ Chunk table chunk) now_shows.open_shows.phase need) there
+        progress after new (subst (λ (stands : Phase). PhaseVisit session txn now stands old progress after new) now_shows.open_shows.phase visit)
 
     -- a visit of the core
     at_core : (new : CoreData)
         → (txn : Option Txn) → txn_at setting number (session_at state number) ≡ txn
         → (here : Option Open) → session.now ≡ here → (current : Option MachineOpen) → (session_at state number).now ≡ current
         → NowShows setting state core number here current
-        → session_need session txn here ≡ Core → TakesAtCore session (session_at_core session core txn here) progress after new
+        → session_need session txn here ≡ Core → TakesAtCore session core (session_at_core session core txn here) progress after new
         → IsTaken setting state parts sessions number (session_turn setting state number txn current) (core_number setting) progress after (CorePart new)
     at_core new None txn_is here here_is current there_is now_shows need takes = absurd takes
     at_core new (Some txn) txn_is None here_is (Some current) there_is now_shows need takes = absurd now_shows
     at_core new (Some txn) txn_is None here_is None there_is now_shows need takes =
         by_blocker (blocker state number) refl
-        (subst (λ (by : Option Label). TakesAtCore session (Some (unless_waits core by (begin_turn core))) progress after new)
+        (subst (λ (by : Option Label). TakesAtCore session core (Some (unless_waits core by (begin_turn core))) progress after new)
         (laws.blockers setting state core sessions number session shown.shows.core_shows shown.shows.sessions_show found) takes)
       where
         by_blocker : (by : Option Label) → blocker state number ≡ by
-            → TakesAtCore session (Some (unless_waits core by (begin_turn core))) progress after new
+            → TakesAtCore session core (Some (unless_waits core by (begin_turn core))) progress after new
             → IsTaken setting state parts sessions number (unless_blocked by Begins) (core_number setting) progress after (CorePart new)
         by_blocker None is takes =
             laws.begins setting state parts sessions number session progress after new
@@ -142,7 +145,9 @@ steps_are laws setting state parts sessions number session part old progress aft
         record { shown = shown; is_open = record { found = found; open_here = here_is; open_there = there_is } } in
         core_step laws setting state parts sessions number session now current txn
         (opening laws setting state parts sessions number session now current txn at shows now_shows fit txn_is)
-        now.phase current.phase refl refl now_shows.open_shows.phase need progress after new takes
+        current.phase now_shows.open_shows.phase refl
+        (subst (λ (stands : Phase). phase_need session txn now stands ≡ Core) now_shows.open_shows.phase need) progress after new
+        (subst (λ (stands : Phase). TakesAtCore session core (phase_at_core session core txn now stands) progress after new) now_shows.open_shows.phase takes)
 
     by_visit : {old new : Part} → Visited session part progress after old new → slice_get parts part ≡ Some old
         → IsTaken setting state parts sessions number (turn setting state number) part progress after new
@@ -158,6 +163,6 @@ steps_are laws setting state parts sessions number session part old progress aft
         (sym (core_is part part_is))
         (at_core new (txn_at setting number (session_at state number)) refl session.now refl (session_at state number).now refl shows.now_shows
         (subst (λ (txn : Option Txn). session_need session txn session.now ≡ Core) same need)
-        (subst (λ (core : CoreData). TakesAtCore session (session_at_core session core (txn_at setting number (session_at state number)) session.now) progress after new)
+        (subst (λ (core : CoreData). TakesAtCore session core (session_at_core session core (txn_at setting number (session_at state number)) session.now) progress after new)
         (the_core setting state parts sessions shown old (subst (λ (n : ℕ). slice_get parts n ≡ Some (CorePart old)) (core_is part part_is) there))
-        (subst (λ (txn : Option Txn). TakesAtCore session (session_at_core session old txn session.now) progress after new) same event)))
+        (subst (λ (txn : Option Txn). TakesAtCore session old (session_at_core session old txn session.now) progress after new) same event)))

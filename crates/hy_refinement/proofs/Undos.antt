@@ -11,19 +11,18 @@ use Rattle.hy_undo.specs.Places.{Place}
 use Rattle.hy_undo.specs.Chunks.{ChunkData, Undone, AtOwn, Everywhere, is_own}
 use Rattle.hy_event.specs.declared.SessionData.{SessionData}
 use Rattle.hy_event.specs.declared.Open.{Open}
-use Rattle.hy_event.specs.declared.Phase.TheVariants as phase
+use Rattle.hy_protocol.specs.declared.Phase.TheVariants as phase
 use Rattle.hy_event.specs.Sessions.{label_of}
 use Rattle.hy_event.specs.Turns.{after_visit as visited_by}
 use Rattle.hy_event.specs.Events.{Part, ChunkPart}
+use Rattle.hy_render.specs.declared.Ending.{Ending}
 use Rattle.hy_machine.specs.declared.Setting.{Setting}
-use Rattle.hy_machine.specs.States.{State, Open as MachineOpen, Cause}
-use Rattle.hy_machine.specs.States as stage
+use Rattle.hy_machine.specs.States.{State, Open as MachineOpen}
 use Rattle.hy_machine.specs.Positions.{item_at}
 use Rattle.hy_machine.specs.Writes.{written_chunks}
 use Rattle.hy_machine.specs.Sessions.{snapshot, view}
 use Rattle.hy_machine.specs.Holding.{holds, undone}
 use Rattle.hy_machine.specs.Steps.{after_visit}
-use Rattle.hy_machine.specs.Turns.{ending_of}
 use Rattle.hy_refinement.specs.Stamped.{is_unstamped}
 use Rattle.hy_refinement.specs.Sessions.{OpenShows}
 use Rattle.hy_refinement.specs.Places.{PlaceShows}
@@ -43,15 +42,15 @@ use Rattle.hy_refinement.proofs.UndoneShows.{undone_shows}
 use Rattle.hy_refinement.proofs.UndoneChunks.{chunk_is_of, holds_not, holds_still}
 
 module _ (setting : Setting) (state : State) (parts : List Part) (sessions : List SessionData) (number : ℕ)
-    (session : SessionData) (now : Open) (current : MachineOpen) (table chunk : ℕ) (old : ChunkData) (visited : ℕ) (cause : Cause)
+    (session : SessionData) (now : Open) (current : MachineOpen) (table chunk : ℕ) (old : ChunkData) (visited : ℕ) (cause : Ending)
     (at : AtChunk setting state parts sessions number session now current table chunk old)
     (quiet : is_stamping current.phase ≡ false) (done : undone current.phase ≡ visited)
     (here : slice_get (written_chunks setting current.begun.own) visited ≡ Some (table, chunk)) where
   abbrev then : Open
-  then = visited_by [] (phase.Undoing (suc visited) (ending_of cause)) now
+  then = visited_by [] (phase.Undoing (suc visited) cause) now
 
   abbrev later : MachineOpen
-  later = after_visit [] (stage.Undoing (suc visited) cause) current
+  later = after_visit [] (phase.Undoing (suc visited) cause) current
 
   unmarked : state.mark ≢ Some number
   unmarked = not_marked setting state number current at.at_open.shown.kept at.at_open.is_open.open_there quiet
@@ -69,11 +68,11 @@ module _ (setting : Setting) (state : State) (parts : List Part) (sessions : Lis
       replies = shows.open_shows.replies;
       records = shows.open_shows.records;
       took = shows.open_shows.took;
-      phase = (refl, refl);
+      phase = refl;
     };
     notes_show = λ other. record { notes = (shows.notes_show other).notes; ascends = (shows.notes_show other).ascends };
     gathered_shows = λ visits count e. absurd cc;
-    stamping = λ visits time e. absurd cc;
+    stamping = λ visits e. absurd cc;
   }
 
   same_stamped : (other another : ℕ) → is_unstamped setting (gone_on state number later) other another ≡ is_unstamped setting state other another
@@ -152,10 +151,10 @@ module _ (setting : Setting) (state : State) (parts : List Part) (sessions : Lis
 pub undos_are : UnmovedPlacesShow → VisitedChunksShow → ChunkVisitsShow → GoingOnIsTaken → UndosAreTaken
 undos_are unmoved visited_show visits_show going_on setting state parts sessions number session now current table chunk old visited cause progress after new
     at quiet done here visit =
-    going_on.visits setting state parts sessions number session now current [] (phase.Undoing (suc visited) (ending_of cause)) []
-    (stage.Undoing (suc visited) cause) (chunk_number setting table chunk) progress after (ChunkPart new) at.at_open.is_open visit.turn
-    (visits_show setting state parts sessions number session now (visited_by [] (phase.Undoing (suc visited) (ending_of cause)) now) current
-    (after_visit [] (stage.Undoing (suc visited) cause) current) table chunk old new at
+    going_on.visits setting state parts sessions number session now current [] (phase.Undoing (suc visited) cause) []
+    (phase.Undoing (suc visited) cause) (chunk_number setting table chunk) progress after (ChunkPart new) at.at_open.is_open visit.turn
+    (visits_show setting state parts sessions number session now (visited_by [] (phase.Undoing (suc visited) cause) now) current
+    (after_visit [] (phase.Undoing (suc visited) cause) current) table chunk old new at
     (keeps setting state parts sessions number session now current table chunk old visited cause at quiet done here)
     (went setting state parts sessions number session now current table chunk old visited cause at quiet done here)
     (elsewhere setting state parts sessions number session now current table chunk old visited cause at quiet done here)
@@ -172,8 +171,8 @@ undos_are unmoved visited_show visits_show going_on setting state parts sessions
         chunk_still setting table chunk (Everywhere (AtOwn (id_of (label_of session)) (Undone (id_of (label_of session))))) old new before.0 visit.chunk
         (everywhere_length (AtOwn (id_of (label_of session)) (Undone (id_of (label_of session)))) old.places new.places change)
 
-    chunk_shows : ChunkShows setting (gone_on state number (after_visit [] (stage.Undoing (suc visited) cause) current)) at.at_open.shown.shows.core
-        (sessions_on sessions number session (visited_by [] (phase.Undoing (suc visited) (ending_of cause)) now)) table chunk new
+    chunk_shows : ChunkShows setting (gone_on state number (after_visit [] (phase.Undoing (suc visited) cause) current)) at.at_open.shown.shows.core
+        (sessions_on sessions number session (visited_by [] (phase.Undoing (suc visited) cause) now)) table chunk new
     chunk_shows index place e =
         let one = everywhere_at (AtOwn (id_of (label_of session)) (Undone (id_of (label_of session)))) old.places new.places index place change e in
         let within = slice_get_within old.places index one.0 one.1.0 in

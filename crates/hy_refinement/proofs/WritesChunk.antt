@@ -24,7 +24,8 @@ use Rattle.hy_machine.specs.Positions.{item_at}
 use Rattle.hy_machine.specs.Writes.{with_writes}
 use Rattle.hy_machine.specs.Sessions.{view}
 use Rattle.hy_machine.specs.Holding.{opponent, undone}
-use Rattle.hy_machine.specs.Visits.{kind_of, verdict_at, verdict as verdict_there, swept as swept_there}
+use Rattle.hy_protocol.specs.Statements.{kind_of}
+use Rattle.hy_machine.specs.Visits.{verdict_at, verdict as verdict_there, swept as swept_there}
 use Rattle.hy_refinement.specs.Transactions.{IsOpen}
 use Rattle.hy_refinement.specs.Numbers.{CoreShows}
 use Rattle.hy_refinement.specs.Places.{PlaceShows, cell_held}

@@ -18,21 +18,23 @@ use Rattle.hy_undo.specs.Sweeps.{swept, AllWritten}
 use Rattle.hy_journal.specs.declared.CoreData.{CoreData}
 use Rattle.hy_event.specs.declared.SessionData.{SessionData}
 use Rattle.hy_event.specs.declared.Open.{Open}
-use Rattle.hy_event.specs.declared.Phase.TheVariants as phase
-use Rattle.hy_event.specs.declared.Progress.{Progress}
+use Rattle.hy_protocol.specs.declared.Phase.TheVariants as phase
+use Rattle.hy_protocol.specs.declared.Progress.{Progress}
 use Rattle.hy_event.specs.Sessions.{label_of, viewer_of}
 use Rattle.hy_event.specs.Changing.{OnlyPlaces, changes_from}
 use Rattle.hy_event.specs.Events.{Part, ChunkPart}
-use Rattle.hy_event.specs.Turns.{Takes, Visits as Visits_here, with_notes, after_visit as visited_by, after_answer as answered_by, answer_turn}
+use Rattle.hy_protocol.specs.Turns.{Visits as Visits_here}
+use Rattle.hy_event.specs.Turns.{Takes, with_notes, after_visit as visited_by, after_answer as answered_by, answer_turn}
 use Rattle.hy_event.specs.Writing.{write_turn as write_turn_here, told_by as told_here}
 use Rattle.hy_machine.specs.declared.Setting.{Setting}
 use Rattle.hy_machine.specs.States.{State, Open as MachineOpen}
-use Rattle.hy_machine.specs.States as stage
-use Rattle.hy_machine.specs.Turns.{Visits, Answers, write_turn, told_by, answers}
+use Rattle.hy_protocol.specs.Turns.{Visits, Answers}
+use Rattle.hy_protocol.specs.Statements.{told_by}
+use Rattle.hy_machine.specs.Turns.{write_turn, answers}
 use Rattle.hy_machine.specs.Writes.{Write, with_writes}
 use Rattle.hy_machine.specs.Tables.{Tables}
 use Rattle.hy_machine.specs.Sessions.{session_at, view, txn_at}
-use Rattle.hy_machine.specs.Visits.{kind_of}
+use Rattle.hy_protocol.specs.Statements.{kind_of}
 use Rattle.hy_machine.specs.Steps.{after_visit, after_answer}
 use Rattle.hy_refinement.specs.Sessions.{NotesShow, GatheredBy, OpenShows, statement_at, SessionIs}
 use Rattle.hy_refinement.specs.Parts.{ChunkIs}
@@ -135,7 +137,7 @@ module _ (laws : Laws) (setting : Setting) (state : State) (parts : List Part) (
   then_visited = visited_by changes (phase.Working (suc visited) (count + length changes)) now
 
   abbrev later_visited : MachineOpen
-  later_visited = after_visit writes (stage.Working (suc visited) (count + length writes)) current
+  later_visited = after_visit writes (phase.Working (suc visited) (count + length writes)) current
 
   went_visited : WentOn setting state core number then_visited later_visited
   went_visited = record {
@@ -144,7 +146,7 @@ module _ (laws : Laws) (setting : Setting) (state : State) (parts : List Part) (
       replies = shows_open.open_shows.replies;
       records = shows_open.open_shows.records;
       took = shows_open.open_shows.took;
-      phase = (refl, ap (λ (n : ℕ). count + n) counted);
+      phase = ap (λ (n : ℕ). phase.Working (suc visited) (count + n)) counted;
     };
     notes_show = λ free. record { notes = notes.notes; ascends = notes.ascends };
     gathered_shows = λ visits counts e.
@@ -152,16 +154,16 @@ module _ (laws : Laws) (setting : Setting) (state : State) (parts : List Part) (
         (gathered_by_write setting (view setting state current.begun) (view setting state later_visited.begun) visited visits now.gathered table sets pred
         (subst (GatheredBy setting (view setting state current.begun) visited now.gathered) stands_at.statement_is
         (shows_open.gathered_shows visited count stands_at.phase_is)));
-    stamping = λ visits time e. absurd cc;
+    stamping = λ visits e. absurd cc;
   }
 
   visit_taken : (progress : Progress) (after : SessionData)
       → Takes session (Visits_here changes (phase.Working (suc visited) (count + length changes))) progress after
-      → IsTaken setting state parts sessions number (Visits writes (stage.Working (suc visited) (count + length writes))) (chunk_number setting table chunk)
+      → IsTaken setting state parts sessions number (Visits writes (phase.Working (suc visited) (count + length writes))) (chunk_number setting table chunk)
       progress after (ChunkPart new)
   visit_taken progress after takes =
       laws.taken.visits setting state parts sessions number session now current changes (phase.Working (suc visited) (count + length changes))
-      writes (stage.Working (suc visited) (count + length writes)) (chunk_number setting table chunk) progress after (ChunkPart new) work.is_open takes
+      writes (phase.Working (suc visited) (count + length writes)) (chunk_number setting table chunk) progress after (ChunkPart new) work.is_open takes
       (shown_on then_visited later_visited (record {
         keeps = record { start = refl; prefix = refl; cover = refl; prefix_there = refl; low_there = refl };
         own = refl;
@@ -188,7 +190,7 @@ module _ (laws : Laws) (setting : Setting) (state : State) (parts : List Part) (
       replies = ap (λ (replies : List Reply). replies ++ reply ∷ []) shows_open.open_shows.replies;
       records = ap (λ (all : List Record). all ++ records) shows_open.open_shows.records;
       took = ap (λ (took : List (Option ℕ)). took ++ None ∷ []) shows_open.open_shows.took;
-      phase = (refl, refl);
+      phase = refl;
     };
     notes_show = λ free. record { notes = notes.notes; ascends = notes.ascends };
     gathered_shows = λ visits counts e.
@@ -197,7 +199,7 @@ module _ (laws : Laws) (setting : Setting) (state : State) (parts : List Part) (
         (length then_answered.replies))) none
         (gathered_first setting (view setting state later_answered.begun) (statement_at (txn_at setting number (session_at state number))
         (length then_answered.replies)));
-    stamping = λ visits time e. absurd cc;
+    stamping = λ visits e. absurd cc;
   }
 
   answer_taken : (progress : Progress) (after : SessionData)
@@ -238,7 +240,7 @@ module _ (laws : Laws) (setting : Setting) (state : State) (parts : List Part) (
           → Takes session (cond more (Visits_here changes (phase.Working (suc visited) (count + length changes)))
           (answer_turn session now (statement_by table sets pred) [] changes reply None)) progress after
           → IsTaken setting state parts sessions number
-          (cond more (Visits writes (stage.Working (suc visited) (count + length writes)))
+          (cond more (Visits writes (phase.Working (suc visited) (count + length writes)))
           (answers setting current.begun (statement_by table sets pred) [] writes (told_by (kind_of sets) (count + length writes)) None))
           (chunk_number setting table chunk) progress after (ChunkPart new)
       by_more true takes = visit_taken progress after takes

@@ -14,34 +14,23 @@ use Rattle.hy_bound.specs.Condition.{Condition}
 use Rattle.hy_bound.specs.Predicate.{truth_of}
 use Rattle.hy_bound.specs.Assignment.{assigned}
 use Rattle.hy_undo.specs.declared.refusal.Refusal.{Refusal}
-use Rattle.hy_undo.specs.declared.refusal.Refusal.TheVariants.{Conflict, Range}
 use Rattle.hy_undo.specs.Places.{Place, Cell, sees}
 use Rattle.hy_undo.specs.Chunks.{Written}
 use Rattle.hy_undo.specs.Sweeps.{some_cell, new_cell, judged, verdict, and_new, swept, AllWritten}
 use Rattle.hy_event.specs.Changing.{changes_from}
 use Rattle.hy_event.specs.Writing.{ending_by}
-use Rattle.hy_machine.specs.States.{Cause}
-use Rattle.hy_machine.specs.States as cause
+use Rattle.hy_render.specs.declared.Ending.{Ending}
 use Rattle.hy_machine.specs.Writes.{Write}
-use Rattle.hy_machine.specs.Visits.{kind_of, sweep, and_write}
+use Rattle.hy_protocol.specs.Statements.{kind_of}
+use Rattle.hy_machine.specs.Visits.{sweep, and_write}
 use Rattle.hy_machine.specs.Visits.{new_cell as new_cell_there, judged as judged_there, verdict as verdict_there}
-use Rattle.hy_machine.specs.Turns.{ending_of}
 use Rattle.hy_refinement.proofs.WritesOwn.{writes_from}
 
 -- ---- one position
 
--- why a position is refused, as the machine has it
-abbrev pub cause_by : ℕ → Refusal → Cause
-cause_by table (Conflict pos other) = cause.Conflict table pos other
-cause_by table (Range pos) = cause.Range table pos
-
-pub same_ending : (table : ℕ) (refusal : Refusal) → ending_by table refusal ≡ ending_of (cause_by table refusal)
-same_ending table (Conflict pos other) = refl
-same_ending table (Range pos) = refl
-
 -- the new cell of a position, or why it is refused, as the machine has it
-abbrev pub as_verdict : ℕ → Result (Option Cell) Refusal → Result (Option Cell) Cause
-as_verdict table (Err refusal) = Err (cause_by table refusal)
+abbrev pub as_verdict : ℕ → Result (Option Cell) Refusal → Result (Option Cell) Ending
+as_verdict table (Err refusal) = Err (ending_by table refusal)
 as_verdict table (Ok cell) = Ok cell
 
 same_new : (sets : Option (List Assign)) (row : List Value) → new_cell_there (kind_of sets) row ≡ new_cell sets row
@@ -84,8 +73,8 @@ written_where_seen sets pred pos other (Some row) cell e = ((row, refl), by_trut
 -- ---- all positions
 
 -- what is written, or the first refusal, as the machine has it
-abbrev pub as_sweep : ℕ → ℕ → Result (List (Option Cell)) Refusal → Result (List Write) Cause
-as_sweep table first (Err refusal) = Err (cause_by table refusal)
+abbrev pub as_sweep : ℕ → ℕ → Result (List (Option Cell)) Refusal → Result (List Write) Ending
+as_sweep table first (Err refusal) = Err (ending_by table refusal)
 as_sweep table first (Ok cells) = Ok (writes_from table first cells)
 
 one_more : (table first : ℕ) (here : Result (Option Cell) Refusal) (rest : Result (List (Option Cell)) Refusal)
@@ -95,7 +84,7 @@ one_more table first (Ok cell) (Err refusal) = refl
 one_more table first (Ok cell) (Ok cells) = refl
 
 -- where the machine judges each position as the chunk does, its sweep is the chunk's
-pub same_sweep : (table : ℕ) (judge : ℕ → Result (Option Cell) Cause) (sets : Option (List Assign)) (pred : Condition) (viewer : Viewer)
+pub same_sweep : (table : ℕ) (judge : ℕ → Result (Option Cell) Ending) (sets : Option (List Assign)) (pred : Condition) (viewer : Viewer)
     (first : ℕ) (places : List Place) (count : ℕ) → length places ≡ count
     → ((i : ℕ) (place : Place) → slice_get places i ≡ Some place
     → judge (first + i) ≡ as_verdict table (verdict sets pred (first + i) (rival viewer place.chain) (sees viewer place)))
@@ -104,7 +93,7 @@ same_sweep table judge sets pred viewer first [] zero long each = refl
 same_sweep table judge sets pred viewer first [] (suc count) long each = absurd (omega (arith, long))
 same_sweep table judge sets pred viewer first (place ∷ places) zero long each = absurd (omega (arith, long))
 same_sweep table judge sets pred viewer first (place ∷ places) (suc count) long each =
-    ap (λ (v : Result (Option Cell) Cause). and_write table first v (sweep table judge (range_with_len (first + 1) count)))
+    ap (λ (v : Result (Option Cell) Ending). and_write table first v (sweep table judge (range_with_len (first + 1) count)))
     (subst (λ (n : ℕ). judge n ≡ as_verdict table (verdict sets pred n (rival viewer place.chain) (sees viewer place)))
     (let e : first + 0 ≡ first = omega arith in e) (each 0 place refl))
     ∙ (ap (and_write table first (as_verdict table (verdict sets pred first (rival viewer place.chain) (sees viewer place))))

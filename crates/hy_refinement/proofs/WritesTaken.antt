@@ -13,19 +13,21 @@ use Rattle.hy_undo.specs.Sweeps.{swept}
 use Rattle.hy_journal.specs.declared.CoreData.{CoreData}
 use Rattle.hy_event.specs.declared.SessionData.{SessionData}
 use Rattle.hy_event.specs.declared.Open.{Open}
-use Rattle.hy_event.specs.declared.Phase.TheVariants as phase
-use Rattle.hy_event.specs.declared.Progress.{Progress}
+use Rattle.hy_protocol.specs.declared.Phase.TheVariants as phase
+use Rattle.hy_protocol.specs.declared.Progress.{Progress}
 use Rattle.hy_event.specs.Sessions.{label_of, viewer_of}
 use Rattle.hy_event.specs.Changing.{changes_from}
 use Rattle.hy_event.specs.Events.{Part, ChunkPart}
-use Rattle.hy_event.specs.Turns.{Takes, refused as refuses}
-use Rattle.hy_event.specs.Writing.{WriteVisit, Becomes, changes_by, cells_by, write_turn as write_turn_here}
+use Rattle.hy_protocol.specs.Turns.{refused as refuses}
+use Rattle.hy_event.specs.Turns.{Takes}
+use Rattle.hy_event.specs.Writing.{WriteVisit, Becomes, ending_by, changes_by, cells_by, write_turn as write_turn_here}
 use Rattle.hy_machine.specs.declared.Setting.{Setting}
-use Rattle.hy_machine.specs.States.{State, Open as MachineOpen, Cause}
-use Rattle.hy_machine.specs.States as stage
-use Rattle.hy_machine.specs.Turns.{Visits, write_turn, ending_of}
+use Rattle.hy_machine.specs.States.{State, Open as MachineOpen}
+use Rattle.hy_protocol.specs.Turns.{Visits}
+use Rattle.hy_machine.specs.Turns.{write_turn}
 use Rattle.hy_machine.specs.Writes.{Write}
-use Rattle.hy_machine.specs.Visits.{kind_of, swept as swept_there}
+use Rattle.hy_protocol.specs.Statements.{kind_of}
+use Rattle.hy_machine.specs.Visits.{swept as swept_there}
 use Rattle.hy_refinement.specs.Transactions.{IsOpen}
 use Rattle.hy_refinement.specs.Sessions.{OpenShows}
 use Rattle.hy_refinement.specs.Parts.{ChunkIs}
@@ -36,7 +38,7 @@ use Rattle.hy_refinement.proofs.RivalTops.{open_shown}
 use Rattle.hy_refinement.proofs.FramesStill.{stands_still}
 use Rattle.hy_refinement.proofs.FramesRefusals.{refused_here, refused_there, refused_keeps, refused_goes, refused_still}
 use Rattle.hy_refinement.proofs.PlacesWork.{at_work_in}
-use Rattle.hy_refinement.proofs.WritesSweep.{cause_by, same_ending, as_sweep}
+use Rattle.hy_refinement.proofs.WritesSweep.{as_sweep}
 use Rattle.hy_refinement.proofs.WritesChunk.{AtWork, same_swept}
 use Rattle.hy_refinement.proofs.WritesGoes.{Laws, writes_taken}
 
@@ -65,19 +67,19 @@ module _ (laws : Laws) (setting : Setting) (state : State) (parts : List Part) (
   -- ---- it is refused
 
   -- it stands as before, and will be undone
-  stands_refused : (cause : Cause) (other another pos : ℕ)
+  stands_refused : (cause : Ending) (other another pos : ℕ)
       → StandsAsBefore setting state number other another pos current (refused_there cause current)
   stands_refused cause other another pos =
       stands_still setting state number other another pos current (refused_there cause current) is.open_there
       (refused_still setting state core number cause now current visited count shows_open stands_at.phase_is)
 
-  refusal_taken : (between new : ChunkData) (progress : Progress) (after : SessionData) (cause : Cause)
+  refusal_taken : (between new : ChunkData) (progress : Progress) (after : SessionData) (cause : Ending)
       → ChunkIs setting table chunk between → ChunkShows setting state core sessions table chunk between
-      → new ≡ between → Takes session (refuses (ending_of cause)) progress after
-      → IsTaken setting state parts sessions number (Visits [] (stage.Undoing 0 cause)) (chunk_number setting table chunk) progress after (ChunkPart new)
+      → new ≡ between → Takes session (refuses cause) progress after
+      → IsTaken setting state parts sessions number (Visits [] (phase.Undoing 0 cause)) (chunk_number setting table chunk) progress after (ChunkPart new)
   refusal_taken between new progress after cause chunk_is chunk_shows same takes =
-      laws.taken.visits setting state parts sessions number session now current [] (phase.Undoing 0 (ending_of cause))
-      [] (stage.Undoing 0 cause) (chunk_number setting table chunk) progress after (ChunkPart new) is takes
+      laws.taken.visits setting state parts sessions number session now current [] (phase.Undoing 0 cause)
+      [] (phase.Undoing 0 cause) (chunk_number setting table chunk) progress after (ChunkPart new) is takes
       (laws.visits setting state parts sessions number session now (refused_here cause now) current (refused_there cause current) table chunk old new at
       (refused_keeps cause now current) (refused_goes setting state core number cause now current shows_open)
       (λ other another index apart within. stands_refused cause other another (another * setting.rows + index))
@@ -98,8 +100,7 @@ module _ (laws : Laws) (setting : Setting) (state : State) (parts : List Part) (
       (write_turn setting current.begun visited count (statement_by table sets pred) (kind_of sets) (as_sweep table first result))
       (chunk_number setting table chunk) progress after (ChunkPart new)
   by_result between new progress after chunk_is chunk_shows (Err refusal) e becomes takes =
-      refusal_taken between new progress after (cause_by table refusal) chunk_is chunk_shows becomes
-      (subst (λ (ending : Ending). Takes session (refuses ending) progress after) (same_ending table refusal) takes)
+      refusal_taken between new progress after (ending_by table refusal) chunk_is chunk_shows becomes takes
   by_result between new progress after chunk_is chunk_shows (Ok cells) e becomes takes =
       writes_taken laws setting state parts sessions number session now current table chunk old visited count sets pred at stands_at work between new cells
       chunk_is chunk_shows e becomes progress after
@@ -123,7 +124,7 @@ module _ (laws : Laws) (setting : Setting) (state : State) (parts : List Part) (
       (write_turn setting current.begun visited count (statement_by table sets pred) (kind_of sets)
       (swept_there setting state number current.begun (kind_of sets) pred table n))
       (chunk_number setting table chunk) progress after (ChunkPart new)) same
-      (subst (λ (r : Result (List Write) Cause). IsTaken setting state parts sessions number
+      (subst (λ (r : Result (List Write) Ending). IsTaken setting state parts sessions number
       (write_turn setting current.begun visited count (statement_by table sets pred) (kind_of sets) r) (chunk_number setting table chunk)
       progress after (ChunkPart new))
       (sym (same_swept setting state core sessions number session now current table chunk work laws.rivals sets pred visit.between pruned.0 pruned.1

@@ -12,15 +12,16 @@ use Rattle.hy_notes.specs.Notes.{is_change}
 use Rattle.hy_journal.specs.Core.{core_entered}
 use Rattle.hy_event.specs.declared.SessionData.{SessionData}
 use Rattle.hy_event.specs.declared.Open.{Open}
-use Rattle.hy_event.specs.declared.Phase.TheVariants as phase
-use Rattle.hy_event.specs.declared.Progress.{Progress}
+use Rattle.hy_protocol.specs.declared.Phase.TheVariants as phase
+use Rattle.hy_protocol.specs.declared.Progress.{Progress}
 use Rattle.hy_event.specs.Sessions.{label_of}
-use Rattle.hy_event.specs.Turns.{Enters as enters, Waits as waits, refused as refuses, Takes}
+use Rattle.hy_protocol.specs.Turns.{Enters as enters, Waits as waits, refused as refuses}
+use Rattle.hy_event.specs.Turns.{Takes}
 use Rattle.hy_event.specs.CoreTurns.{TakesAtCore, begin_turn, close_turn, leave_turn, invalid_by}
 use Rattle.hy_event.specs.Events.{Part, CorePart}
 use Rattle.hy_machine.specs.declared.Setting.{Setting}
-use Rattle.hy_machine.specs.States.{State, Open as MachineOpen, Cause}
-use Rattle.hy_machine.specs.Turns.{Waits, Begins, Enters, Ends, refused, ending_of}
+use Rattle.hy_machine.specs.States.{State, Open as MachineOpen}
+use Rattle.hy_protocol.specs.Turns.{Waits, Begins, Enters, Ends, refused}
 use Rattle.hy_machine.specs.Writes.{written_chunks, wrote_nothing}
 use Rattle.hy_machine.specs.Sessions.{blocker}
 use Rattle.hy_machine.specs.Holding.{holds}
@@ -50,7 +51,7 @@ BeginsAreTaken =
     (setting : Setting) (state : State) (parts : List Part) (sessions : List SessionData) (number : ℕ) (session : SessionData)
     (progress : Progress) (after : SessionData) (new : CoreData)
     → (at : AtRest setting state parts sessions number session) → IsFreeToGo state number
-    → TakesAtCore session (Some (begin_turn at.shown.shows.core)) progress after new
+    → TakesAtCore session at.shown.shows.core (Some (begin_turn at.shown.shows.core)) progress after new
     → IsTaken setting state parts sessions number Begins (core_number setting) progress after (CorePart new)
 
 -- an open transaction holds no position
@@ -64,17 +65,17 @@ ClosesAreTaken =
     (now : Open) (current : MachineOpen) (ending : Ending) (progress : Progress) (after : SessionData) (new : CoreData)
     → (at : AtOpen setting state parts sessions number session now current) → IsFreeToGo state number
     → is_stamping current.phase ≡ false → HoldsNothing setting current
-    → TakesAtCore session (Some (close_turn at.shown.shows.core now ending)) progress after new
+    → TakesAtCore session at.shown.shows.core (Some (close_turn at.shown.shows.core now ending)) progress after new
     → IsTaken setting state parts sessions number (Ends ending) (core_number setting) progress after (CorePart new)
 
 -- a transaction that stamped all its chunks ends
 abbrev pub LeavesAreTaken : Type 0
 LeavesAreTaken =
     (setting : Setting) (state : State) (parts : List Part) (sessions : List SessionData) (number : ℕ) (session : SessionData)
-    (now : Open) (current : MachineOpen) (visited time : ℕ) (progress : Progress) (after : SessionData) (new : CoreData)
+    (now : Open) (current : MachineOpen) (visited : ℕ) (progress : Progress) (after : SessionData) (new : CoreData)
     → (at : AtOpen setting state parts sessions number session now current)
-    → now.phase ≡ phase.Stamping visited time → length (written_chunks setting current.begun.own) ≤ visited
-    → TakesAtCore session (Some (leave_turn at.shown.shows.core now)) progress after new
+    → now.phase ≡ phase.Stamping visited → length (written_chunks setting current.begun.own) ≤ visited
+    → TakesAtCore session at.shown.shows.core (Some (leave_turn at.shown.shows.core now)) progress after new
     → IsTaken setting state parts sessions number (Ends (Committed (length state.order - 1))) (core_number setting) progress after (CorePart new)
 
 -- ---- COMMIT
@@ -94,7 +95,7 @@ HitsAreTheMachines =
     (now : Open) (current : MachineOpen)
     → (at : AtOpen setting state parts sessions number session now current)
     → option_map (invalid_by now.records) (first_invalid now.records (drop now.prefix at.shown.shows.core.entries))
-    ≡ option_map ending_of (first_hit current.begun.records (map committed_of (drop current.begun.prefix state.order)))
+    ≡ first_hit current.begun.records (map committed_of (drop current.begun.prefix state.order))
 
 -- a transaction whose statements are all answered enters the journal
 abbrev pub EntersAreTaken : Type 0
@@ -103,8 +104,8 @@ EntersAreTaken =
     (now : Open) (current : MachineOpen) (visited count : ℕ) (progress : Progress) (after : SessionData) (new : CoreData)
     → (at : AtOpen setting state parts sessions number session now current) → IsFreeToGo state number
     → AtStatement setting state number now visited count None
-    → TakesAtCore session
-    (Some (enters at.shown.shows.core.next, core_entered at.shown.shows.core (label_of session) now.start now.notes)) progress after new
+    → TakesAtCore session at.shown.shows.core
+    (Some (enters, core_entered at.shown.shows.core (label_of session) now.start now.notes)) progress after new
     → IsTaken setting state parts sessions number Enters (core_number setting) progress after (CorePart new)
 
 -- ---- without a change of a part
@@ -113,10 +114,10 @@ EntersAreTaken =
 abbrev pub RefusalsAreTaken : Type 0
 RefusalsAreTaken =
     (setting : Setting) (state : State) (parts : List Part) (sessions : List SessionData) (number : ℕ) (session : SessionData)
-    (now : Open) (current : MachineOpen) (visited count : ℕ) (cause : Cause) (part : ℕ) (present : Part) (progress : Progress) (after : SessionData)
+    (now : Open) (current : MachineOpen) (visited count : ℕ) (cause : Ending) (part : ℕ) (present : Part) (progress : Progress) (after : SessionData)
     → AtOpen setting state parts sessions number session now current
     → now.phase ≡ phase.Working visited count → slice_get parts part ≡ Some present
-    → Takes session (refuses (ending_of cause)) progress after
+    → Takes session (refuses cause) progress after
     → IsTaken setting state parts sessions number (refused cause) part progress after present
 
 -- a session that waits stays as it is

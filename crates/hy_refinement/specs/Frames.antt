@@ -10,16 +10,17 @@ use Rattle.hy_notes.specs.Notes.{with_note}
 use Rattle.hy_prune.specs.declared.Cover.{Cover}
 use Rattle.hy_event.specs.declared.SessionData.{SessionData}
 use Rattle.hy_event.specs.declared.Open.{Open}
-use Rattle.hy_event.specs.declared.Phase.{Phase}
-use Rattle.hy_event.specs.declared.Phase.TheVariants as phase
-use Rattle.hy_event.specs.declared.Progress.{Progress}
-use Rattle.hy_event.specs.Turns.{Takes, Visits as visits, Answers as answers, after_visit as visited_by, after_answer as answered_by}
+use Rattle.hy_protocol.specs.declared.Phase.{Phase}
+use Rattle.hy_protocol.specs.declared.Phase.TheVariants as phase
+use Rattle.hy_protocol.specs.declared.Progress.{Progress}
+use Rattle.hy_protocol.specs.Turns.{Visits as visits, Answers as answers}
+use Rattle.hy_event.specs.Turns.{Takes, after_visit as visited_by, after_answer as answered_by}
 use Rattle.hy_event.specs.Changing.{PrunesFirst}
 use Rattle.hy_event.specs.Events.{Part, ChunkPart}
 use Rattle.hy_machine.specs.declared.Setting.{Setting}
-use Rattle.hy_machine.specs.States.{State, Open as MachineOpen, Phase as Stage}
+use Rattle.hy_machine.specs.States.{State, Open as MachineOpen}
 use Rattle.hy_machine.specs.Writes.{Write, with_write}
-use Rattle.hy_machine.specs.Turns.{Visits, Answers}
+use Rattle.hy_protocol.specs.Turns.{Visits, Answers}
 use Rattle.hy_machine.specs.Positions.{item_at}
 use Rattle.hy_machine.specs.Tables.{Cell, capacity}
 use Rattle.hy_machine.specs.Sessions.{session_at, view}
@@ -63,7 +64,7 @@ pub record WentOn (setting : Setting) (state : State) (core : CoreData) (number 
   pub open_shows : DoneSoFar then later
   pub notes_show : state.mark ≢ Some number → NotesShow setting state then later
   pub gathered_shows : GatheredShows setting state number then later
-  pub stamping : (visited time : ℕ) → then.phase ≡ phase.Stamping visited time → StampingShows core then later time
+  pub stamping : (visited : ℕ) → then.phase ≡ phase.Stamping visited → StampingShows core then later
 
 -- at a position it stands as before: it holds it or not, has its cell there, and has stamped its chunk or not
 pub record StandsAsBefore (setting : Setting) (state : State) (number table chunk pos : ℕ) (current later : MachineOpen) : Type 0 where
@@ -125,7 +126,7 @@ PrunedChunksShow =
     (table chunk : ℕ) (old between : ChunkData)
     → IsBelowIds core → CoreShows state core sessions → IsHeld core cover
     → ChunkIs setting table chunk old → ChunkShows setting state core sessions table chunk old
-    → PrunesFirst session cover old between
+    → PrunesFirst session.prunes cover old between
     → ChunkIs setting table chunk between × ChunkShows setting state core sessions table chunk between
 
 -- the chunk that is visited is that chunk, and shows the state
@@ -139,7 +140,7 @@ VisitedChunksShow =
 -- a turn that goes on is taken where what it goes on to is shown
 pub record GoingOnIsTaken : Type 0 where
   pub visits : (setting : Setting) (state : State) (parts : List Part) (sessions : List SessionData) (number : ℕ) (session : SessionData)
-      (now : Open) (current : MachineOpen) (changes : List Change) (phase : Phase) (writes : List Write) (stage : Stage)
+      (now : Open) (current : MachineOpen) (changes : List Change) (phase : Phase) (writes : List Write) (stage : Phase)
       (part : ℕ) (progress : Progress) (after : SessionData) (new : Part)
       → IsOpen state sessions number session now current → Takes session (visits changes phase) progress after
       → Shows setting (gone_on state number (after_visit writes stage current)) (slice_set parts part new)

@@ -8,7 +8,7 @@ use Rattle.hy_journal.specs.declared.CoreData.{CoreData}
 use Rattle.hy_journal.specs.declared.Entry.{Entry}
 use Rattle.hy_event.specs.declared.SessionData.{SessionData}
 use Rattle.hy_event.specs.declared.Open.{Open}
-use Rattle.hy_event.specs.declared.Phase.TheVariants as phase
+use Rattle.hy_protocol.specs.declared.Phase.TheVariants as phase
 use Rattle.hy_machine.specs.States.{State, Open as MachineOpen}
 use Rattle.hy_machine.specs.Tables.{Entry as Entered, Pair}
 use Rattle.hy_machine.specs.Positions.{item_at}
@@ -78,17 +78,17 @@ marked_label state = option_map (λ marked. label_of marked (session_at state ma
 
 -- a transaction that stands between its entry and its end: its time is that of the last entry, and it has the places
 -- that it wrote
-pub record StampingShows (core : CoreData) (now : Open) (current : MachineOpen) (time : ℕ) : Type 0 where
+pub record StampingShows (core : CoreData) (now : Open) (current : MachineOpen) : Type 0 where
   pub entry : Entry
   pub last : slice_get core.entries (length core.entries - 1) ≡ Some entry
-  pub time_is : entry.time ≡ time
+  pub time_is : entry.time ≡ now.time
   pub wrote : now.wrote ≡ written current.begun.own
 
 -- the core's mark is the machine's
 pub record MarkShows (state : State) (core : CoreData) (sessions : List SessionData) : Type 0 where
   pub mark : core.mark ≡ marked_label state
   pub stamping : OfOpen state sessions (λ number session now current.
-      (visited time : ℕ) → now.phase ≡ phase.Stamping visited time → StampingShows core now current time)
+      (visited : ℕ) → now.phase ≡ phase.Stamping visited → StampingShows core now current)
 
 -- ---- the core
 

@@ -17,16 +17,13 @@ use Rattle.hy_journal.specs.declared.CoreData.{CoreData}
 use Rattle.hy_journal.specs.declared.Entry.{Entry}
 use Rattle.hy_event.specs.declared.SessionData.{SessionData}
 use Rattle.hy_event.specs.declared.Open.{Open}
-use Rattle.hy_event.specs.declared.Phase.{Phase}
-use Rattle.hy_event.specs.declared.Phase.TheVariants as phase
+use Rattle.hy_protocol.specs.declared.Phase.TheVariants as phase
 use Rattle.hy_event.specs.Gathering.{ReadPlan, select_read_plan, group_read_plan, joined_columns, conditions_by}
 use Rattle.hy_machine.specs.declared.Setting.{Setting}
-use Rattle.hy_machine.specs.States.{State, Open as MachineOpen, Phase as Stage}
-use Rattle.hy_machine.specs.States as stage
+use Rattle.hy_machine.specs.States.{State, Open as MachineOpen}
 use Rattle.hy_machine.specs.Positions.{item_at}
 use Rattle.hy_machine.specs.Tables.{Tables}
 use Rattle.hy_machine.specs.Sessions.{session_at, program_of, txn_at, snapshot, view, pair_of}
-use Rattle.hy_machine.specs.Turns.{ending_of}
 use Rattle.hy_machine.specs.Outcomes.{outcomes_from}
 use Rattle.hy_refinement.specs.Numbers.{noted}
 
@@ -59,25 +56,13 @@ pub record CoverHolds (core : CoreData) (now : Open) : Type 0 where
 
 -- ---- what an open transaction has done
 
--- it stands where the machine's stands
-abbrev pub PhaseShows : Phase → Stage → Type 0
-PhaseShows (phase.Working visited count) (stage.Working other others) = (visited ≡ other) × (count ≡ others)
-PhaseShows (phase.Working visited count) (stage.Stamping other) = ⊥
-PhaseShows (phase.Working visited count) (stage.Undoing other cause) = ⊥
-PhaseShows (phase.Stamping visited time) (stage.Working other others) = ⊥
-PhaseShows (phase.Stamping visited time) (stage.Stamping other) = visited ≡ other
-PhaseShows (phase.Stamping visited time) (stage.Undoing other cause) = ⊥
-PhaseShows (phase.Undoing visited ending) (stage.Working other others) = ⊥
-PhaseShows (phase.Undoing visited ending) (stage.Stamping other) = ⊥
-PhaseShows (phase.Undoing visited ending) (stage.Undoing other cause) = (visited ≡ other) × (ending ≡ ending_of cause)
-
 -- its prefix, its answered statements, and where it stands
 pub record DoneSoFar (now : Open) (current : MachineOpen) : Type 0 where
   pub prefix : now.prefix ≡ current.begun.prefix
   pub replies : now.replies ≡ current.begun.replies
   pub records : now.records ≡ current.begun.records
   pub took : now.took ≡ current.begun.took
-  pub phase : PhaseShows now.phase current.phase
+  pub phase : now.phase ≡ current.phase
 
 -- its notes have at every position the cell that it saw at its start and the one that it wrote
 pub record NotesShow (setting : Setting) (state : State) (now : Open) (current : MachineOpen) : Type 0 where

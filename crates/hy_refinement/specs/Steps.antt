@@ -8,7 +8,7 @@ use Rattle.hy_bound.specs.declared.Txn.{Txn}
 use Rattle.hy_stamp.specs.Times.{IsLabel}
 use Rattle.hy_event.specs.declared.SessionData.{SessionData}
 use Rattle.hy_event.specs.Sessions.{label_of, txn_at as txn_here}
-use Rattle.hy_event.specs.declared.Progress.{Progress}
+use Rattle.hy_protocol.specs.declared.Progress.{Progress}
 use Rattle.hy_event.specs.Needs.{need_of}
 use Rattle.hy_event.specs.Events.{Part, part_number, NeededVisit}
 use Rattle.hy_machine.specs.declared.Setting.{Setting}

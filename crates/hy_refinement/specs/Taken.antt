@@ -4,15 +4,13 @@ use Rattle.hy_bound.specs.declared.Bound.{Bound}
 use Rattle.hy_undo.specs.Chunks.{ChunkData}
 use Rattle.hy_event.specs.declared.SessionData.{SessionData}
 use Rattle.hy_event.specs.declared.Open.{Open}
-use Rattle.hy_event.specs.declared.Phase.TheVariants as phase
-use Rattle.hy_event.specs.declared.Progress.{Progress}
-use Rattle.hy_event.specs.declared.Progress.TheVariants as progress
+use Rattle.hy_protocol.specs.declared.Phase.TheVariants as phase
+use Rattle.hy_protocol.specs.declared.Progress.{Progress}
 use Rattle.hy_event.specs.Events.{Part}
+use Rattle.hy_machine.specs.Writes.{Write}
 use Rattle.hy_machine.specs.declared.Setting.{Setting}
 use Rattle.hy_machine.specs.States.{State, Open as MachineOpen}
-use Rattle.hy_machine.specs.Turns.{Turn}
-use Rattle.hy_machine.specs.declared.Stepped.{Stepped}
-use Rattle.hy_machine.specs.declared.Stepped.TheVariants.{Blocked, Moved, Answered}
+use Rattle.hy_protocol.specs.Turns.{Turn}
 use Rattle.hy_machine.specs.Sessions.{session_at, txn_at}
 use Rattle.hy_machine.specs.Steps.{after_turn}
 use Rattle.hy_refinement.specs.Transactions.{IsOpen}
@@ -59,14 +57,8 @@ core_number setting = length setting.shapes * setting.chunks
 
 -- ---- after it
 
--- what a visit came to, as the machine says it
-abbrev pub stepped_of : Progress → Stepped
-stepped_of progress.Moved = Moved
-stepped_of progress.Answered = Answered
-stepped_of (progress.Blocked by) = Blocked by
-
 -- the machine's turn has the visit's answer, and the parts and sessions after the visit show the state after the turn
-pub record IsTaken (setting : Setting) (state : State) (parts : List Part) (sessions : List SessionData) (number : ℕ) (turn : Turn)
+pub record IsTaken (setting : Setting) (state : State) (parts : List Part) (sessions : List SessionData) (number : ℕ) (turn : Turn Write)
     (part : ℕ) (progress : Progress) (after : SessionData) (new : Part) : Type 0 where
-  pub answer : (after_turn setting state number turn).1 ≡ stepped_of progress
+  pub answer : (after_turn setting state number turn).1 ≡ progress
   pub shows : Shows setting (after_turn setting state number turn).0 (slice_set parts part new) (slice_set sessions number after)

@@ -14,8 +14,8 @@ use Rattle.hy_meaning.specs.Statement.{answer_of, grouped}
 use Rattle.hy_undo.specs.Chunks.{ChunkData}
 use Rattle.hy_event.specs.declared.SessionData.{SessionData}
 use Rattle.hy_event.specs.declared.Open.{Open}
-use Rattle.hy_event.specs.declared.Phase.TheVariants as phase
-use Rattle.hy_event.specs.declared.Progress.{Progress}
+use Rattle.hy_protocol.specs.declared.Phase.TheVariants as phase
+use Rattle.hy_protocol.specs.declared.Progress.{Progress}
 use Rattle.hy_event.specs.Gathering.{select_read_plan, group_read_plan}
 use Rattle.hy_event.specs.Reading.{ReadVisit}
 use Rattle.hy_event.specs.Inserting.{CheckVisit, PlaceVisit}
@@ -23,14 +23,16 @@ use Rattle.hy_event.specs.Writing.{WriteVisit}
 use Rattle.hy_event.specs.Stamping.{StampVisit}
 use Rattle.hy_event.specs.Undoing.{UndoVisit}
 use Rattle.hy_event.specs.Events.{Part, ChunkPart}
+use Rattle.hy_render.specs.declared.Ending.{Ending}
 use Rattle.hy_machine.specs.declared.Setting.{Setting}
-use Rattle.hy_machine.specs.States.{State, Open as MachineOpen, Cause}
-use Rattle.hy_machine.specs.States as stage
-use Rattle.hy_machine.specs.Turns.{Visits, rows_seen, read_turn, write_turn, check_turn, place_turn, ending_of}
+use Rattle.hy_machine.specs.States.{State, Open as MachineOpen}
+use Rattle.hy_protocol.specs.Turns.{Visits}
+use Rattle.hy_machine.specs.Turns.{rows_seen, read_turn, write_turn, check_turn, place_turn}
 use Rattle.hy_machine.specs.Writes.{written_chunks}
 use Rattle.hy_machine.specs.Sessions.{view}
 use Rattle.hy_machine.specs.Holding.{undone}
-use Rattle.hy_machine.specs.Visits.{kind_of, swept, sees_key, free_position}
+use Rattle.hy_protocol.specs.Statements.{kind_of}
+use Rattle.hy_machine.specs.Visits.{swept, sees_key, free_position}
 use Rattle.hy_event.specs.Sessions.{written_chunks as chunks_written}
 use Rattle.hy_machine.specs.Kept.{is_stamping}
 use Rattle.hy_refinement.specs.Taken.{AtOpen, AtChunk, AtStatement, IsTaken, chunk_number}
@@ -124,28 +126,28 @@ WritesAreTaken =
 abbrev pub StampsAreTaken : Type 0
 StampsAreTaken =
     (setting : Setting) (state : State) (parts : List Part) (sessions : List SessionData) (number : ℕ) (session : SessionData)
-    (now : Open) (current : MachineOpen) (table chunk : ℕ) (old : ChunkData) (visited time : ℕ)
+    (now : Open) (current : MachineOpen) (table chunk : ℕ) (old : ChunkData) (visited : ℕ)
     (progress : Progress) (after : SessionData) (new : ChunkData)
     → AtChunk setting state parts sessions number session now current table chunk old
-    → now.phase ≡ phase.Stamping visited time
+    → now.phase ≡ phase.Stamping visited
     → slice_get (written_chunks setting current.begun.own) visited ≡ Some (table, chunk)
-    → StampVisit session now visited time old progress after new
+    → StampVisit session now visited old progress after new
     → IsTaken setting state parts sessions number
-    (Visits [] (stage.Stamping (suc visited)))
+    (Visits [] (phase.Stamping (suc visited)))
     (chunk_number setting table chunk) progress after (ChunkPart new)
 
 -- a chunk that was written is undone, where so many before it are
 abbrev pub UndosAreTaken : Type 0
 UndosAreTaken =
     (setting : Setting) (state : State) (parts : List Part) (sessions : List SessionData) (number : ℕ) (session : SessionData)
-    (now : Open) (current : MachineOpen) (table chunk : ℕ) (old : ChunkData) (visited : ℕ) (cause : Cause)
+    (now : Open) (current : MachineOpen) (table chunk : ℕ) (old : ChunkData) (visited : ℕ) (cause : Ending)
     (progress : Progress) (after : SessionData) (new : ChunkData)
     → AtChunk setting state parts sessions number session now current table chunk old
     → is_stamping current.phase ≡ false → undone current.phase ≡ visited
     → slice_get (written_chunks setting current.begun.own) visited ≡ Some (table, chunk)
-    → UndoVisit session now visited (ending_of cause) old progress after new
+    → UndoVisit session now visited cause old progress after new
     → IsTaken setting state parts sessions number
-    (Visits [] (stage.Undoing (suc visited) cause))
+    (Visits [] (phase.Undoing (suc visited) cause))
     (chunk_number setting table chunk) progress after (ChunkPart new)
 
 -- ---- which chunks

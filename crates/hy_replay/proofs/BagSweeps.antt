@@ -15,8 +15,8 @@ use Rattle.hy_bound.specs.Changes.{present}
 use Rattle.hy_bound.specs.Assignment.{assigned}
 use Rattle.hy_bound.specs.Predicate.{truth_of}
 use Rattle.hy_meaning.specs.Statement.{Table, updated_rows}
+use Rattle.hy_render.specs.declared.Ending.{Ending}
 use Rattle.hy_machine.specs.Writes.{Write}
-use Rattle.hy_machine.specs.States.{Cause}
 use Rattle.hy_machine.specs.Tables.{Cell, covered}
 use Rattle.hy_machine.specs.Visits.{new_cell, judged, verdict, write_of, and_write, sweep}
 use Rattle.hy_replay.proofs.OverCells.{puts, AreIn}
@@ -32,22 +32,22 @@ next_of cell written = covered (λ (own : Cell). own) cell written
 
 -- ---- what is written at the first of positions
 
-record AndWritten (table pos : ℕ) (first : Result (Option Cell) Cause) (rest : Result (List Write) Cause) (writes : List Write) : Type 0 where
+record AndWritten (table pos : ℕ) (first : Result (Option Cell) Ending) (rest : Result (List Write) Ending) (writes : List Write) : Type 0 where
   cell : Option Cell
   others : List Write
   here : first ≡ Ok cell
   there : rest ≡ Ok others
   both : write_of table pos cell ++ others ≡ writes
 
-abbrev writes_or : List Write → Result (List Write) Cause → List Write
+abbrev writes_or : List Write → Result (List Write) Ending → List Write
 writes_or writes (Ok others) = others
 writes_or writes (Err cause) = writes
 
-abbrev cell_or : Option Cell → Result (Option Cell) Cause → Option Cell
+abbrev cell_or : Option Cell → Result (Option Cell) Ending → Option Cell
 cell_or cell (Ok other) = other
 cell_or cell (Err cause) = cell
 
-and_written : (table pos : ℕ) (first : Result (Option Cell) Cause) (rest : Result (List Write) Cause) (writes : List Write)
+and_written : (table pos : ℕ) (first : Result (Option Cell) Ending) (rest : Result (List Write) Ending) (writes : List Write)
     → and_write table pos first rest ≡ Ok writes → AndWritten table pos first rest writes
 and_written table pos (Err cause) rest writes e = absurd cc
 and_written table pos (Ok cell) (Err cause) writes e = absurd cc
@@ -145,30 +145,30 @@ pub record Swept (kind : WriteKind) (pred : Condition) (table : ℕ) (done cells
   pub there : AreIn table writes
 
 -- a statement's verdicts at positions from this one on, which hold these cells, and behind them nothing
-abbrev Judges : WriteKind → Condition → ℕ → (ℕ → Result (Option Cell) Cause) → ℕ → List Cell → Type 0
+abbrev Judges : WriteKind → Condition → ℕ → (ℕ → Result (Option Cell) Ending) → ℕ → List Cell → Type 0
 Judges kind pred table judge start cells = (i : ℕ) → judge (start + i) ≡ verdict kind pred table (start + i) None (get_or cells i None)
 
-judges_first : (kind : WriteKind) (pred : Condition) (table : ℕ) (judge : ℕ → Result (Option Cell) Cause) (start : ℕ) (cells : List Cell)
+judges_first : (kind : WriteKind) (pred : Condition) (table : ℕ) (judge : ℕ → Result (Option Cell) Ending) (start : ℕ) (cells : List Cell)
     → Judges kind pred table judge start cells → judge start ≡ verdict kind pred table start None (get_or cells 0 None)
 judges_first kind pred table judge start cells h =
     subst (λ (n : ℕ). judge n ≡ verdict kind pred table n None (get_or cells 0 None)) (let e : start + 0 ≡ start = omega arith in e) (h 0)
 
-judges_rest : (kind : WriteKind) (pred : Condition) (table : ℕ) (judge : ℕ → Result (Option Cell) Cause) (start : ℕ) (cell : Cell) (cells : List Cell)
+judges_rest : (kind : WriteKind) (pred : Condition) (table : ℕ) (judge : ℕ → Result (Option Cell) Ending) (start : ℕ) (cell : Cell) (cells : List Cell)
     → Judges kind pred table judge start (cell ∷ cells) → Judges kind pred table judge (start + 1) cells
 judges_rest kind pred table judge start cell cells h i =
     subst (λ (n : ℕ). judge n ≡ verdict kind pred table n None (get_or cells i None)) (let e : start + suc i ≡ start + 1 + i = omega arith in e) (h (suc i))
 
-judges_past : (kind : WriteKind) (pred : Condition) (table : ℕ) (judge : ℕ → Result (Option Cell) Cause) (start : ℕ)
+judges_past : (kind : WriteKind) (pred : Condition) (table : ℕ) (judge : ℕ → Result (Option Cell) Ending) (start : ℕ)
     → Judges kind pred table judge start [] → Judges kind pred table judge (start + 1) []
 judges_past kind pred table judge start h i =
     subst (λ (n : ℕ). judge n ≡ verdict kind pred table n None None) (let e : start + suc i ≡ start + 1 + i = omega arith in e) (h (suc i))
 
 -- behind the cells nothing is written
-past_swept : (kind : WriteKind) (pred : Condition) (table : ℕ) (judge : ℕ → Result (Option Cell) Cause) (start many : ℕ)
+past_swept : (kind : WriteKind) (pred : Condition) (table : ℕ) (judge : ℕ → Result (Option Cell) Ending) (start many : ℕ)
     → Judges kind pred table judge start [] → sweep table judge (range_with_len start many) ≡ Ok []
 past_swept kind pred table judge start zero h = refl
 past_swept kind pred table judge start (suc many) h =
-    ap (λ (first : Result (Option Cell) Cause). and_write table start first (sweep table judge (range_with_len (start + 1) many)))
+    ap (λ (first : Result (Option Cell) Ending). and_write table start first (sweep table judge (range_with_len (start + 1) many)))
     (judges_first kind pred table judge start [] h)
     ∙ ap (and_write table start (Ok None)) (past_swept kind pred table judge (start + 1) many (judges_past kind pred table judge start h))
 
@@ -194,7 +194,7 @@ first_swept kind pred table pos done cell cells written others e v rest =
       there = write_in table pos written others rest.there;
     }
 
-pub swept : (kind : WriteKind) (pred : Condition) (table : ℕ) (judge : ℕ → Result (Option Cell) Cause) (start many : ℕ) (done cells : List Cell)
+pub swept : (kind : WriteKind) (pred : Condition) (table : ℕ) (judge : ℕ → Result (Option Cell) Ending) (start many : ℕ) (done cells : List Cell)
     (writes : List Write) → length done ≡ start → length cells ≤ many → Judges kind pred table judge start cells
     → sweep table judge (range_with_len start many) ≡ Ok writes → Swept kind pred table done cells writes
 swept kind pred table judge start many done [] writes e few h s =

@@ -20,12 +20,12 @@ use Rattle.hy_bound.specs.Changes.{present}
 use Rattle.hy_bound.specs.Predicate.{truth_of}
 use Rattle.hy_plan.specs.Reads.{records_of}
 use Rattle.hy_meaning.specs.Statement.{Table, rows_in, gathered_by, updated_rows, with_table}
-use Rattle.hy_machine.specs.States.{Cause}
+use Rattle.hy_render.specs.declared.Ending.{Ending}
 use Rattle.hy_machine.specs.declared.Setting.{Setting}
 use Rattle.hy_machine.specs.Writes.{Write, with_writes}
 use Rattle.hy_machine.specs.Positions.{item_at}
 use Rattle.hy_machine.specs.Tables.{Tables, Own, capacity, over}
-use Rattle.hy_machine.specs.Turns.{told_by}
+use Rattle.hy_protocol.specs.Statements.{told_by}
 use Rattle.hy_machine.specs.Visits.{verdict}
 use Rattle.hy_replay.specs.Ran.{One, writes_at, changed_by}
 use Rattle.hy_replay.proofs.OverCells.{Alike, HavePositions, few_positions, writes_alike, over_writes}
@@ -82,7 +82,7 @@ MeansWrites setting tables own number statement kind writes =
     Means setting.shapes statement (over tables own) (over tables (with_writes own writes)) (told_by kind (length writes))
 
 changed_steps : (setting : Setting) (tables : Tables) (own : Own) (number : ℕ) (statement : Bound) (kind : WriteKind) (first : One)
-    (result : Result (List Write) Cause) → Alike tables own
+    (result : Result (List Write) Ending) → Alike tables own
     → gathered_by statement (rows_of (over tables own)) ≡ []
     → ((writes : List Write) → result ≡ Ok writes → MeansWrites setting tables own number statement kind writes)
     → changed_by own kind (records_of setting.shapes number statement []) result ≡ Some first → Steps setting tables own number statement first

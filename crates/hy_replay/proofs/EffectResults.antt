@@ -6,7 +6,7 @@ use Rattle.hy_bound.specs.declared.WriteKind.{WriteKind}
 use Rattle.hy_bound.specs.declared.WriteKind.TheVariants as kind
 use Rattle.hy_bound.specs.Condition.{Condition}
 use Rattle.hy_bound.specs.Records.{shape_of}
-use Rattle.hy_machine.specs.States.{Cause}
+use Rattle.hy_render.specs.declared.Ending.{Ending}
 use Rattle.hy_machine.specs.Positions.{item_at}
 use Rattle.hy_machine.specs.Tables.{Cell, Tables}
 use Rattle.hy_machine.specs.Visits.{verdict, and_write, sweep}
@@ -36,11 +36,11 @@ same_verdict selects shape kind number table sets pred pos few before after w v 
     ∙ apart.passed)
     ∙ sym (leaves_alone kind pred table pos before apart.passed)
 
-same_sweep : (table : ℕ) (judge other : ℕ → Result (Option Cell) Cause) → ((pos : ℕ) → judge pos ≡ other pos) → (positions : List ℕ)
+same_sweep : (table : ℕ) (judge other : ℕ → Result (Option Cell) Ending) → ((pos : ℕ) → judge pos ≡ other pos) → (positions : List ℕ)
     → sweep table judge positions ≡ sweep table other positions
 same_sweep table judge other same [] = refl
 same_sweep table judge other same (pos ∷ positions) =
-    ap (λ (one : Result (Option Cell) Cause). and_write table pos one (sweep table judge positions)) (same pos)
+    ap (λ (one : Result (Option Cell) Ending). and_write table pos one (sweep table judge positions)) (same pos)
     ∙ ap (and_write table pos (other pos)) (same_sweep table judge other same positions)
 
 same_writes : SelectsByRead → (shapes : List Shape) (tables others : Tables) (number : ℕ) (kind : WriteKind) (table : ℕ) (sets : List Assign)

@@ -4,8 +4,8 @@ use Rattle.std.proofs.Common.{get_or, refl, ap, sym, ◌∙◌, arith, append_as
 use Rattle.std.proofs.Math.ListN.{set}
 use Rattle.std.specs.List.{AllByRecursion, range_with_len}
 use Rattle.std.proofs.lemmas.List.{get_or-set_other}
+use Rattle.hy_render.specs.declared.Ending.{Ending}
 use Rattle.hy_machine.specs.Writes.{Write, with_write, with_writes}
-use Rattle.hy_machine.specs.States.{Cause}
 use Rattle.hy_machine.specs.Positions.{item_at}
 use Rattle.hy_machine.specs.Tables.{Cell, Tables, Own, overlaid, covered, over}
 use Rattle.hy_machine.specs.Visits.{write_of, and_write, sweep}
@@ -75,16 +75,16 @@ range_joined first (suc many) more =
     (let same : first + 1 + many ≡ first + suc many = omega arith in same))
 
 -- what is written at positions, and then at others
-abbrev pub both_written : Result (List Write) Cause → Result (List Write) Cause → Result (List Write) Cause
+abbrev pub both_written : Result (List Write) Ending → Result (List Write) Ending → Result (List Write) Ending
 both_written (Err cause) others = Err cause
 both_written (Ok writes) (Err cause) = Err cause
 both_written (Ok writes) (Ok others) = Ok (writes ++ others)
 
-nothing_first : (others : Result (List Write) Cause) → others ≡ both_written (Ok []) others
+nothing_first : (others : Result (List Write) Ending) → others ≡ both_written (Ok []) others
 nothing_first (Err cause) = refl
 nothing_first (Ok others) = refl
 
-one_first : (table pos : ℕ) (judged : Result (Option Cell) Cause) (writes others : Result (List Write) Cause)
+one_first : (table pos : ℕ) (judged : Result (Option Cell) Ending) (writes others : Result (List Write) Ending)
     → and_write table pos judged (both_written writes others) ≡ both_written (and_write table pos judged writes) others
 one_first table pos (Err cause) writes others = refl
 one_first table pos (Ok cell) (Err cause) others = refl
@@ -92,7 +92,7 @@ one_first table pos (Ok cell) (Ok writes) (Err cause) = refl
 one_first table pos (Ok cell) (Ok writes) (Ok others) =
     ap (λ (all : List Write). Ok all) (sym (append_assoc (write_of table pos cell) writes others))
 
-pub sweep_joined : (table : ℕ) (judge : ℕ → Result (Option Cell) Cause) (positions more : List ℕ)
+pub sweep_joined : (table : ℕ) (judge : ℕ → Result (Option Cell) Ending) (positions more : List ℕ)
     → sweep table judge (positions ++ more) ≡ both_written (sweep table judge positions) (sweep table judge more)
 sweep_joined table judge [] more = nothing_first (sweep table judge more)
 sweep_joined table judge (pos ∷ positions) more =
@@ -100,17 +100,17 @@ sweep_joined table judge (pos ∷ positions) more =
     ∙ one_first table pos (judge pos) (sweep table judge positions) (sweep table judge more)
 
 -- the same comes of positions where the verdicts are the same
-pub sweep_alike : (table : ℕ) (judge other : ℕ → Result (Option Cell) Cause) (first many : ℕ)
+pub sweep_alike : (table : ℕ) (judge other : ℕ → Result (Option Cell) Ending) (first many : ℕ)
     → ((pos : ℕ) → first ≤ pos → judge pos ≡ other pos) → sweep table judge (range_with_len first many) ≡ sweep table other (range_with_len first many)
 sweep_alike table judge other first zero same = refl
 sweep_alike table judge other first (suc many) same =
-    ap (λ (one : Result (Option Cell) Cause). and_write table first one (sweep table judge (range_with_len (first + 1) many))) (same first (omega arith))
+    ap (λ (one : Result (Option Cell) Ending). and_write table first one (sweep table judge (range_with_len (first + 1) many))) (same first (omega arith))
     ∙ ap (and_write table first (other first)) (sweep_alike table judge other (first + 1) many (λ pos h. same pos (omega (arith, h))))
 
 -- ---- what is written at positions is written below their end
 
 -- all writes are below a position, unless there was a refusal
-abbrev pub AreBelow : ℕ → Result (List Write) Cause → Type 0
+abbrev pub AreBelow : ℕ → Result (List Write) Ending → Type 0
 AreBelow end (Err cause) = Unit {0}
 AreBelow end (Ok writes) = AllByRecursion (λ (write : Write). write.pos < end) writes
 
@@ -119,13 +119,13 @@ first_below : (table pos end : ℕ) (cell : Option Cell) (writes : List Write) �
 first_below table pos end None writes h rest = rest
 first_below table pos end (Some cell) writes h rest = (h, rest)
 
-both_below : (table pos end : ℕ) (judged : Result (Option Cell) Cause) (writes : Result (List Write) Cause) → pos < end → AreBelow end writes
+both_below : (table pos end : ℕ) (judged : Result (Option Cell) Ending) (writes : Result (List Write) Ending) → pos < end → AreBelow end writes
     → AreBelow end (and_write table pos judged writes)
 both_below table pos end (Err cause) writes h rest = tt
 both_below table pos end (Ok cell) (Err cause) h rest = tt
 both_below table pos end (Ok cell) (Ok writes) h rest = first_below table pos end cell writes h rest
 
-pub sweep_below : (table : ℕ) (judge : ℕ → Result (Option Cell) Cause) (first many end : ℕ) → first + many ≤ end
+pub sweep_below : (table : ℕ) (judge : ℕ → Result (Option Cell) Ending) (first many end : ℕ) → first + many ≤ end
     → AreBelow end (sweep table judge (range_with_len first many))
 sweep_below table judge first zero end h = tt
 sweep_below table judge first (suc many) end h =

@@ -8,12 +8,12 @@ use Rattle.hy_bound.specs.declared.WriteKind.{WriteKind}
 use Rattle.hy_bound.specs.declared.WriteKind.TheVariants as kind
 use Rattle.hy_bound.specs.Condition.{Condition}
 use Rattle.hy_plan.specs.Reads.{records_of}
-use Rattle.hy_machine.specs.States.{Cause}
+use Rattle.hy_render.specs.declared.Ending.{Ending}
 use Rattle.hy_machine.specs.declared.Setting.{Setting}
 use Rattle.hy_machine.specs.Writes.{Write, with_writes}
 use Rattle.hy_machine.specs.Positions.{item_at}
 use Rattle.hy_machine.specs.Tables.{Cell, Tables, Own, capacity, over, positions_in}
-use Rattle.hy_machine.specs.Turns.{told_by}
+use Rattle.hy_protocol.specs.Statements.{told_by}
 use Rattle.hy_machine.specs.Visits.{verdict, sweep}
 use Rattle.hy_replay.specs.Ran.{changed_by, writes_at}
 use Rattle.hy_replay.specs.EffectUnseen.{change_of}
@@ -28,7 +28,7 @@ wrote before writes = record { own = with_writes before.own writes; count = befo
 counted : (count : ℕ) (writes others : List Write) → count + length (writes ++ others) ≡ count + length writes + length others
 counted count writes others = omega (arith, length-append writes others)
 
-both_visited : (before : Visited) (writes : List Write) (others : Result (List Write) Cause)
+both_visited : (before : Visited) (writes : List Write) (others : Result (List Write) Ending)
     → visited_by (wrote before writes) others ≡ visited_by before (both_written (Ok writes) others)
 both_visited before writes (Err cause) = refl
 both_visited before writes (Ok others) =
@@ -36,7 +36,7 @@ both_visited before writes (Ok others) =
     (sym (writes_joined before.own writes others))
     ∙ ap (λ (count : ℕ). Ok (record { own = with_writes before.own (writes ++ others); count = count })) (sym (counted before.count writes others))
 
-abbrev judge_of : WriteKind → Condition → Tables → ℕ → Own → ℕ → Result (Option Cell) Cause
+abbrev judge_of : WriteKind → Condition → Tables → ℕ → Own → ℕ → Result (Option Cell) Ending
 judge_of kind pred tables table own = λ pos. verdict kind pred table pos None (item_at (over tables own) table pos)
 
 all_lower : (writes : List Write) (end pos : ℕ) → end ≤ pos → AllByRecursion (λ (write : Write). write.pos < end) writes
@@ -45,7 +45,7 @@ all_lower [] end pos h below = tt
 all_lower (write ∷ writes) end pos h below = (omega (arith, h, below.0), all_lower writes end pos h below.1)
 
 -- behind the positions that were visited everything stands as it stood
-visited_first : (kind : WriteKind) (pred : Condition) (tables : Tables) (table end more : ℕ) (before : Visited) (result : Result (List Write) Cause)
+visited_first : (kind : WriteKind) (pred : Condition) (tables : Tables) (table end more : ℕ) (before : Visited) (result : Result (List Write) Ending)
     → AreBelow end result
     → then_visit kind pred tables table (range_with_len end more) (visited_by before result)
     ≡ visited_by before (both_written result (sweep table (judge_of kind pred tables table before.own) (range_with_len end more)))
@@ -59,7 +59,7 @@ visited_first kind pred tables table end more before (Ok writes) below =
 
 pub visits_add_up : VisitsAddUp
 visits_add_up kind pred tables table first many more before =
-    let judge : ℕ → Result (Option Cell) Cause = judge_of kind pred tables table before.own in
+    let judge : ℕ → Result (Option Cell) Ending = judge_of kind pred tables table before.own in
     visited_first kind pred tables table (first + many) more before (sweep table judge (range_with_len first many))
     (sweep_below table judge first many (first + many) (omega arith))
     ∙ ap (visited_by before) (sym (sweep_joined table judge (range_with_len first many) (range_with_len (first + many) more))
@@ -82,7 +82,7 @@ chunks_add_up setting kind pred tables table (suc chunks) before =
 
 -- ---- statements
 
-changed_answer : (own : Own) (kind : WriteKind) (records : List Record) (result : Result (List Write) Cause)
+changed_answer : (own : Own) (kind : WriteKind) (records : List Record) (result : Result (List Write) Ending)
     → changed_by own kind records result ≡ answered_by kind records (visited_by (record { own = own; count = 0 }) result)
 changed_answer own kind records (Err cause) = refl
 changed_answer own kind records (Ok writes) =

@@ -12,33 +12,33 @@ use Rattle.hy_bound.specs.declared.WriteKind.TheVariants as kind
 use Rattle.hy_bound.specs.Assignment.{value_of, set_column, assigned_to, assigned}
 use Rattle.hy_bound.specs.Condition.{Condition}
 use Rattle.hy_bound.specs.Predicate.{truth_of, truth_at}
-use Rattle.hy_machine.specs.States.{Cause}
+use Rattle.hy_render.specs.declared.Ending.{Ending}
 use Rattle.hy_machine.specs.Writes.{Write}
 use Rattle.hy_machine.specs.Tables.{Cell}
 use Rattle.hy_machine.specs.Visits.{new_cell, judged, verdict, and_write, sweep}
 use Rattle.hy_replay.proofs.Cells.{HasWidth, OwnWidth}
 
-abbrev fine : {A : Type 0} → A → Result A Cause
+abbrev fine : {A : Type 0} → A → Result A Ending
 fine x = Ok x
 
 same_ok : {A : Type 0} (x y : A) → fine x ≡ fine y → x ≡ y
 same_ok {A = A} x y e = ap (ok_or x) e
   where
-    ok_or : A → Result A Cause → A
+    ok_or : A → Result A Ending → A
     ok_or d (Ok a) = a
     ok_or d (Err cause) = d
 
 -- ---- positions one after another
 
 -- what is said of each write at a position holds of all
-pub sweep_all : (P : Write → Type 0) (table : ℕ) (judge : ℕ → Result (Option Cell) Cause)
+pub sweep_all : (P : Write → Type 0) (table : ℕ) (judge : ℕ → Result (Option Cell) Ending)
     → ((pos : ℕ) (cell : Cell) → judge pos ≡ Ok (Some cell) → P (record { table = table; pos = pos; cell = cell }))
     → (positions : List ℕ) (writes : List Write) → sweep table judge positions ≡ Ok writes → AllByRecursion P writes
 sweep_all P table judge each [] writes e = subst (AllByRecursion P) (same_ok [] writes e) tt
 sweep_all P table judge each (pos ∷ positions) writes e =
     by_verdict (judge pos) (sweep table judge positions) refl refl (sweep_all P table judge each positions) e
   where
-    by_verdict : (given : Result (Option Cell) Cause) (rest : Result (List Write) Cause) → judge pos ≡ given → sweep table judge positions ≡ rest
+    by_verdict : (given : Result (Option Cell) Ending) (rest : Result (List Write) Ending) → judge pos ≡ given → sweep table judge positions ≡ rest
         → ((writes : List Write) → sweep table judge positions ≡ Ok writes → AllByRecursion P writes)
         → and_write table pos given rest ≡ Ok writes → AllByRecursion P writes
     by_verdict (Err cause) rest j s ih e = absurd cc
@@ -48,7 +48,7 @@ sweep_all P table judge each (pos ∷ positions) writes e =
         subst (AllByRecursion P) (same_ok (record { table = table; pos = pos; cell = cell } ∷ rest) writes e) (each pos cell j, ih rest s)
 
 -- the same is written where the verdicts are the same, but at positions that aren't written and are left alone too
-pub sweep_again : (table : ℕ) (judge other : ℕ → Result (Option Cell) Cause) (IsOpen : ℕ → ℕ → Type 0)
+pub sweep_again : (table : ℕ) (judge other : ℕ → Result (Option Cell) Ending) (IsOpen : ℕ → ℕ → Type 0)
     → ((pos : ℕ) → (judge pos ≡ other pos) ⊎ (IsOpen table pos × (judge pos ≡ Ok None → other pos ≡ Ok None)))
     → (positions : List ℕ) (writes : List Write) → sweep table judge positions ≡ Ok writes
     → AllByRecursion (λ (write : Write). IsOpen write.table write.pos → ⊥) writes → sweep table other positions ≡ Ok writes
@@ -56,7 +56,7 @@ sweep_again table judge other IsOpen same [] writes e closed = e
 sweep_again table judge other IsOpen same (pos ∷ positions) writes e closed =
     by_verdict (judge pos) (sweep table judge positions) refl refl (sweep_again table judge other IsOpen same positions) e
   where
-    by_verdict : (given : Result (Option Cell) Cause) (rest : Result (List Write) Cause) → judge pos ≡ given → sweep table judge positions ≡ rest
+    by_verdict : (given : Result (Option Cell) Ending) (rest : Result (List Write) Ending) → judge pos ≡ given → sweep table judge positions ≡ rest
         → ((writes : List Write) → sweep table judge positions ≡ Ok writes
         → AllByRecursion (λ (write : Write). IsOpen write.table write.pos → ⊥) writes → sweep table other positions ≡ Ok writes)
         → and_write table pos given rest ≡ Ok writes → and_write table pos (other pos) (sweep table other positions) ≡ Ok writes

@@ -9,12 +9,12 @@ use Rattle.hy_bound.specs.declared.Shape.{Shape}
 use Rattle.hy_bound.specs.declared.WriteKind.{WriteKind}
 use Rattle.hy_bound.specs.Condition.{Condition}
 use Rattle.hy_bound.specs.Records.{shape_of}
-use Rattle.hy_machine.specs.States.{Cause}
+use Rattle.hy_render.specs.declared.Ending.{Ending}
 use Rattle.hy_machine.specs.declared.Setting.{Setting}
 use Rattle.hy_machine.specs.Writes.{Write, with_writes}
 use Rattle.hy_machine.specs.Positions.{item_at}
 use Rattle.hy_machine.specs.Tables.{Cell, Tables, Own, capacity, over}
-use Rattle.hy_machine.specs.Turns.{told_by}
+use Rattle.hy_protocol.specs.Statements.{told_by}
 use Rattle.hy_machine.specs.Visits.{new_cell, verdict}
 use Rattle.hy_replay.specs.Laws.{AreTables, HaveWidths, DifferUnseen}
 use Rattle.hy_replay.specs.Ran.{One, writes_at, changed_by}
@@ -34,7 +34,7 @@ pub record LeavesWrites (setting : Setting) (own : Own) (given : One) : Type 0 w
   pub fit : AllByRecursion (FitsWrite setting) writes
 
 -- an UPDATE or a DELETE that isn't refused
-changed_is : (own : Own) (kind : WriteKind) (records : List Record) (result : Result (List Write) Cause) (given : One)
+changed_is : (own : Own) (kind : WriteKind) (records : List Record) (result : Result (List Write) Ending) (given : One)
     → changed_by own kind records result ≡ Some given
     → (writes : List Write) × ((result ≡ Ok writes)
     × (record { own = with_writes own writes; reply = told_by kind (length writes); records = records } ≡ given))

@@ -15,13 +15,14 @@ use Rattle.hy_bound.specs.Condition.{Condition}
 use Rattle.hy_bound.specs.Records.{shape_of}
 use Rattle.hy_plan.specs.Reads.{records_of}
 use Rattle.hy_meaning.specs.Statement.{answer_of, grouped}
+use Rattle.hy_render.specs.declared.Ending.{Ending}
 use Rattle.hy_machine.specs.declared.Setting.{Setting}
 use Rattle.hy_machine.specs.Writes.{Write, blank_own, with_write, with_writes}
-use Rattle.hy_machine.specs.States.{Cause}
 use Rattle.hy_machine.specs.Positions.{item_at}
 use Rattle.hy_machine.specs.Tables.{Tables, Own, capacity, over}
 use Rattle.hy_machine.specs.Visits.{verdict, sweep, has_key_in}
-use Rattle.hy_machine.specs.Turns.{rows_seen, told_by}
+use Rattle.hy_protocol.specs.Statements.{told_by}
+use Rattle.hy_machine.specs.Turns.{rows_seen}
 
 -- what a statement leaves: the own writes, its reply, the records of what it read
 pub record One : Type 0 where
@@ -30,11 +31,11 @@ pub record One : Type 0 where
   pub records : List Record
 
 -- what an UPDATE or a DELETE writes at these positions of a table, or the first value out of range
-abbrev pub writes_at : WriteKind → Condition → Tables → ℕ → List ℕ → Result (List Write) Cause
+abbrev pub writes_at : WriteKind → Condition → Tables → ℕ → List ℕ → Result (List Write) Ending
 writes_at kind pred view table positions = sweep table (λ pos. verdict kind pred table pos None (item_at view table pos)) positions
 
 -- an UPDATE or a DELETE by what it writes
-abbrev pub changed_by : Own → WriteKind → List Record → Result (List Write) Cause → Option One
+abbrev pub changed_by : Own → WriteKind → List Record → Result (List Write) Ending → Option One
 changed_by own kind records (Err cause) = None
 changed_by own kind records (Ok writes) =
     Some (record { own = with_writes own writes; reply = told_by kind (length writes); records = records })

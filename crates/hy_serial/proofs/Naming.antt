@@ -23,8 +23,6 @@ use Rattle.hy_render.specs.declared.TxnOutcome.{TxnOutcome}
 use Rattle.hy_render.specs.declared.Committed.{Committed as Entry}
 use Rattle.hy_render.specs.declared.Outcome.{Outcome}
 use Rattle.hy_render.specs.Named.{IsPrinted, IsNamedPlace, IsNamedEnding, IsNamedTxn, IsNamedChange, IsNamedEntry, IsNamed}
-use Rattle.hy_machine.specs.States.{Cause}
-use Rattle.hy_machine.specs.States as cause
 use Rattle.hy_machine.specs.declared.Setting.{Setting}
 use Rattle.hy_machine.specs.Validation.{invalid_at, record_hit, hit_among, first_hit}
 use Rattle.hy_lawful.specs.Scripts.{numbered, txn_of, statements_in, statements_of, labels_of, labels_from}
@@ -152,27 +150,27 @@ changes_there setting entry are =
 
 -- the table of a hit is that of a change
 hit_there : (setting : Setting) (records : List Record) (label : Label) (changes : List Change) (table pos : ℕ) (other : Label) (statement : ℕ)
-    → AllByRecursion (λ (change : Change). IsTable setting change.table) changes → hit_among records label changes ≡ Some (cause.Invalid table pos other statement)
+    → AllByRecursion (λ (change : Change). IsTable setting change.table) changes → hit_among records label changes ≡ Some (Invalid table pos other statement)
     → IsTable setting table
 hit_there setting records label [] table pos other statement all hit = absurd cc
 hit_there setting records label (change ∷ changes) table pos other statement all hit =
     by_record (record_hit records change.table change.before change.after) hit (hit_there setting records label changes table pos other statement all.1)
   where
     by_record : (found : Option ℕ)
-        → option_or (option_map (invalid_at label change.table change.pos) found) (hit_among records label changes) ≡ Some (cause.Invalid table pos other statement)
-        → (hit_among records label changes ≡ Some (cause.Invalid table pos other statement) → IsTable setting table) → IsTable setting table
+        → option_or (option_map (invalid_at label change.table change.pos) found) (hit_among records label changes) ≡ Some (Invalid table pos other statement)
+        → (hit_among records label changes ≡ Some (Invalid table pos other statement) → IsTable setting table) → IsTable setting table
     by_record None hit later = later hit
     by_record (Some number) hit later = let same : change.table ≡ table = cc in subst (IsTable setting) same all.0
 
 hits_there : (setting : Setting) (records : List Record) (entries : List Entry) (table pos : ℕ) (other : Label) (statement : ℕ)
-    → AllByRecursion (ChangesAreThere setting) entries → first_hit records entries ≡ Some (cause.Invalid table pos other statement) → IsTable setting table
+    → AllByRecursion (ChangesAreThere setting) entries → first_hit records entries ≡ Some (Invalid table pos other statement) → IsTable setting table
 hits_there setting records [] table pos other statement all hit = absurd cc
 hits_there setting records (entry ∷ entries) table pos other statement all hit =
     by_first (hit_among records entry.label entry.changes) refl hit (hits_there setting records entries table pos other statement all.1)
   where
-    by_first : (found : Option Cause) → hit_among records entry.label entry.changes ≡ found
-        → option_or found (first_hit records entries) ≡ Some (cause.Invalid table pos other statement)
-        → (first_hit records entries ≡ Some (cause.Invalid table pos other statement) → IsTable setting table) → IsTable setting table
+    by_first : (found : Option Ending) → hit_among records entry.label entry.changes ≡ found
+        → option_or found (first_hit records entries) ≡ Some (Invalid table pos other statement)
+        → (first_hit records entries ≡ Some (Invalid table pos other statement) → IsTable setting table) → IsTable setting table
     by_first None is hit later = later hit
     by_first (Some one) is hit later = hit_there setting records entry.label entry.changes table pos other statement all.0 (is ∙ hit)
 

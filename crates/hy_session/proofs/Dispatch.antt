@@ -15,10 +15,10 @@ use Rattle.hy_render.specs.declared.Ending.TheVariants.{RolledBack}
 use Rattle.hy_undo.specs.Chunks.{ChunkData}
 use Rattle.hy_event.specs.declared.SessionData.{SessionData}
 use Rattle.hy_event.specs.declared.Open.{Open}
-use Rattle.hy_event.specs.declared.Phase.{Phase}
-use Rattle.hy_event.specs.declared.Phase.TheVariants.{Working, Stamping, Undoing}
+use Rattle.hy_protocol.specs.declared.Phase.{Phase}
+use Rattle.hy_protocol.specs.declared.Phase.TheVariants.{Working, Stamping, Undoing}
 use Rattle.hy_event.specs.declared.Need.TheVariants.{Chunk}
-use Rattle.hy_event.specs.declared.Progress.{Progress}
+use Rattle.hy_protocol.specs.declared.Progress.{Progress}
 use Rattle.hy_event.specs.Ended.{statements_in}
 use Rattle.hy_event.specs.Events.{ChunkEvent, ClosingVisit, PhaseVisit, SessionVisit, StatementVisit, WorkingVisit}
 use Rattle.hy_event.specs.Needs.{closing_need, need_of, phase_need, session_need, working_need}
@@ -45,9 +45,9 @@ module _ (session : SessionData) (txn : Txn) (now : Open) (there : txn_at sessio
       subst (λ (n : Option Open). SessionVisit session (Some txn) n old progress after new) (sym opened) visit in
       subst (λ (t : Option Txn). SessionVisit session t session.now old progress after new) (sym there) open_one
 
-  pub stamp_event : (visited time : ℕ) → now.phase ≡ Stamping visited time → (old new : ChunkData) (progress : Progress) (after : SessionData)
-      → StampVisit session now visited time old progress after new → ChunkEvent session old progress after new
-  stamp_event visited time stands old new progress after visit =
+  pub stamp_event : (visited : ℕ) → now.phase ≡ Stamping visited → (old new : ChunkData) (progress : Progress) (after : SessionData)
+      → StampVisit session now visited old progress after new → ChunkEvent session old progress after new
+  stamp_event visited stands old new progress after visit =
       session_visits old new progress after (subst (λ (p : Phase). PhaseVisit session txn now p old progress after new) (sym stands) visit)
 
   pub undo_event : (visited : ℕ) (cause : Ending) → now.phase ≡ Undoing visited cause → (old new : ChunkData) (progress : Progress) (after : SessionData)

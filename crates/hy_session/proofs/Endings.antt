@@ -8,8 +8,8 @@ use Rattle.hy_render.specs.declared.TxnOutcome.{TxnOutcome}
 use Rattle.hy_stamp.specs.declared.Label.{Label}
 use Rattle.hy_event.specs.declared.SessionData.{SessionData}
 use Rattle.hy_event.specs.declared.Open.{Open}
-use Rattle.hy_event.specs.declared.Phase.{Phase}
-use Rattle.hy_event.specs.declared.Phase.TheVariants.{Working, Stamping, Undoing}
+use Rattle.hy_protocol.specs.declared.Phase.{Phase}
+use Rattle.hy_protocol.specs.declared.Phase.TheVariants.{Working, Stamping, Undoing}
 use Rattle.hy_event.specs.Ended.{outcome_of, placed_in, statements_in}
 use Rattle.hy_event.specs.Sessions.{label_of, txn_at, written, written_in}
 use Rattle.hy_event.specs.Turns.{done_with, with_ended}
@@ -19,7 +19,7 @@ use Rattle.hy_session.specs.Entered.{is_stamping}
 written_at : (now : Open) (phase : Phase) (places : List Place) → (is_stamping phase ≡ false → places ≡ written_in now phase)
     → (if is_stamping phase then now.wrote else places) ≡ written_in now phase
 written_at now (Working visited count) places given = given refl
-written_at now (Stamping visited time) places given = refl
+written_at now (Stamping visited) places given = refl
 written_at now (Undoing visited cause) places given = given refl
 
 -- how many positions of each table it took

@@ -9,8 +9,8 @@ use Rattle.hy_render.specs.declared.Ending.TheVariants.{RolledBack}
 use Rattle.hy_undo.specs.Chunks.{ChunkData}
 use Rattle.hy_event.specs.declared.SessionData.{SessionData}
 use Rattle.hy_event.specs.declared.Open.{Open}
-use Rattle.hy_event.specs.declared.Phase.TheVariants.{Working, Stamping, Undoing}
-use Rattle.hy_event.specs.declared.Progress.{Progress}
+use Rattle.hy_protocol.specs.declared.Phase.TheVariants.{Working, Stamping, Undoing}
+use Rattle.hy_protocol.specs.declared.Progress.{Progress}
 use Rattle.hy_event.specs.Events.{ChunkEvent, StatementVisit}
 use Rattle.hy_event.specs.Sessions.{txn_at}
 use Rattle.hy_event.specs.Stamping.{StampVisit}
@@ -44,13 +44,13 @@ module _ {E : Type 0} (session seen : SessionData) (visitor : Visitor) (txn : Tx
       (statement_event session txn now there opened visited count works statement present chunk.shown new progress (with_open after session) (visit session is opened)))
       did
 
-  pub stamped : (visited time : ℕ) → now.phase ≡ Stamping visited time
-      → IfOk result (λ progress. ForVisitor visitor now after (λ one next. StampVisit one now visited time chunk.shown progress next new)) → IsEvent
-  stamped visited time stands did =
-      ok_maps result (λ progress. ForVisitor visitor now after (λ one next. StampVisit one now visited time chunk.shown progress next new))
+  pub stamped : (visited : ℕ) → now.phase ≡ Stamping visited
+      → IfOk result (λ progress. ForVisitor visitor now after (λ one next. StampVisit one now visited chunk.shown progress next new)) → IsEvent
+  stamped visited stands did =
+      ok_maps result (λ progress. ForVisitor visitor now after (λ one next. StampVisit one now visited chunk.shown progress next new))
       (λ progress. ChunkEvent session chunk.shown progress (with_open after seen) new)
       (λ progress visit. with_others session seen after chunk.shown new progress same
-      (stamp_event session txn now there opened visited time stands chunk.shown new progress (with_open after session) (visit session is opened)))
+      (stamp_event session txn now there opened visited stands chunk.shown new progress (with_open after session) (visit session is opened)))
       did
 
   pub undone : (visited : ℕ) (cause : Ending) → now.phase ≡ Undoing visited cause

@@ -6,7 +6,7 @@ use Rattle.hy_bound.specs.declared.Txn.{Txn}
 use Rattle.hy_chunk.specs.Views.{Whole}
 use Rattle.hy_event.specs.declared.SessionData.{SessionData}
 use Rattle.hy_event.specs.declared.Open.{Open}
-use Rattle.hy_event.specs.declared.Phase.TheVariants.{Working}
+use Rattle.hy_protocol.specs.declared.Phase.TheVariants.{Working}
 use Rattle.hy_event.specs.Ended.{statements_in}
 use Rattle.hy_event.specs.Needs.{need_of, phase_need, session_need, statement_need, working_need}
 use Rattle.hy_event.specs.Sessions.{txn_at}

@@ -12,13 +12,15 @@ use Rattle.hy_plan.specs.Reads.{records_of}
 use Rattle.hy_meaning.specs.Statement.{Table}
 use Rattle.hy_gathered.specs.Answers.{spread_all}
 use Rattle.hy_undo.specs.Places.{Place}
+use Rattle.hy_value.specs.declared.change.Change.{Change}
 use Rattle.hy_event.specs.declared.SessionData.{SessionData}
 use Rattle.hy_event.specs.declared.Open.{Open}
-use Rattle.hy_event.specs.declared.Phase.TheVariants.{Working}
+use Rattle.hy_protocol.specs.declared.Phase.TheVariants.{Working}
 use Rattle.hy_event.specs.Gathering.{ReadPlan, conditions_by, joined_columns, rows_gathered, with_rows}
 use Rattle.hy_event.specs.Reading.{gathered_with, read_turn}
 use Rattle.hy_event.specs.Sessions.{viewer_of}
-use Rattle.hy_event.specs.Turns.{Turn, Answers, Visits, answer_turn, goes_on}
+use Rattle.hy_protocol.specs.Turns.{Turn, Answers, Visits, goes_on}
+use Rattle.hy_event.specs.Turns.{answer_turn}
 use Rattle.hy_session.specs.declared.reading.ReadStep.TheVariants.{More, Answer}
 use Rattle.hy_visit.specs.Readers.{IsPlanOf}
 use Rattle.hy_session.specs.Reading.{IsStep}
@@ -39,7 +41,7 @@ taken_same viewer who part list parts before gathered places one two three =
     ∙ (ap (λ (those : List PlanPart). taken_by who part those before places) two
     ∙ ap (λ (tables : List Table). taken_by who part parts tables places) three)
 
-abbrev turn_if : SessionData → Open → ℕ → Bound → List Table → Reply → Bool → Turn
+abbrev turn_if : SessionData → Open → ℕ → Bound → List Table → Reply → Bool → Turn Change
 turn_if session now visited statement gathered reply more =
     cond more (goes_on visited) (answer_turn session now statement gathered [] reply None)
 

@@ -15,15 +15,16 @@ use Rattle.hy_meaning.specs.Statement.{Table}
 use Rattle.hy_undo.specs.Chunks.{ChunkData}
 use Rattle.hy_event.specs.declared.SessionData.{SessionData}
 use Rattle.hy_event.specs.declared.Open.{Open}
-use Rattle.hy_event.specs.declared.Phase.{Phase}
-use Rattle.hy_event.specs.declared.Phase.TheVariants.{Working}
-use Rattle.hy_event.specs.declared.Progress.{Progress}
+use Rattle.hy_protocol.specs.declared.Phase.{Phase}
+use Rattle.hy_protocol.specs.declared.Phase.TheVariants.{Working}
+use Rattle.hy_protocol.specs.declared.Progress.{Progress}
 use Rattle.hy_event.specs.Ended.{statements_in}
 use Rattle.hy_event.specs.Events.{ChunkEvent, PhaseVisit, SessionVisit, StatementVisit, WorkingVisit}
 use Rattle.hy_event.specs.Gathering.{ReadPlan, with_rows}
 use Rattle.hy_event.specs.Reading.{PlannedVisit, ReadVisit, gathered_with, with_gathered}
 use Rattle.hy_event.specs.Sessions.{label_of, txn_at}
-use Rattle.hy_event.specs.Turns.{Answers, Takes, Visits, after_turn, with_changed}
+use Rattle.hy_protocol.specs.Turns.{Answers, Visits}
+use Rattle.hy_event.specs.Turns.{Takes, after_turn, with_changed}
 use Rattle.hy_session.specs.declared.reading.ReadStep.{ReadStep}
 use Rattle.hy_session.specs.declared.reading.ReadStep.TheVariants.{More, Answer}
 use Rattle.hy_session.specs.Near.{present_statement}
@@ -83,9 +84,9 @@ pub read_event : (session : SessionData) (now : Open) (visited count : ℕ) (sta
 read_event session now visited count statement step old progress after new opened working present is takes same =
     let plan : ReadPlan = is.plan in
     let gathered : List Table = gathered_with session now plan (visited / session.chunks) is.part old.places in
-    let turn : (after, progress) ≡ after_turn (with_gathered gathered session) (step_turn step) = takes gathered is.keeps in
+    let turn : (after, progress) ≡ after_turn None (with_gathered gathered session) (step_turn step) = takes gathered is.keeps in
     let taken : PlannedVisit session now visited statement plan (Some is.part) old.places progress after =
-    turn ∙ ap (after_turn (with_gathered gathered session)) is.turn in
+    turn ∙ ap (after_turn None (with_gathered gathered session)) is.turn in
     let planned : PlannedVisit session now visited statement plan (slice_get plan.parts (visited / session.chunks)) old.places progress after =
     subst (λ (p : Option PlanPart). PlannedVisit session now visited statement plan p old.places progress after) (sym is.found) taken in
     let visit : ReadVisit session now visited statement plan old progress after new = record { chunk = same; turn = planned } in

@@ -19,9 +19,9 @@ use Rattle.hy_undo.specs.declared.refusal.Refusal.{Refusal}
 use Rattle.hy_undo.specs.Chunks.{ChunkData}
 use Rattle.hy_event.specs.declared.SessionData.{SessionData}
 use Rattle.hy_event.specs.declared.Open.{Open}
-use Rattle.hy_event.specs.declared.Phase.{Phase}
-use Rattle.hy_event.specs.declared.Phase.TheVariants.{Working, Undoing}
-use Rattle.hy_event.specs.declared.Progress.TheVariants.{Moved, Answered}
+use Rattle.hy_protocol.specs.declared.Phase.{Phase}
+use Rattle.hy_protocol.specs.declared.Phase.TheVariants.{Working, Undoing}
+use Rattle.hy_protocol.specs.declared.Progress.TheVariants.{Moved, Answered}
 use Rattle.hy_event.specs.Inserting.{PlaceVisit}
 use Rattle.hy_event.specs.Turns.{with_open}
 use Rattle.hy_event.specs.Writing.{WriteVisit, ending_by, told_by}

@@ -14,7 +14,7 @@ use Rattle.hy_render.specs.declared.Place.{Place}
 use Rattle.hy_event.specs.declared.SessionData.{SessionData}
 use Rattle.hy_event.specs.declared.Open.{Open}
 use Rattle.hy_event.specs.declared.Need.TheVariants.{Chunk}
-use Rattle.hy_event.specs.declared.Phase.TheVariants.{Stamping, Undoing}
+use Rattle.hy_protocol.specs.declared.Phase.TheVariants.{Stamping, Undoing}
 use Rattle.hy_event.specs.Needs.{chunk_or_core, need_of, phase_need, written_need}
 use Rattle.hy_event.specs.Sessions.{chunks_from, chunks_in_table, lies_in, txn_at, written, written_chunks}
 use Rattle.hy_render.specs.declared.Ending.{Ending}
@@ -56,9 +56,9 @@ few_visits session now visited table number few need =
     omega (arith, few, within, all)
 
 module _ (session seen : SessionData) (txn : Txn) (now : Open) where
-  pub stamp_fits : (visited time table number : ℕ) → seen ≡ session → length seen.shapes * seen.chunks < 2 ^ 32 → txn_at session ≡ Some txn
-      → session.now ≡ Some now → now.phase ≡ Stamping visited time → need_of session ≡ Chunk table number → visited + 1 < 2 ^ 32
-  stamp_fits visited time table number same few there opened stands needed =
+  pub stamp_fits : (visited table number : ℕ) → seen ≡ session → length seen.shapes * seen.chunks < 2 ^ 32 → txn_at session ≡ Some txn
+      → session.now ≡ Some now → now.phase ≡ Stamping visited → need_of session ≡ Chunk table number → visited + 1 < 2 ^ 32
+  stamp_fits visited table number same few there opened stands needed =
       few_visits session now visited table number (subst (λ (s : SessionData). length s.shapes * s.chunks < 2 ^ 32) same few)
       (sym (session_needs session txn now there opened ∙ ap (phase_need session txn now) stands) ∙ needed)
 

@@ -16,12 +16,13 @@ use Rattle.hy_visit.specs.Placing.{change_at}
 use Rattle.hy_visit.specs.Writing.{counted, noted_after}
 use Rattle.hy_event.specs.declared.SessionData.{SessionData}
 use Rattle.hy_event.specs.declared.Open.{Open}
-use Rattle.hy_event.specs.declared.Phase.{Phase}
-use Rattle.hy_event.specs.declared.Phase.TheVariants.{Working, Undoing}
-use Rattle.hy_event.specs.declared.Progress.{Progress}
-use Rattle.hy_event.specs.declared.Progress.TheVariants.{Moved, Answered}
+use Rattle.hy_protocol.specs.declared.Phase.{Phase}
+use Rattle.hy_protocol.specs.declared.Phase.TheVariants.{Working, Undoing}
+use Rattle.hy_protocol.specs.declared.Progress.{Progress}
+use Rattle.hy_protocol.specs.declared.Progress.TheVariants.{Moved, Answered}
 use Rattle.hy_event.specs.Inserting.{place_turn}
-use Rattle.hy_event.specs.Turns.{Step, Takes, Visits, Answers, with_notes, with_open, after_visit, after_answer}
+use Rattle.hy_protocol.specs.Turns.{Visits, Answers}
+use Rattle.hy_event.specs.Turns.{Step, Takes, with_notes, with_open, after_visit, after_answer}
 use Rattle.hy_event.specs.Writing.{ending_by, told_by, write_turn}
 
 -- an open transaction that has written so and goes on to a phase

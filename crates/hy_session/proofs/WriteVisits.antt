@@ -12,7 +12,6 @@ use Rattle.hy_undo.specs.declared.refusal.Refusal.{Refusal}
 use Rattle.hy_undo.specs.Chunks.{ChunkData}
 use Rattle.hy_visit.specs.declared.writing.Writer.{Writer}
 use Rattle.hy_visit.specs.Placing.{PlaceDone, change_at}
-use Rattle.hy_visit.specs.Pruning.{PrunesBy}
 use Rattle.hy_visit.specs.Writing.{WriteDone, counted, noted_after}
 use Rattle.hy_event.specs.declared.SessionData.{SessionData}
 use Rattle.hy_event.specs.declared.Open.{Open}
@@ -25,11 +24,9 @@ use Rattle.hy_session.specs.Written.{Came, Wrote}
 
 -- pruned as a session prunes, by the cover of its open transaction
 pub prunes_so : (session : SessionData) (prunes : Bool) (cover own : Cover) (old new : ChunkData) → prunes ≡ session.prunes → cover ≡ own
-    → PrunesBy prunes cover old new → PrunesFirst session own old new
+    → PrunesFirst prunes cover old new → PrunesFirst session.prunes own old new
 prunes_so session prunes cover own old new same covers did =
-    let there : PrunesBy session.prunes own old new =
-    subst (λ (p : Bool). PrunesBy p own old new) same (subst (λ (c : Cover). PrunesBy prunes c old new) covers did) in
-    record { pruned = there.pruned; kept = there.kept }
+    subst (λ (p : Bool). PrunesFirst p own old new) same (subst (λ (c : Cover). PrunesFirst prunes c old new) covers did)
 
 -- as whom a visitor looks
 abbrev pub viewer_by : ℕ → ℕ → Viewer

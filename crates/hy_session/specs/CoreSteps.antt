@@ -6,7 +6,7 @@ use Rattle.hy_render.specs.declared.Ending.TheVariants.{Committed}
 use Rattle.hy_event.specs.declared.SessionData.{SessionData}
 use Rattle.hy_event.specs.declared.Open.{Open}
 use Rattle.hy_event.specs.Sessions.{label_of}
-use Rattle.hy_event.specs.Turns.{Waits, Enters, Ends, refused}
+use Rattle.hy_protocol.specs.Turns.{Waits, Enters, Ends, refused}
 use Rattle.hy_event.specs.CoreTurns.{CoreTurn, begin_turn}
 use Rattle.hy_session.specs.declared.core_steps.CoreStep.{CoreStep}
 use Rattle.hy_session.specs.declared.core_steps.CoreStep.TheVariants as step
@@ -37,7 +37,7 @@ leaves (step.Leave rank) = true
 abbrev pub turn_by : CoreStep → SessionData → CoreData → CoreTurn
 turn_by (step.Wait by) session core = (Waits by, core)
 turn_by step.Begin session core = begin_turn core
-turn_by step.Enter session core = (Enters core.next, entered_by session core session.now)
+turn_by step.Enter session core = (Enters, entered_by session core session.now)
 turn_by (step.Refuse cause) session core = (refused cause, core)
 turn_by (step.Close cause) session core = (Ends cause, closed_by core session.now)
 turn_by (step.Leave rank) session core = (Ends (Committed rank), left_by core session.now)

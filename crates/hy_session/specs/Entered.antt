@@ -2,13 +2,13 @@
 use Rattle.std.specs.Prelude.{Bool, true, false, Option, None, Some}
 use Rattle.hy_event.specs.declared.SessionData.{SessionData}
 use Rattle.hy_event.specs.declared.Open.{Open}
-use Rattle.hy_event.specs.declared.Phase.{Phase}
-use Rattle.hy_event.specs.declared.Phase.TheVariants.{Working, Stamping, Undoing}
+use Rattle.hy_protocol.specs.declared.Phase.{Phase}
+use Rattle.hy_protocol.specs.declared.Phase.TheVariants.{Working, Stamping, Undoing}
 
 -- by where it stands
 abbrev pub is_stamping : Phase → Bool
 is_stamping (Working visited count) = false
-is_stamping (Stamping visited time) = true
+is_stamping (Stamping visited) = true
 is_stamping (Undoing visited cause) = false
 
 abbrev pub entry_in : Option Open → Bool

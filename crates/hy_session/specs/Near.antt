@@ -12,7 +12,7 @@ use Rattle.hy_chunk.specs.Writes.{FitsSets}
 use Rattle.hy_visit.specs.Pruning.{AllFall, AllUnderOwn}
 use Rattle.hy_event.specs.declared.SessionData.{SessionData}
 use Rattle.hy_event.specs.declared.Open.{Open}
-use Rattle.hy_event.specs.declared.Phase.TheVariants.{Working, Stamping}
+use Rattle.hy_protocol.specs.declared.Phase.TheVariants.{Working, Stamping}
 use Rattle.hy_event.specs.declared.Need.TheVariants.{Chunk}
 use Rattle.hy_event.specs.Ended.{statements_in}
 use Rattle.hy_event.specs.Needs.{need_of}
@@ -57,7 +57,7 @@ present_statement session now = slice_get (statements_in (txn_at session)) (leng
 -- its present statement is of the chunk's types, and has a visit left
 pub record NearOpen (session : SessionData) (now : Open) (chunk : Whole) : Type 0 where
   pub early : now.cover.next ≤ id_of (label_of session)
-  pub under : (visited time : ℕ) → now.phase ≡ Stamping visited time → AllUnderOwn (id_of (label_of session)) time chunk.shown.places
+  pub under : (visited : ℕ) → now.phase ≡ Stamping visited → AllUnderOwn (id_of (label_of session)) now.time chunk.shown.places
   pub typed : (visited count : ℕ) (statement : Bound) → now.phase ≡ Working visited count → present_statement session now ≡ Some statement
       → IsTyped chunk.kinds chunk.shown.key statement
   pub visits : (visited count : ℕ) (statement : Bound) → now.phase ≡ Working visited count → present_statement session now ≡ Some statement

@@ -8,8 +8,8 @@ use Rattle.hy_bound.specs.declared.WriteKind.{WriteKind}
 use Rattle.hy_bound.specs.declared.WriteKind.TheVariants.{Set}
 use Rattle.hy_event.specs.declared.SessionData.{SessionData}
 use Rattle.hy_event.specs.declared.Open.{Open}
-use Rattle.hy_event.specs.declared.Phase.{Phase}
-use Rattle.hy_event.specs.declared.Phase.TheVariants.{Working, Stamping, Undoing}
+use Rattle.hy_protocol.specs.declared.Phase.{Phase}
+use Rattle.hy_protocol.specs.declared.Phase.TheVariants.{Working, Stamping, Undoing}
 use Rattle.hy_event.specs.Ended.{statements_in}
 use Rattle.hy_session.specs.declared.prepared.Prepared.{Prepared}
 use Rattle.hy_session.specs.declared.prepared.StatementPlan.{StatementPlan}
@@ -54,7 +54,7 @@ IsPlanAt session number plan = (statement : Bound) → statement_at session.prog
 -- the statement at which an open transaction works, by where it stands
 abbrev pub statement_by : SessionData → Open → Phase → Option Bound
 statement_by session now (Working visited count) = present_statement session now
-statement_by session now (Stamping visited time) = None
+statement_by session now (Stamping visited) = None
 statement_by session now (Undoing visited cause) = None
 
 abbrev pub statement_of : SessionData → Option Open → Option Bound

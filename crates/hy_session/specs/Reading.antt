@@ -7,14 +7,15 @@ use Rattle.hy_meaning.specs.Statement.{Table}
 use Rattle.hy_gathered.specs.Answers.{spread_all}
 use Rattle.hy_undo.specs.Places.{Place}
 use Rattle.hy_chunk.specs.Views.{Whole}
+use Rattle.hy_value.specs.declared.change.Change.{Change}
 use Rattle.hy_event.specs.declared.SessionData.{SessionData}
 use Rattle.hy_event.specs.declared.Open.{Open}
-use Rattle.hy_event.specs.declared.Phase.TheVariants.{Working}
+use Rattle.hy_protocol.specs.declared.Phase.TheVariants.{Working}
 use Rattle.hy_event.specs.declared.Need.TheVariants.{Chunk}
 use Rattle.hy_event.specs.Gathering.{ReadPlan, with_rows}
 use Rattle.hy_event.specs.Needs.{statement_need}
 use Rattle.hy_event.specs.Reading.{gathered_with, read_turn}
-use Rattle.hy_event.specs.Turns.{Turn, Visits, Answers}
+use Rattle.hy_protocol.specs.Turns.{Turn, Visits, Answers}
 use Rattle.hy_session.specs.declared.reading.ReadStep.{ReadStep}
 use Rattle.hy_session.specs.declared.reading.ReadStep.TheVariants.{More, Answer}
 use Rattle.hy_session.specs.Near.{HasVisitLeft, present_statement}
@@ -43,7 +44,7 @@ pub record IsNextFor (session : SessionData) (visited : ℕ) (statement : Bound)
 -- ---- the visit
 
 -- what a session does: it goes on, or it answers
-abbrev pub step_turn : ReadStep → Turn
+abbrev pub step_turn : ReadStep → Turn Change
 step_turn (More number piece visited) = Visits [] (Working visited 0)
 step_turn (Answer reply records) = Answers [] reply None records
 

@@ -8,8 +8,8 @@ use Rattle.hy_undo.specs.Chunks.{ChunkData}
 use Rattle.hy_visit.specs.Pruning.{AllShort}
 use Rattle.hy_event.specs.declared.SessionData.{SessionData}
 use Rattle.hy_event.specs.declared.Open.{Open}
-use Rattle.hy_event.specs.declared.Phase.{Phase}
-use Rattle.hy_event.specs.declared.Phase.TheVariants.{Working, Stamping, Undoing}
+use Rattle.hy_protocol.specs.declared.Phase.{Phase}
+use Rattle.hy_protocol.specs.declared.Phase.TheVariants.{Working, Stamping, Undoing}
 use Rattle.hy_event.specs.Needs.{checks_of}
 use Rattle.hy_session.specs.Near.{present_statement}
 
@@ -25,7 +25,7 @@ statement_prunes session visited (Delete table pred) = true
 -- whether the next visit of an open transaction prunes; a stamp visit does
 abbrev pub visit_prunes : SessionData → Open → Phase → Bool
 visit_prunes session now (Working visited count) = option_map_or (statement_prunes session visited) (present_statement session now) false
-visit_prunes session now (Stamping visited time) = true
+visit_prunes session now (Stamping visited) = true
 visit_prunes session now (Undoing visited cause) = false
 
 -- where a session prunes and its visit was such a one, each chain of the chunk has at most as many records below the

@@ -11,8 +11,8 @@ use Rattle.hy_undo.specs.Chunks.{ChunkData}
 use Rattle.hy_visit.specs.Pruning.{AllFall, AllShort}
 use Rattle.hy_event.specs.declared.SessionData.{SessionData}
 use Rattle.hy_event.specs.declared.Open.{Open}
-use Rattle.hy_event.specs.declared.Phase.{Phase}
-use Rattle.hy_event.specs.declared.Phase.TheVariants.{Working, Stamping, Undoing}
+use Rattle.hy_protocol.specs.declared.Phase.{Phase}
+use Rattle.hy_protocol.specs.declared.Phase.TheVariants.{Working, Stamping, Undoing}
 use Rattle.hy_event.specs.Sessions.{label_of}
 use Rattle.hy_event.specs.Turns.{with_open}
 use Rattle.hy_session.specs.declared.visitors.Visitor.{Visitor}
@@ -67,7 +67,7 @@ gathers (Delete table pred) = false
 -- whether the next visit of an open transaction, by where it stands, is one of a SELECT
 abbrev pub reads_at : SessionData → Open → Phase → Bool
 reads_at session now (Working visited count) = option_map_or gathers (present_statement session now) false
-reads_at session now (Stamping visited time) = false
+reads_at session now (Stamping visited) = false
 reads_at session now (Undoing visited cause) = false
 
 abbrev pub reads_in : SessionData → Option Open → Bool

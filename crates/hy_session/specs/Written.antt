@@ -42,7 +42,7 @@ pub record CanWrite (visitor : Visitor) (write : Write) (cover : Cover) (chunk :
 pub record Wrote (session : SessionData) (now : Open) (table : ℕ) (sets : Option (List Assign)) (pred : Condition) (old : ChunkData)
     (answer : Result ℕ Refusal) (new : ChunkData) (notes : List Change) : Type 0 where
   pub between : ChunkData
-  pub prunes : PrunesFirst session now.cover old between
+  pub prunes : PrunesFirst session.prunes now.cover old between
   pub chunk : Becomes (viewer_of session now) (label_of session) (cells_by sets pred (viewer_of session now) between) between new
   pub told : answer ≡ counted (changes_by table (viewer_of session now) between (cells_by sets pred (viewer_of session now) between))
   pub noted : notes ≡ noted_after now.notes (changes_by table (viewer_of session now) between (cells_by sets pred (viewer_of session now) between))
@@ -64,7 +64,7 @@ pub record CanInsert (visitor : Visitor) (insertion : Insertion) (cover : Cover)
 pub record Came (session : SessionData) (now : Open) (table : ℕ) (row : List Value) (old : ChunkData)
     (answer : Option ℕ) (new : ChunkData) (notes : List Change) : Type 0 where
   pub between : ChunkData
-  pub prunes : PrunesFirst session now.cover old between
+  pub prunes : PrunesFirst session.prunes now.cover old between
   pub chunk : Comes (viewer_of session now) (label_of session) now.cover row (free_index now.cover between) between new
   pub told : answer ≡ free_position now.cover between
   pub noted : notes ≡ with_notes now.notes (change_at table row answer)

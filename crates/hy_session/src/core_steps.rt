@@ -15,7 +15,7 @@ use crate::numbers::elements_behind;
 use crate::{OpenTransaction, Session};
 use hy_bound::{Record, Txn};
 use hy_core::Core;
-use hy_event::Phase;
+use hy_protocol::Phase;
 use hy_render::Ending;
 use hy_stamp::Label;
 use hy_validate::{Invalid, Tree, validate_with};

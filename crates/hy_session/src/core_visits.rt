@@ -3,8 +3,9 @@
 ghost use Rattle.std.specs.Prelude.{◌≡◌, ◌^◌, ◌<◌, [], true, false, IfOk, OnOk, OnErr, length};
 ghost use Rattle.hy_event.specs.declared.Need.{Need};
 ghost use Rattle.hy_event.specs.Needs.{need_of};
-ghost use Rattle.hy_event.specs.CoreTurns.{CoreEvent, beginning};
-ghost use Rattle.hy_event.specs.Turns.{Begins, Enters, Ends, Takes, refused};
+ghost use Rattle.hy_event.specs.CoreTurns.{CoreEvent};
+ghost use Rattle.hy_protocol.specs.Turns.{Begins, Enters, Ends, refused};
+ghost use Rattle.hy_event.specs.Turns.{Takes, TakesBy, beginning};
 ghost use Rattle.hy_render.specs.declared.Ending.TheVariants.{Committed};
 ghost use Rattle.hy_journal.specs.Core.{core_begun};
 ghost use Rattle.hy_session.specs.Entered.{has_entry};
@@ -15,9 +16,9 @@ use crate::core_steps::CoreStep;
 use crate::ends::written_places;
 use crate::{OpenTransaction, Session};
 use hy_core::Core;
-use hy_event::{Phase, Progress};
 use hy_notes::Changes;
 use hy_plan::ReadLog;
+use hy_protocol::{Phase, Progress};
 use hy_render::Ending;
 use hy_value::Seq;
 use std::alloc::{AllocError, Global};
@@ -49,6 +50,7 @@ fn begin_transaction(
         gathered: Vec::new(alloc),
         notes: mem::replace(spare, Changes::new(alloc)),
         wrote: Seq::new(alloc),
+        time: 0,
         phase: Phase::Working {
             visited: 0,
             count: 0,
@@ -61,7 +63,7 @@ impl Session {
     fn begin(&mut self, alloc: Global, core: &mut Core) -> Result<Progress, AllocError>
         requires clock { core.old.next < 2 ^ 63 }
         requires few { length core.old.entries < 2 ^ 32 }
-        ensures turn { IfOk result (λ progress. Takes self.old (Begins (beginning core.old)) progress self.new) }
+        ensures turn { IfOk result (λ progress. TakesBy core.old self.old Begins progress self.new) }
         ensures core { OnOk result (core.new ≡ core_begun core.old) }
         ensures err { OnErr result (self.new ≡ self.old) }
         ensures core_err { OnErr result (core.new ≡ core.old) }
@@ -77,7 +79,7 @@ impl Session {
     fn enter(&mut self, alloc: Global, core: &mut Core) -> Result<Progress, AllocError>
         requires clock { core.old.next < 2 ^ 63 }
         requires at { length self.old.done < length self.old.program }
-        ensures turn { IfOk result (λ progress. Takes self.old (Enters core.old.next) progress self.new) }
+        ensures turn { IfOk result (λ progress. TakesBy core.old self.old Enters progress self.new) }
         ensures core { OnOk result (core.new ≡ entered_by self.old core.old self.old.now) }
         ensures err { OnErr result (self.new ≡ self.old) }
         ensures core_err { OnErr result (core.new ≡ core.old) }
@@ -89,7 +91,8 @@ impl Session {
         let wrote = written_places(alloc, now)?;
         let time = core.enter(label, now.start, &mut now.notes)?;
         now.wrote = wrote;
-        now.phase = Phase::Stamping { visited: 0, time };
+        now.time = time;
+        now.phase = Phase::Stamping { visited: 0 };
         Ok(Progress::Moved)
     }
 

@@ -11,7 +11,7 @@ ghost use Rattle.hy_session.specs.Entered.{is_stamping};
 
 use crate::{OpenTransaction, Session};
 use hy_bound::Bound;
-use hy_event::Phase;
+use hy_protocol::Phase;
 use hy_render::{Ending, Place, Places, TxnOutcome};
 use hy_value::{Change, Seq};
 use std::alloc::{AllocError, Global};

@@ -1,7 +1,7 @@
 //! Visits of an INSERT.
 
 ghost use Rattle.std.specs.Prelude.{◌≡◌, ◌<◌, ◌≤◌, suc, true, nat_lt, if◌then◌else◌, Some, IfOk, OnErr, OnOk};
-ghost use Rattle.hy_event.specs.declared.Phase.{Phase};
+ghost use Rattle.hy_protocol.specs.declared.Phase.{Phase};
 ghost use Rattle.hy_render.specs.declared.Ending.{Ending};
 ghost use Rattle.hy_bound.specs.declared.Bound.{Bound};
 ghost use Rattle.hy_bound.specs.Records.{shape_of};
@@ -15,8 +15,8 @@ use crate::answers::{Answer, push_answer, reserve_answer, reserve_writes};
 use crate::visitors::{Present, Visitor};
 use hy_bound::{Reply, table_shape};
 use hy_chunk::Chunk;
-use hy_event::{Phase, Progress};
 use hy_notes::Changes;
+use hy_protocol::{Phase, Progress};
 use hy_prune::Cover;
 use hy_render::Ending;
 use hy_value::Row;

@@ -23,10 +23,11 @@ mod visits;
 mod writing;
 
 use hy_bound::{Reply, Shapes, Txns};
-use hy_event::{Need, Phase};
+use hy_event::Need;
 use hy_gathered::Pieces;
 use hy_notes::Changes;
 use hy_plan::ReadLog;
+use hy_protocol::Phase;
 use hy_prune::Cover;
 use hy_render::{Places, TxnOutcome};
 use prepared::Prepared;
@@ -45,6 +46,7 @@ struct OpenTransaction {
     gathered: Vec<Pieces>,
     notes: Changes,
     wrote: Places,
+    time: u64,
     phase: Phase,
 }
 
@@ -66,6 +68,7 @@ impl Model for OpenTransaction {
       gathered = a.gathered.items;
       notes = a.notes.notes;
       wrote = a.wrote;
+      time = a.time;
       phase = a.phase;
     } };
 }

@@ -7,7 +7,8 @@ ghost use Rattle.hy_session.specs.Standing.{needed_number};
 
 use crate::{OpenTransaction, Session};
 use hy_bound::{Bound, Txn, table_shape};
-use hy_event::{Need, Phase};
+use hy_event::Need;
+use hy_protocol::Phase;
 
 /// The table of this number in FROM order.
 fn table_at(tables: &[u32], number: u32) -> u32
@@ -73,7 +74,7 @@ impl Session {
                     None => self.left_of_written(now, 0),
                 }
             }
-            Phase::Stamping { visited, .. } | Phase::Undoing { visited, .. } => {
+            Phase::Stamping { visited } | Phase::Undoing { visited, .. } => {
                 self.left_of_written(now, visited)
             }
         }

@@ -11,7 +11,7 @@ ghost use Rattle.hy_session.specs.Reading.{IsReading};
 use crate::Session;
 use crate::copying::copy_sets;
 use hy_bound::{Bound, WriteKind};
-use hy_event::Phase;
+use hy_protocol::Phase;
 use hy_visit::{Reader, reader_of};
 use std::alloc::{AllocError, Global};
 

@@ -7,7 +7,8 @@ ghost use Rattle.hy_event.specs.Needs.{written_need};
 ghost use Rattle.hy_session.specs.Seeking.{sought};
 
 use crate::{OpenTransaction, Session};
-use hy_event::{Need, Phase};
+use hy_event::Need;
+use hy_protocol::Phase;
 use hy_render::Place;
 use hy_value::Change;
 

@@ -9,7 +9,7 @@ ghost use Rattle.hy_session.specs.Visitors.{ForVisitor};
 use crate::OpenTransaction;
 use crate::visitors::Visitor;
 use hy_chunk::Chunk;
-use hy_event::{Phase, Progress};
+use hy_protocol::{Phase, Progress};
 use hy_render::Ending;
 use hy_visit::{stamp_visit, undo_visit};
 
@@ -17,22 +17,20 @@ use hy_visit::{stamp_visit, undo_visit};
 pub fn stamp(
     visitor: &Visitor,
     visited: u32,
-    time: u64,
     now: &mut OpenTransaction,
     chunk: &mut Chunk,
 ) -> Progress
     requires few { visited + 1 < 2 ^ 32 }
     requires falls { AllFall chunk.old.shown.places }
-    requires under { AllUnderOwn visitor.now.id time chunk.old.shown.places }
+    requires under { AllUnderOwn visitor.now.id now.old.time chunk.old.shown.places }
     ensures event { ForVisitor visitor.now now.old now.new (λ session after.
-        StampVisit session now.old visited time chunk.old.shown result after chunk.new.shown) }
+        StampVisit session now.old visited chunk.old.shown result after chunk.new.shown) }
     ensures short { visitor.now.prunes ≡ true → AllShort now.old.cover chunk.new.shown.places }
     ensures kinds { chunk.new.kinds ≡ chunk.old.kinds }
 {
-    stamp_visit(chunk, visitor.id, time, &now.cover, visitor.prunes);
+    stamp_visit(chunk, visitor.id, now.time, &now.cover, visitor.prunes);
     now.phase = Phase::Stamping {
         visited: visited + 1,
-        time,
     };
     Progress::Moved
 }

@@ -17,7 +17,7 @@ use crate::writing::{Write, write_rows};
 use crate::{OpenTransaction, Session};
 use hy_bound::{Bound, WriteKind};
 use hy_chunk::Chunk;
-use hy_event::{Phase, Progress};
+use hy_protocol::{Phase, Progress};
 use hy_render::{Ending, TxnOutcome};
 use hy_value::Seq;
 use std::alloc::{AllocError, Global};
@@ -148,7 +148,7 @@ impl Session {
                     None => Ok(undo(&visitor, 0, Ending::RolledBack, now, chunk)),
                 }
             }
-            Phase::Stamping { visited, time } => Ok(stamp(&visitor, visited, time, now, chunk)),
+            Phase::Stamping { visited } => Ok(stamp(&visitor, visited, now, chunk)),
             Phase::Undoing { visited, cause } => Ok(undo(&visitor, visited, cause, now, chunk)),
         }
     }

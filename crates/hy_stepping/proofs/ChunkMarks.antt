@@ -16,16 +16,11 @@ use Rattle.hy_journal.specs.declared.Entry.{Entry}
 use Rattle.hy_visit.specs.Pruning.{UnderOwn}
 use Rattle.hy_event.specs.declared.SessionData.{SessionData}
 use Rattle.hy_event.specs.declared.Open.{Open}
-use Rattle.hy_event.specs.declared.Phase.{Phase}
-use Rattle.hy_event.specs.declared.Phase.TheVariants as phase
 use Rattle.hy_event.specs.Sessions.{label_of}
 use Rattle.hy_machine.specs.declared.Setting.{Setting}
-use Rattle.hy_machine.specs.States.{State, Open as MachineOpen, Phase as Stage}
-use Rattle.hy_machine.specs.States as stage
-use Rattle.hy_machine.specs.Kept.{is_stamping}
+use Rattle.hy_machine.specs.States.{State, Open as MachineOpen}
 use Rattle.hy_refinement.specs.Stamped.{is_unstamped, entries_counted}
 use Rattle.hy_refinement.specs.Transactions.{IsOpen}
-use Rattle.hy_refinement.specs.Sessions.{PhaseShows}
 use Rattle.hy_refinement.specs.Places.{IsOwnStamp, IsOfWriter}
 use Rattle.hy_refinement.specs.Rivals.{ShownAt}
 use Rattle.hy_refinement.specs.Labels.{HaveLabels}
@@ -47,16 +42,6 @@ under_all : (time : ℕ) (chain : List (Undo Image)) → ((stamp : Stamp) → Co
 under_all time [] low = tt
 under_all time (undo ∷ chain) low =
     (low undo.stamp (first_of undo.stamp (stamps_of chain)), under_all time chain (λ stamp c. low stamp (behind undo.stamp stamp (stamps_of chain) c)))
-
--- where the engine's transaction stamps, so does the machine's
-pub stamps_there : (visited time : ℕ) (here : Phase) (there : Stage) → here ≡ phase.Stamping visited time → PhaseShows here there
-    → is_stamping there ≡ true
-stamps_there visited time here there e shows = by_stage there (subst (λ (p : Phase). PhaseShows p there) e shows)
-  where
-    by_stage : (there : Stage) → PhaseShows (phase.Stamping visited time) there → is_stamping there ≡ true
-    by_stage (stage.Working other others) h = absurd h
-    by_stage (stage.Stamping other) h = refl
-    by_stage (stage.Undoing other cause) h = absurd h
 
 -- labels that have one identifier are one
 abbrev pub IdsDiffer : Type 0

@@ -14,17 +14,15 @@ use Rattle.hy_event.specs.declared.SessionData.{SessionData}
 use Rattle.hy_event.specs.declared.Open.{Open}
 use Rattle.hy_event.specs.declared.Need.{Need}
 use Rattle.hy_event.specs.declared.Need.TheVariants.{Core, Chunk, Done}
-use Rattle.hy_event.specs.declared.Phase.{Phase}
-use Rattle.hy_event.specs.declared.Phase.TheVariants as phase
+use Rattle.hy_protocol.specs.declared.Phase.{Phase}
+use Rattle.hy_protocol.specs.declared.Phase.TheVariants as phase
 use Rattle.hy_event.specs.Ended.{statements_in}
 use Rattle.hy_event.specs.Needs.{need_of, session_need, phase_need, working_need, statement_need, checks_of}
 use Rattle.hy_machine.specs.declared.Setting.{Setting}
-use Rattle.hy_machine.specs.States.{State, Phase as Stage}
-use Rattle.hy_machine.specs.States as stage
+use Rattle.hy_machine.specs.States.{State}
 use Rattle.hy_machine.specs.Sessions.{program_of}
 use Rattle.hy_machine.specs.Kept.{PhaseFits, visits_in}
 use Rattle.hy_session.specs.Near.{IsTyped, HasVisitLeft, present_statement}
-use Rattle.hy_refinement.specs.Sessions.{PhaseShows}
 use Rattle.hy_stepping.specs.Typed.{IsTypedOf, IsTypedIn, IsTypedTxn, kinds_of}
 use Rattle.hy_stepping.proofs.OpenOnes.{one_of_all, session_within, OpenOne}
 
@@ -92,24 +90,14 @@ typed_here kinds shapes types key session visited table chunk (Delete other pred
 
 -- ---- visits
 
--- where the engine's transaction is at work, so is the machine's, after as many visits
-works_there : (visited count : ℕ) (here : Phase) (there : Stage) → here ≡ phase.Working visited count → PhaseShows here there
-    → (others : ℕ) × (there ≡ stage.Working visited others)
-works_there visited count here there e shows = by_stage there (subst (λ (p : Phase). PhaseShows p there) e shows)
-  where
-    by_stage : (there : Stage) → PhaseShows (phase.Working visited count) there → (others : ℕ) × (there ≡ stage.Working visited others)
-    by_stage (stage.Working other others) h = (others, ap (λ (n : ℕ). stage.Working n others) (sym h.0))
-    by_stage (stage.Stamping other) h = absurd h
-    by_stage (stage.Undoing other cause) h = absurd h
-
 -- so of its statement no visit is done, or some but not all
 pub visits_fit : (setting : Setting) (state : State) (core : CoreData) (number : ℕ) (session : SessionData) (now : Open) (statement : Bound)
     (visited count : ℕ) → (one : OpenOne setting state core number session now) → now.phase ≡ phase.Working visited count
     → slice_get one.txn.statements (length now.replies) ≡ Some statement → (visited ≡ 0) ⊎ (visited < visits_in setting statement)
 visits_fit setting state core number session now statement visited count one working at =
-    let stands = works_there visited count now.phase one.current.phase working one.shows.open_shows.phase in
-    let fits : PhaseFits setting (Some one.txn) one.current.begun (stage.Working visited stands.0) =
-    subst (λ (s : Stage). PhaseFits setting (Some one.txn) one.current.begun s) stands.1 one.phase_fits in
+    let stands : one.current.phase ≡ phase.Working visited count = sym one.shows.open_shows.phase ∙ working in
+    let fits : PhaseFits setting (Some one.txn) one.current.begun (phase.Working visited count) =
+    subst (λ (s : Phase). PhaseFits setting (Some one.txn) one.current.begun s) stands one.phase_fits in
     fits.visits statement (ap (λ (replies : List Reply). slice_get one.txn.statements (length replies)) (sym one.shows.open_shows.replies) ∙ at)
 
 -- a visit is left of a statement that reads

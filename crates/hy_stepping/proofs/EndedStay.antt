@@ -9,15 +9,15 @@ use Rattle.hy_bound.specs.declared.Txn.{Txn}
 use Rattle.hy_bound.specs.Records.{shape_of}
 use Rattle.hy_event.specs.declared.SessionData.{SessionData}
 use Rattle.hy_event.specs.declared.Open.{Open}
-use Rattle.hy_event.specs.declared.Phase.{Phase}
-use Rattle.hy_event.specs.declared.Phase.TheVariants.{Working, Stamping, Undoing}
+use Rattle.hy_protocol.specs.declared.Phase.{Phase}
+use Rattle.hy_protocol.specs.declared.Phase.TheVariants.{Working, Stamping, Undoing}
 use Rattle.hy_event.specs.declared.Need.{Need}
 use Rattle.hy_event.specs.declared.Need.TheVariants.{Core, Chunk, Done}
 use Rattle.hy_event.specs.Sessions.{txn_at as txn_here, written_chunks}
 use Rattle.hy_event.specs.Needs.{checks_of, statement_need, chunk_or_core, written_need, working_need, phase_need, session_need, need_of}
 use Rattle.hy_machine.specs.declared.Setting.{Setting}
 use Rattle.hy_machine.specs.States.{State}
-use Rattle.hy_machine.specs.declared.Stepped.TheVariants.{Ended}
+use Rattle.hy_protocol.specs.declared.Progress.TheVariants.{Ended}
 use Rattle.hy_machine.specs.Sessions.{session_at, txn_at}
 use Rattle.hy_machine.specs.Steps.{after_turn, step_of}
 use Rattle.hy_machine.specs.Turns.{session_turn}
@@ -52,7 +52,7 @@ working_part session txn now visited (Some statement) = statement_part session v
 
 phase_part : (session : SessionData) (txn : Txn) (now : Open) (phase : Phase) → IsPart (phase_need session txn now phase)
 phase_part session txn now (Working visited count) = working_part session txn now visited (slice_get txn.statements (length now.replies))
-phase_part session txn now (Stamping visited time) = left_part (slice_get (written_chunks session now) visited)
+phase_part session txn now (Stamping visited) = left_part (slice_get (written_chunks session now) visited)
 phase_part session txn now (Undoing visited cause) = left_part (slice_get (written_chunks session now) visited)
 
 now_part : (session : SessionData) (txn : Txn) (now : Option Open) → IsPart (session_need session (Some txn) now)

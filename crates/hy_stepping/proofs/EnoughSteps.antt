@@ -7,8 +7,10 @@ use Rattle.std.proofs.lemmas.Option.{same_Some}
 use Rattle.hy_bound.specs.declared.Txn.{Txn}
 use Rattle.hy_bound.specs.declared.schedule.Item.{Item}
 use Rattle.hy_machine.specs.declared.Setting.{Setting}
-use Rattle.hy_machine.specs.States.{State, Open, Phase, Working, Stamping, Undoing}
-use Rattle.hy_machine.specs.declared.Stepped.TheVariants.{Ended}
+use Rattle.hy_protocol.specs.declared.Phase.{Phase}
+use Rattle.hy_protocol.specs.declared.Phase.TheVariants.{Working, Stamping, Undoing}
+use Rattle.hy_machine.specs.States.{State, Open}
+use Rattle.hy_protocol.specs.declared.Progress.TheVariants.{Ended}
 use Rattle.hy_machine.specs.Sessions.{session_at, program_of, txn_at}
 use Rattle.hy_machine.specs.Turns.{session_turn}
 use Rattle.hy_machine.specs.Steps.{after_turn, step_of}

@@ -12,7 +12,9 @@ use Rattle.hy_bound.specs.declared.Bound.TheVariants.{Select, Group, Insert, Upd
 use Rattle.hy_bound.specs.declared.Txn.{Txn}
 use Rattle.hy_bound.specs.Fits.{FitsStatement, FitsTxn, FitsRows}
 use Rattle.hy_machine.specs.declared.Setting.{Setting}
-use Rattle.hy_machine.specs.States.{State, Session, Open, Begun, Phase, Working, Stamping, Undoing}
+use Rattle.hy_protocol.specs.declared.Phase.{Phase}
+use Rattle.hy_protocol.specs.declared.Phase.TheVariants.{Working, Stamping, Undoing}
+use Rattle.hy_machine.specs.States.{State, Session, Open, Begun}
 use Rattle.hy_machine.specs.Sessions.{fresh, session_at, program_of}
 use Rattle.hy_machine.specs.Visits.{visits_of}
 use Rattle.hy_machine.specs.Measures.{statements_left, open_left, txn_left, later_left, txns_left, steps_left, all_left, measure_of}

@@ -17,7 +17,7 @@ use Rattle.hy_chunk.specs.Views.{Whole}
 use Rattle.hy_visit.specs.Pruning.{AllFall, AllUnderOwn, UnderOwn}
 use Rattle.hy_event.specs.declared.SessionData.{SessionData}
 use Rattle.hy_event.specs.declared.Open.{Open}
-use Rattle.hy_event.specs.declared.Phase.TheVariants as phase
+use Rattle.hy_protocol.specs.declared.Phase.TheVariants as phase
 use Rattle.hy_event.specs.declared.Need.TheVariants.{Chunk}
 use Rattle.hy_event.specs.Sessions.{label_of}
 use Rattle.hy_event.specs.Needs.{need_of}
@@ -25,7 +25,7 @@ use Rattle.hy_event.specs.Events.{Part, ChunkPart}
 use Rattle.hy_machine.specs.declared.Setting.{Setting}
 use Rattle.hy_machine.specs.States.{State}
 use Rattle.hy_machine.specs.Sessions.{session_at}
-use Rattle.hy_machine.specs.Kept.{Kept}
+use Rattle.hy_machine.specs.Kept.{Kept, is_stamping}
 use Rattle.hy_lawful.specs.Kept.{ReachedAreKept}
 use Rattle.hy_refinement.specs.Transactions.{IsOpen}
 use Rattle.hy_refinement.specs.Sessions.{SessionShows}
@@ -40,7 +40,7 @@ use Rattle.hy_stepping.proofs.OpenOnes.{kept_of, one_of_all, txn_fits, OpenOne, 
 use Rattle.hy_stepping.proofs.Clock.{clock_below}
 use Rattle.hy_stepping.proofs.StepsShown.{have_labels}
 use Rattle.hy_stepping.proofs.VisitsLeft.{visit_left}
-use Rattle.hy_stepping.proofs.ChunkMarks.{IdsDiffer, all_places, stamps_there, under_own}
+use Rattle.hy_stepping.proofs.ChunkMarks.{IdsDiffer, all_places, under_own}
 use Rattle.hy_stepping.proofs.ChunkStatements.{at_present, statement_needs, txn_typed, typed_here, visits_fit, left_of}
 
 -- what holds of two lists place by place holds at a place
@@ -125,16 +125,16 @@ module _ (setting : Setting) (kinds : List (List Kind)) (state : State) (parts :
       place_shows = place_shows index place e;
     }
 
-    under : (visited time : ℕ) → now.phase ≡ phase.Stamping visited time → AllUnderOwn (id_of (label_of session)) time part.shown.places
-    under visited time stamping =
+    under : (visited : ℕ) → now.phase ≡ phase.Stamping visited → AllUnderOwn (id_of (label_of session)) now.time part.shown.places
+    under visited stamping =
         let shows = shown.shows.core_shows in
-        let its = shows.mark_shows.stamping number session now one.current is_open visited time stamping in
+        let its = shows.mark_shows.stamping number session now one.current is_open visited stamping in
         let mark : state.mark ≡ Some number =
         kept.ranks.stamping number one.current one.is_now
-        (stamps_there visited time now.phase one.current.phase stamping one.shows.open_shows.phase) in
+        (ap is_stamping (sym one.shows.open_shows.phase ∙ stamping)) in
         let has_last : slice_get core.entries (length state.order - 1) ≡ Some its.entry =
         ap (λ (n : ℕ). slice_get core.entries (n - 1)) (sym shows.entries_show.count) ∙ its.last in
-        all_places (λ (place : Place). UnderOwn (id_of (label_of session)) time place.chain) part.shown.places (λ index place e.
+        all_places (λ (place : Place). UnderOwn (id_of (label_of session)) now.time place.chain) part.shown.places (λ index place e.
         subst (λ (t : ℕ). UnderOwn (id_of (label_of session)) t place.chain) its.time_is
         (under_own setting state core sessions table chunk (chunk * setting.rows + index) place (shown_at index place e)
         (have_labels setting state parts sessions kept shown) differ number session now one.current is_open mark its.entry has_last))

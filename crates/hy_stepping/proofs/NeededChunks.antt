@@ -17,21 +17,20 @@ use Rattle.hy_render.specs.declared.Place.{Place}
 use Rattle.hy_journal.specs.declared.CoreData.{CoreData}
 use Rattle.hy_event.specs.declared.SessionData.{SessionData}
 use Rattle.hy_event.specs.declared.Open.{Open}
-use Rattle.hy_event.specs.declared.Phase.{Phase}
-use Rattle.hy_event.specs.declared.Phase.TheVariants as phase
+use Rattle.hy_protocol.specs.declared.Phase.{Phase}
+use Rattle.hy_protocol.specs.declared.Phase.TheVariants as phase
 use Rattle.hy_event.specs.declared.Need.{Need}
 use Rattle.hy_event.specs.declared.Need.TheVariants.{Core, Chunk, Done}
 use Rattle.hy_event.specs.Sessions.{txn_at as txn_here, lies_in, chunks_in_table, chunks_from, written, written_chunks}
 use Rattle.hy_event.specs.Needs.{checks_of as checks_here, insert_need, statement_need, chunk_or_core, written_need, working_need, phase_need}
 use Rattle.hy_event.specs.Needs.{session_need}
 use Rattle.hy_machine.specs.declared.Setting.{Setting}
-use Rattle.hy_machine.specs.States.{State, Phase as Stage}
-use Rattle.hy_machine.specs.States as stage
+use Rattle.hy_machine.specs.States.{State}
 use Rattle.hy_machine.specs.Sessions.{session_at}
 use Rattle.hy_machine.specs.Visits.{checks_of}
 use Rattle.hy_machine.specs.Kept.{Kept, PhaseFits, visits_in}
 use Rattle.hy_lawful.specs.Kept.{ReachedAreKept}
-use Rattle.hy_refinement.specs.Sessions.{SessionShows, PhaseShows}
+use Rattle.hy_refinement.specs.Sessions.{SessionShows}
 use Rattle.hy_stepping.specs.Runnable.{IsRunnable}
 use Rattle.hy_stepping.specs.Steps.{NeededChunksAreThere}
 use Rattle.hy_stepping.proofs.OpenOnes.{kept_of, txn_fits, OpenOne, open_one}
@@ -135,7 +134,7 @@ open_there : (setting : Setting) (state : State) (core : CoreData) (number : ℕ
     → SessionShows setting state core number session → (one : OpenOne setting state core number session now)
     → IsThere setting (phase_need session one.txn now now.phase)
 open_there setting state core number session now runnable shows one =
-    by_phase now.phase one.current.phase one.shows.open_shows.phase one.phase_fits
+    by_phase now.phase (subst (λ (stands : Phase). PhaseFits setting (Some one.txn) one.current.begun stands) (sym one.shows.open_shows.phase) one.phase_fits)
   where
     chunks : session.chunks ≡ setting.chunks
     chunks = shows.session_is.chunks
@@ -158,15 +157,10 @@ open_there setting state core number session now runnable shows one =
         (visit_left setting statement visited runnable.some_chunk fit
         (stands statement (ap (λ (replies : List Reply). slice_get one.txn.statements (length replies)) (sym one.shows.open_shows.replies) ∙ at)))
 
-    by_phase : (here : Phase) (there : Stage) → PhaseShows here there → PhaseFits setting (Some one.txn) one.current.begun there
-        → IsThere setting (phase_need session one.txn now here)
-    by_phase (phase.Working visited count) (stage.Working other others) same fits =
-        by_statement visited (slice_get one.txn.statements (length now.replies)) refl
-        (λ present at. subst (λ (n : ℕ). (n ≡ 0) ⊎ (n < visits_in setting present)) (sym same.0) (fits.visits present at))
-    by_phase (phase.Working visited count) (stage.Stamping other) same fits = absurd same
-    by_phase (phase.Working visited count) (stage.Undoing other cause) same fits = absurd same
-    by_phase (phase.Stamping visited time) there same fits = written_there setting session now visited chunks shapes
-    by_phase (phase.Undoing visited ends) there same fits = written_there setting session now visited chunks shapes
+    by_phase : (stands : Phase) → PhaseFits setting (Some one.txn) one.current.begun stands → IsThere setting (phase_need session one.txn now stands)
+    by_phase (phase.Working visited count) fits = by_statement visited (slice_get one.txn.statements (length now.replies)) refl fits.visits
+    by_phase (phase.Stamping visited) fits = written_there setting session now visited chunks shapes
+    by_phase (phase.Undoing visited ends) fits = written_there setting session now visited chunks shapes
 
 -- ---- all sessions
 

@@ -4,14 +4,13 @@ use Rattle.hy_value.specs.declared.Kind.{Kind}
 use Rattle.hy_chunk.specs.Views.{Whole}
 use Rattle.hy_event.specs.declared.SessionData.{SessionData}
 use Rattle.hy_event.specs.declared.Need.TheVariants.{Core, Chunk, Done}
-use Rattle.hy_event.specs.declared.Progress.{Progress}
+use Rattle.hy_protocol.specs.declared.Progress.{Progress}
 use Rattle.hy_event.specs.Needs.{need_of}
 use Rattle.hy_event.specs.Events.{Part, ChunkPart, part_number, NeededVisit}
 use Rattle.hy_machine.specs.declared.Setting.{Setting}
 use Rattle.hy_machine.specs.States.{State}
-use Rattle.hy_machine.specs.declared.Stepped.TheVariants.{Ended}
+use Rattle.hy_protocol.specs.declared.Progress.TheVariants.{Ended}
 use Rattle.hy_machine.specs.Steps.{step_of}
-use Rattle.hy_refinement.specs.Taken.{stepped_of}
 use Rattle.hy_session.specs.Near.{NearCore, NearChunk}
 use Rattle.hy_stepping.specs.Typed.{AreTyped, kinds_of}
 use Rattle.hy_stepping.specs.Runnable.{IsShown}
@@ -52,7 +51,7 @@ ChunksAreNear =
 pub record IsStepped (setting : Setting) (state : State) (number part : ℕ) (parts : List Part) (sessions : List SessionData)
     (progress : Progress) (after : SessionData) (new : Part) : Type 0 where
   pub shown : IsShown setting (step_of setting state number).0 (slice_set parts part new) (slice_set sessions number after)
-  pub answer : (step_of setting state number).1 ≡ stepped_of progress
+  pub answer : (step_of setting state number).1 ≡ progress
 
 abbrev pub VisitsAreSteps : Type 0
 VisitsAreSteps =

@@ -20,7 +20,8 @@ use Rattle.hy_chunk.specs.Steps.{least_free, IsPut}
 use Rattle.hy_event.specs.Inserting.{Comes, free_index, free_position}
 use Rattle.hy_visit.specs.declared.writing.Writer.{Writer}
 use Rattle.hy_visit.specs.Placing.{PlaceDone}
-use Rattle.hy_visit.specs.Pruning.{AllShort, PrunesBy}
+use Rattle.hy_visit.specs.Pruning.{AllShort}
+use Rattle.hy_event.specs.Changing.{PrunesFirst}
 use Rattle.hy_visit.proofs.Shortened.{count_in, late_first}
 use Rattle.hy_visit.proofs.Stamps.{count_of}
 
@@ -56,7 +57,7 @@ row_comes viewer label cover row old new there others put =
 
 -- that is a visit, with the pruning before it and the note of the row
 pub place_done : (writer : Writer) (row : List Value) (old between new : ChunkData) (notes now : List Change) (pos : ℕ)
-    → PrunesBy writer.prunes writer.cover.now old between → between.table ≡ old.table
+    → PrunesFirst writer.prunes writer.cover.now old between → between.table ≡ old.table
     → pos ≡ between.first + least_free (watermark_of writer.cover.now) between.places
     → least_free (watermark_of writer.cover.now) between.places < length between.places
     → new ≡ record between { places = new.places }

@@ -10,7 +10,7 @@ use Rattle.hy_chunk.specs.Views.{Whole}
 use Rattle.hy_chunk.specs.Writes.{IsDone, refusal_in}
 use Rattle.hy_event.specs.Writing.{cells_by}
 use Rattle.hy_visit.specs.declared.writing.Writer.{Writer}
-use Rattle.hy_visit.specs.Pruning.{PrunesBy}
+use Rattle.hy_event.specs.Changing.{PrunesFirst}
 use Rattle.hy_visit.specs.Writing.{WriteDone}
 use Rattle.hy_visit.proofs.Noted.{ComesTo, done_so, refused_so}
 
@@ -32,7 +32,7 @@ module _ (writer : Writer) (sets : Option (List Assign)) (pred : Condition) (bet
       (ap (λ (w : Whole). w.shown) kept.0) (ap (λ (n : Noted). n.notes) kept.1)
 
   -- with the pruning before it, that is a visit
-  pub write_done : (old : ChunkData) (answer : Result ℕ Refusal) → PrunesBy writer.prunes writer.cover.now old between.shown → between.shown.table ≡ old.table
+  pub write_done : (old : ChunkData) (answer : Result ℕ Refusal) → PrunesFirst writer.prunes writer.cover.now old between.shown → between.shown.table ≡ old.table
       → ComesTo writer.viewer writer.label between.shown.table (cells_by sets pred writer.viewer between.shown) between.shown notes.notes answer
       new.shown now.notes
       → WriteDone writer sets pred old notes.notes answer new.shown now.notes

@@ -1,5 +1,4 @@
 pub mod Pruning
-pub mod Laws
 pub mod Writing
 pub mod Placing
 pub mod Gathering

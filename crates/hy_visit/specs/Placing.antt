@@ -6,7 +6,7 @@ use Rattle.hy_undo.specs.Chunks.{ChunkData}
 use Rattle.hy_event.specs.Inserting.{Comes, free_index, free_position}
 use Rattle.hy_event.specs.Turns.{with_notes}
 use Rattle.hy_visit.specs.declared.writing.Writer.{Writer}
-use Rattle.hy_visit.specs.Pruning.{PrunesBy}
+use Rattle.hy_event.specs.Changing.{PrunesFirst}
 
 -- the change of the position that a row comes to, if it comes to one
 abbrev pub change_at : ℕ → List Value → Option ℕ → List Change
@@ -17,7 +17,7 @@ change_at table row (Some pos) = record { table = table; pos = pos; before = Non
 pub record PlaceDone (writer : Writer) (row : List Value) (old : ChunkData) (notes : List Change)
     (answer : Option ℕ) (new : ChunkData) (now : List Change) : Type 0 where
   pub between : ChunkData
-  pub prunes : PrunesBy writer.prunes writer.cover.now old between
+  pub prunes : PrunesFirst writer.prunes writer.cover.now old between
   pub chunk : Comes writer.viewer writer.label writer.cover.now row (free_index writer.cover.now between) between new
   pub told : answer ≡ free_position writer.cover.now between
   pub noted : now ≡ with_notes notes (change_at old.table row answer)

@@ -1,18 +1,13 @@
 -- What a visit does first: it prunes the chunk, or does not.
-use Rattle.std.specs.Prelude.{◌≡◌, ℕ, ◌≤◌, List, [], ◌∷◌, Bool, true, false, length}
+use Rattle.std.specs.Prelude.{◌≡◌, ℕ, ◌≤◌, List, [], ◌∷◌, Bool, length}
 use Rattle.std.specs.List.{AllByRecursion}
 use Rattle.hy_prune.specs.declared.Cover.{Cover}
 use Rattle.hy_chain.specs.Chains.{Undo, Falls, Under}
 use Rattle.hy_chain.specs.Pruning.{count_old}
 use Rattle.hy_undo.specs.Images.{Image}
 use Rattle.hy_undo.specs.Places.{Place}
-use Rattle.hy_undo.specs.Chunks.{ChunkData, Pruned, StampedPlace, AtOwn, Everywhere}
-use Rattle.hy_event.specs.Changing.{OnlyPlaces}
-
--- the chunk is pruned by the cover, or left as it is by one who doesn't prune
-pub record PrunesBy (prunes : Bool) (cover : Cover) (old new : ChunkData) : Type 0 where
-  pub pruned : prunes ≡ true → OnlyPlaces (Everywhere (Pruned cover)) old new
-  pub kept : prunes ≡ false → new ≡ old
+use Rattle.hy_undo.specs.Chunks.{ChunkData, StampedPlace, AtOwn, Everywhere}
+use Rattle.hy_event.specs.Changing.{OnlyPlaces, PrunesFirst}
 
 -- in each chain the marks fall
 abbrev pub AllFall : List Place → Type 0
@@ -35,4 +30,4 @@ AllUnderOwn id time places = AllByRecursion (λ place. UnderOwn id time place.ch
 pub record StampDone (id time : ℕ) (prunes : Bool) (cover : Cover) (old new : ChunkData) : Type 0 where
   pub between : ChunkData
   pub chunk : OnlyPlaces (Everywhere (AtOwn id (StampedPlace id time))) old between
-  pub prunes_then : PrunesBy prunes cover between new
+  pub prunes_then : PrunesFirst prunes cover between new

@@ -8,7 +8,7 @@ use Rattle.hy_undo.specs.Chunks.{ChunkData}
 use Rattle.hy_event.specs.Turns.{with_notes}
 use Rattle.hy_event.specs.Writing.{Becomes, cells_by, changes_by}
 use Rattle.hy_visit.specs.declared.writing.Writer.{Writer}
-use Rattle.hy_visit.specs.Pruning.{PrunesBy}
+use Rattle.hy_event.specs.Changing.{PrunesFirst}
 
 -- how many changes there are, or why there are none
 abbrev pub counted : Result (List Change) Refusal → Result ℕ Refusal
@@ -24,7 +24,7 @@ noted_after notes (Ok changes) = with_notes notes changes
 pub record WriteDone (writer : Writer) (sets : Option (List Assign)) (pred : Condition) (old : ChunkData) (notes : List Change)
     (answer : Result ℕ Refusal) (new : ChunkData) (now : List Change) : Type 0 where
   pub between : ChunkData
-  pub prunes : PrunesBy writer.prunes writer.cover.now old between
+  pub prunes : PrunesFirst writer.prunes writer.cover.now old between
   pub chunk : Becomes writer.viewer writer.label (cells_by sets pred writer.viewer between) between new
   pub told : answer ≡ counted (changes_by old.table writer.viewer between (cells_by sets pred writer.viewer between))
   pub noted : now ≡ noted_after notes (changes_by old.table writer.viewer between (cells_by sets pred writer.viewer between))

@@ -3,8 +3,6 @@
 //! what is told of that.
 #![tactic(auto)]
 
-ghost use Rattle.hy_visit.specs.Laws.{PrunesAsTheSession};
-
 mod gathering;
 mod parts;
 mod pruning;
@@ -17,8 +15,3 @@ pub use parts::PartRows;
 pub use pruning::{stamp_visit, undo_visit};
 pub use reader::{Reader, Told, reader_of};
 pub use writing::{Writer, check_visit, place_visit, write_visit};
-
-/// A chunk is pruned first as a session does it where it is pruned by the session's cover, if the session prunes.
-pub fn prunes_by_is_prunes_first()
-    ensures { PrunesAsTheSession }
-{}

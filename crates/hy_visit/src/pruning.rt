@@ -3,8 +3,8 @@
 ghost use Rattle.std.specs.Prelude.{◌≡◌, ◌≤◌, true, length};
 ghost use Rattle.hy_undo.specs.Chunks.{AtOwn, Everywhere, Undone};
 ghost use Rattle.hy_chunk.specs.Views.{with_places};
-ghost use Rattle.hy_event.specs.Changing.{OnlyPlaces};
-ghost use Rattle.hy_visit.specs.Pruning.{AllFall, AllShort, AllUnderOwn, PrunesBy, StampDone};
+ghost use Rattle.hy_event.specs.Changing.{OnlyPlaces, PrunesFirst};
+ghost use Rattle.hy_visit.specs.Pruning.{AllFall, AllShort, AllUnderOwn, StampDone};
 
 use hy_chunk::Chunk;
 use hy_prune::Cover;
@@ -14,7 +14,7 @@ use hy_undo::Delta;
 /// the cover's next time as the cover has starts.
 pub fn prune_first(chunk: &mut Chunk, cover: &Cover, prunes: bool)
     requires { AllFall chunk.old.shown.places }
-    ensures pruned { PrunesBy prunes cover.now chunk.old.shown chunk.new.shown }
+    ensures pruned { PrunesFirst prunes cover.now chunk.old.shown chunk.new.shown }
     ensures falls { AllFall chunk.new.shown.places }
     ensures short { prunes ≡ true → AllShort cover.now chunk.new.shown.places }
     ensures many { length chunk.new.shown.places ≡ length chunk.old.shown.places }

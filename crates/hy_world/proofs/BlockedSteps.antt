@@ -17,8 +17,8 @@ use Rattle.hy_stamp.specs.declared.Label.{Label}
 use Rattle.hy_machine.specs.declared.Setting.{Setting}
 use Rattle.hy_event.specs.declared.SessionData.{SessionData}
 use Rattle.hy_event.specs.declared.Need.TheVariants.{Core}
-use Rattle.hy_event.specs.declared.Progress.{Progress}
-use Rattle.hy_event.specs.declared.Progress.TheVariants.{Blocked}
+use Rattle.hy_protocol.specs.declared.Progress.{Progress}
+use Rattle.hy_protocol.specs.declared.Progress.TheVariants.{Blocked}
 use Rattle.hy_session.specs.Entered.{has_entry}
 use Rattle.hy_session.specs.declared.Layout.{Layout}
 use Rattle.hy_stepping.specs.Runnable.{IsRunnable}

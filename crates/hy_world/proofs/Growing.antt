@@ -11,9 +11,9 @@ use Rattle.hy_validate.specs.declared.Invalid.{Invalid}
 use Rattle.hy_validate.specs.Hits.{first_invalid}
 use Rattle.hy_event.specs.declared.SessionData.{SessionData}
 use Rattle.hy_event.specs.declared.Open.{Open}
-use Rattle.hy_event.specs.declared.Phase.{Phase}
-use Rattle.hy_event.specs.declared.Phase.TheVariants.{Working, Stamping, Undoing}
-use Rattle.hy_event.specs.declared.Progress.{Progress}
+use Rattle.hy_protocol.specs.declared.Phase.{Phase}
+use Rattle.hy_protocol.specs.declared.Phase.TheVariants.{Working, Stamping, Undoing}
+use Rattle.hy_protocol.specs.declared.Progress.{Progress}
 use Rattle.hy_event.specs.Sessions.{txn_at, label_of}
 use Rattle.hy_event.specs.CoreTurns.{CoreTurn, unless_blocked, begin_turn, close_turn, validated_turn, commit_turn, closing_turn, working_turn, phase_turn, session_turn, core_turn, TakesAtCore, CoreEvent}
 use Rattle.hy_world.specs.Logged.{GrowByOne}
@@ -51,7 +51,7 @@ working_grows session core txn now (Some statement) = tt
 
 phase_grows : (session : SessionData) (core : CoreData) (txn : Txn) (now : Open) (phase : Phase) → IfTurnGrows core (phase_turn session core txn now phase)
 phase_grows session core txn now (Working visited count) = working_grows session core txn now (slice_get txn.statements (length now.replies))
-phase_grows session core txn now (Stamping visited time) = inl refl
+phase_grows session core txn now (Stamping visited) = inl refl
 phase_grows session core txn now (Undoing visited cause) =
     unless_grows core (blocked_by core (label_of session)) (close_turn core now cause) (inl refl)
 
@@ -61,7 +61,7 @@ session_grows session core (Some txn) None = unless_grows core (blocked_by core 
 session_grows session core (Some txn) (Some now) = phase_grows session core txn now now.phase
 
 taken_grows : (session after : SessionData) (core new : CoreData) (progress : Progress) (turn : Option CoreTurn) → IfTurnGrows core turn
-    → TakesAtCore session turn progress after new → GrowByOne core.entries new.entries
+    → TakesAtCore session core turn progress after new → GrowByOne core.entries new.entries
 taken_grows session after core new progress None h taken = absurd taken
 taken_grows session after core new progress (Some turn) h taken =
     subst (λ (other : CoreData). GrowByOne core.entries other.entries) (sym taken.1) h

@@ -11,11 +11,10 @@ use Rattle.hy_undo.specs.Chunks.{ChunkData}
 use Rattle.hy_chunk.specs.Views.{Whole}
 use Rattle.hy_event.specs.declared.SessionData.{SessionData}
 use Rattle.hy_event.specs.declared.Need.TheVariants.{Core, Chunk}
-use Rattle.hy_event.specs.declared.Progress.{Progress}
+use Rattle.hy_protocol.specs.declared.Progress.{Progress}
 use Rattle.hy_event.specs.CoreTurns.{CoreEvent}
 use Rattle.hy_event.specs.Events.{ChunkEvent}
 use Rattle.hy_machine.specs.Steps.{step_of}
-use Rattle.hy_refinement.specs.Taken.{stepped_of}
 use Rattle.hy_stepping.specs.Steps.{NeededChunksAreThere, VisitsAreSteps}
 use Rattle.hy_world.specs.Follows.{Steps}
 use Rattle.hy_world.specs.Worlds.{WorldData, ShowsState, IsWorld, HaveTypes, plain}
@@ -53,7 +52,7 @@ CoreVisited r session core after new =
 
 pub core_steps : {E : Type 0} (r : Result Progress E) → VisitsAreSteps → (world : WorldData) (number : ℕ) (session after : SessionData)
     (new : CoreData) → IsAt world.sessions number session Core → CoreVisited r session world.core after new
-    → IfOk r (λ progress. Steps number (stepped_of progress) world (with_core world number after new))
+    → IfOk r (λ progress. Steps number progress world (with_core world number after new))
 core_steps (Ok progress) steps world number session after new at visited =
     λ setting state shows. core_step steps setting state world number session after progress new shows at visited.0
 core_steps (Err e) steps world number session after new at visited = tt
@@ -155,9 +154,9 @@ put_there fields number session after table chunk place part new at =
 
 pub chunk_steps : {E : Type 0} (r : Result Progress E) → NeededChunksAreThere → VisitsAreSteps → (fields : Fields) (number : ℕ) (session after : SessionData)
     (table chunk place : ℕ) (part new : Whole) → ChunkAt fields number session table chunk place part → ChunkVisited r session part after new
-    → IfOk r (λ progress. Steps number (stepped_of progress) (world_of fields) (world_of (chunk_put fields number after place new)))
+    → IfOk r (λ progress. Steps number progress (world_of fields) (world_of (chunk_put fields number after place new)))
 chunk_steps (Ok progress) there steps fields number session after table chunk place part new at visited =
-    subst (Steps number (stepped_of progress) (world_of fields)) (put_there fields number session after table chunk place part new at)
+    subst (Steps number progress (world_of fields)) (put_there fields number session after table chunk place part new at)
     (λ setting state shows. chunk_step there steps setting state (world_of fields) number session after table chunk progress part.shown new.shown shows at.at
     (seen_at fields number session table chunk place part at) visited.event)
 chunk_steps (Err e) there steps fields number session after table chunk place part new at visited = tt

@@ -7,7 +7,7 @@ use Rattle.hy_bound.specs.Fits.{FitsRows}
 use Rattle.hy_bound.specs.declared.schedule.Item.{Item}
 use Rattle.hy_machine.specs.declared.Setting.{Setting}
 use Rattle.hy_machine.specs.States.{State}
-use Rattle.hy_machine.specs.declared.Stepped.{Stepped}
+use Rattle.hy_protocol.specs.declared.Progress.{Progress}
 use Rattle.hy_machine.specs.Steps.{step_of}
 use Rattle.hy_machine.specs.Runs.{is_moved, moves, whole_of, item_of, items_of, round_from, round_of, all_ended_from, repeated, rounds_of}
 use Rattle.hy_lawful.specs.Kept.{ReachedAreKept}
@@ -32,10 +32,10 @@ whole_steps number setting state = whole_of setting state number
 abbrev pub moves_left : ℕ → ℕ → ℕ → Setting → State → State
 moves_left number most turn setting state = moves (most - turn) setting state number
 
-pub step_follows : (number : ℕ) (stepped : Stepped) (now next : WorldData) → Steps number stepped now next → Follows (stepping number) now next
+pub step_follows : (number : ℕ) (stepped : Progress) (now next : WorldData) → Steps number stepped now next → Follows (stepping number) now next
 step_follows number stepped now next steps = λ setting state shows. (steps setting state shows).shows
 
-moved_on : (number most turn : ℕ) (setting : Setting) (state : State) (stepped : Stepped) → turn < most → (step_of setting state number).1 ≡ stepped
+moved_on : (number most turn : ℕ) (setting : Setting) (state : State) (stepped : Progress) → turn < most → (step_of setting state number).1 ≡ stepped
     → is_moved stepped ≡ true → moves_left number most (turn + 1) setting (step_of setting state number).0 ≡ moves_left number most turn setting state
 unfolding moves
 moved_on number most turn setting state stepped l answer m =
@@ -44,7 +44,7 @@ moved_on number most turn setting state stepped l answer m =
     let choice : Bool → State = λ b. cond b (moves (most - (turn + 1)) setting next number) next in
     sym (ap (λ n. moves n setting state number) left ∙ ap choice (ap is_moved answer ∙ m))
 
-stopped_at : (number most turn : ℕ) (setting : Setting) (state : State) (stepped : Stepped) → turn < most → (step_of setting state number).1 ≡ stepped
+stopped_at : (number most turn : ℕ) (setting : Setting) (state : State) (stepped : Progress) → turn < most → (step_of setting state number).1 ≡ stepped
     → is_moved stepped ≡ false → (step_of setting state number).0 ≡ moves_left number most turn setting state
 unfolding moves
 stopped_at number most turn setting state stepped l answer m =
@@ -63,7 +63,7 @@ pub whole_ahead : (number : ℕ) (now : WorldData) → BoundsAreEnough → Ahead
 whole_ahead number now enough = all_ahead (moves_left number most_turns 0) (whole_steps number) now
     (λ setting state shows. enough.whole setting state number shows.shown.runnable shows.shown.reached)
 
-pub whole_goes_on : (number most turn : ℕ) (stepped : Stepped) (from now next : WorldData) → turn < most → is_moved stepped ≡ true
+pub whole_goes_on : (number most turn : ℕ) (stepped : Progress) (from now next : WorldData) → turn < most → is_moved stepped ≡ true
     → Ahead (moves_left number most turn) (whole_steps number) from now → Steps number stepped now next
     → Ahead (moves_left number most (turn + 1)) (whole_steps number) from next
 whole_goes_on number most turn stepped from now next l m ahead steps =
@@ -71,7 +71,7 @@ whole_goes_on number most turn stepped from now next l m ahead steps =
     (step_follows number stepped now next steps)
     (λ setting state shows. moved_on number most turn setting state stepped l (steps setting state shows).answer m)
 
-pub whole_stops : (number most turn : ℕ) (stepped : Stepped) (from now next : WorldData) → turn < most → is_moved stepped ≡ false
+pub whole_stops : (number most turn : ℕ) (stepped : Progress) (from now next : WorldData) → turn < most → is_moved stepped ≡ false
     → Ahead (moves_left number most turn) (whole_steps number) from now → Steps number stepped now next → Follows (whole_steps number) from next
 whole_stops number most turn stepped from now next l m ahead steps =
     all_done (λ setting state. state) (whole_steps number) from next
@@ -209,7 +209,7 @@ step_breaks_off number now next same =
     subst (λ (other : WorldData). Approaches (stepping number) now other) (sym same)
     (near_undone (stepping number) now (λ setting state. step_grows setting state number))
 
-pub stepped_near : (number : ℕ) (stepped : Stepped) (now next : WorldData) → Steps number stepped now next → Approaches (stepping number) now next
+pub stepped_near : (number : ℕ) (stepped : Progress) (now next : WorldData) → Steps number stepped now next → Approaches (stepping number) now next
 stepped_near number stepped now next steps = near_done (stepping number) now next (step_follows number stepped now next steps)
 
 first_move : (number most turn : ℕ) (setting : Setting) (state : State) → turn < most

@@ -1,9 +1,11 @@
 -- The commit order of the machine only grows: the entries so far come first in whatever a run comes to.
 use Rattle.std.proofs.Common.{ℕ, zero, suc, List, [], ◌∷◌, Option, None, Some, Bool, true, false, cond, length, refl}
 use Rattle.hy_bound.specs.declared.schedule.Item.{Item}
+use Rattle.hy_machine.specs.Writes.{Write}
 use Rattle.hy_machine.specs.declared.Setting.{Setting}
 use Rattle.hy_machine.specs.States.{State, Open}
-use Rattle.hy_machine.specs.Turns.{Turn, Done, Waits, Begins, Visits, Answers, Enters, Ends, turn}
+use Rattle.hy_protocol.specs.Turns.{Turn, Done, Waits, Begins, Visits, Answers, Enters, Ends}
+use Rattle.hy_machine.specs.Turns.{turn}
 use Rattle.hy_machine.specs.Sessions.{session_at, entry_of}
 use Rattle.hy_machine.specs.Steps.{step_of, after_turn, order_with}
 use Rattle.hy_machine.specs.Runs.{is_moved, moves, whole_of, item_of, items_of, round_from, round_of, all_ended_from, repeated, rounds_of}
@@ -19,7 +21,7 @@ entry_grows : (setting : Setting) (state : State) (number : ℕ) (now : Option O
 entry_grows setting state number None = none_behind state.order
 entry_grows setting state number (Some current) = record { others = entry_of setting state number current.begun ∷ []; behind = refl }
 
-turn_grows : (setting : Setting) (state : State) (number : ℕ) (next : Turn) → Grows state (after_turn setting state number next).0
+turn_grows : (setting : Setting) (state : State) (number : ℕ) (next : Turn Write) → Grows state (after_turn setting state number next).0
 turn_grows setting state number Done = none_behind state.order
 turn_grows setting state number (Waits by) = none_behind state.order
 turn_grows setting state number Begins = none_behind state.order

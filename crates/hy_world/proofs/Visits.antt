@@ -12,7 +12,7 @@ use Rattle.hy_chunk.specs.Views.{Whole}
 use Rattle.hy_event.specs.declared.SessionData.{SessionData}
 use Rattle.hy_event.specs.declared.Need.{Need}
 use Rattle.hy_event.specs.declared.Need.TheVariants.{Core, Chunk, Done}
-use Rattle.hy_event.specs.declared.Progress.{Progress}
+use Rattle.hy_protocol.specs.declared.Progress.{Progress}
 use Rattle.hy_event.specs.Needs.{need_of}
 use Rattle.hy_event.specs.CoreTurns.{CoreEvent}
 use Rattle.hy_event.specs.Events.{Part, ChunkPart, CorePart, ChunkEvent, NeededVisit, part_number}
@@ -20,7 +20,6 @@ use Rattle.hy_machine.specs.declared.Setting.{Setting}
 use Rattle.hy_machine.specs.States.{State}
 use Rattle.hy_machine.specs.Steps.{step_of}
 use Rattle.hy_refinement.specs.Sessions.{SessionIs}
-use Rattle.hy_refinement.specs.Taken.{stepped_of}
 use Rattle.hy_session.specs.Near.{NearCore, NearChunk}
 use Rattle.hy_stepping.specs.Typed.{AreTyped}
 use Rattle.hy_stepping.specs.Runnable.{IsShown}
@@ -84,7 +83,7 @@ with_core world number after new = record world { core = new; sessions = set wor
 
 pub core_step : VisitsAreSteps → (setting : Setting) (state : State) (world : WorldData) (number : ℕ) (session after : SessionData)
     (progress : Progress) (new : CoreData) → ShowsState setting state world → IsAt world.sessions number session Core
-    → CoreEvent session world.core progress after new → IsStep setting state number (stepped_of progress) (with_core world number after new)
+    → CoreEvent session world.core progress after new → IsStep setting state number progress (with_core world number after new)
 core_step steps setting state world number session after progress new shows at event =
     let parts = parts_of world.chunks world.core in
     let is = session_is setting state world number session Core shows at in
@@ -149,7 +148,7 @@ pub chunk_step : NeededChunksAreThere → VisitsAreSteps → (setting : Setting)
     (table chunk : ℕ) (progress : Progress) (old new : ChunkData)
     → ShowsState setting state world → IsAt world.sessions number session (Chunk table chunk) → slice_get world.chunks (place_in world table chunk) ≡ Some old
     → ChunkEvent session old progress after new
-    → IsStep setting state number (stepped_of progress) (with_chunk world number after (place_in world table chunk) new)
+    → IsStep setting state number progress (with_chunk world number after (place_in world table chunk) new)
 chunk_step there steps setting state world number session after table chunk progress old new shows at found event =
     let parts = parts_of world.chunks world.core in
     let is = session_is setting state world number session (Chunk table chunk) shows at in

@@ -27,10 +27,10 @@ use Rattle.hy_validate.specs.declared.Invalid.{Invalid}
 use Rattle.hy_validate.specs.Hits.{first_invalid}
 use Rattle.hy_event.specs.declared.SessionData.{SessionData}
 use Rattle.hy_event.specs.declared.Open.{Open}
-use Rattle.hy_event.specs.declared.Phase.{Phase}
-use Rattle.hy_event.specs.declared.Phase.TheVariants as phase
-use Rattle.hy_event.specs.declared.Progress.{Progress}
-use Rattle.hy_event.specs.declared.Progress.TheVariants.{Moved, Answered, Blocked}
+use Rattle.hy_protocol.specs.declared.Phase.{Phase}
+use Rattle.hy_protocol.specs.declared.Phase.TheVariants as phase
+use Rattle.hy_protocol.specs.declared.Progress.{Progress}
+use Rattle.hy_protocol.specs.declared.Progress.TheVariants.{Moved, Answered, Blocked, Ended}
 use Rattle.hy_event.specs.CoreTurns.{CoreEvent, CoreTurn, TakesAtCore, begin_turn, close_turn, closing_turn, commit_turn, core_turn, invalid_by, leave_turn}
 use Rattle.hy_event.specs.CoreTurns.{phase_turn, session_turn, unless_blocked, validated_turn, working_turn}
 use Rattle.hy_event.specs.Events.{ChunkEvent, ClosingVisit, PhaseVisit, SessionVisit, StatementVisit, WorkingVisit}
@@ -39,7 +39,8 @@ use Rattle.hy_event.specs.Inserting.{InsertVisit, CheckVisit, PlaceVisit, check_
 use Rattle.hy_event.specs.Needs.{checks_of, need_of}
 use Rattle.hy_event.specs.Reading.{PlannedVisit, Reads, gathered_with, read_turn, with_gathered}
 use Rattle.hy_event.specs.Sessions.{label_of, txn_at, viewer_of}
-use Rattle.hy_event.specs.Turns.{Step, Takes, Turn, Waits, Begins, Visits, Answers, Enters, Ends, after_turn, answer_turn, goes_on, refused}
+use Rattle.hy_protocol.specs.Turns.{Turn, Done as Rests, Waits, Begins, Visits, Answers, Enters, Ends, goes_on, refused}
+use Rattle.hy_event.specs.Turns.{Step, Takes, TakesBy, after_turn, answer_turn}
 use Rattle.hy_event.specs.Undoing.{UndoVisit}
 use Rattle.hy_event.specs.Writing.{WriteVisit, cells_by, changes_by, ending_by, told_by as writing_told, write_turn}
 use Rattle.hy_undo.specs.declared.refusal.Refusal.{Refusal}
@@ -57,7 +58,7 @@ use Rattle.std.specs.Option.{option_map}
 -- ---- turns
 
 -- a turn that is not to wait
-abbrev IsFree : Turn → Type 0
+abbrev IsFree : Turn Change → Type 0
 IsFree turn = (by : Label) → turn ≡ Waits by → ⊥
 
 abbrev IsGoing : Progress → Type 0
@@ -74,36 +75,43 @@ moved_goes by e = cc e
 answered_goes : IsGoing Answered
 answered_goes by e = cc e
 
-turn_goes : (session : SessionData) (turn : Turn) → IsFree turn → IsGoing (after_turn session turn).1
-turn_goes session (Waits by) free = absurd (free by refl)
-turn_goes session (Begins now) free = answered_goes
-turn_goes session (Visits changes next) free = moved_goes
-turn_goes session (Answers changes reply took records) free = answered_goes
-turn_goes session (Enters time) free = moved_goes
-turn_goes session (Ends ending) free = answered_goes
+ended_goes : IsGoing Ended
+ended_goes by e = cc e
 
-turn_keeps : (session : SessionData) (turn : Turn) → KeepsLayout session (after_turn session turn).0
-turn_keeps session (Waits by) = record { shapes = refl; chunks = refl; prunes = refl }
-turn_keeps session (Begins now) = record { shapes = refl; chunks = refl; prunes = refl }
-turn_keeps session (Visits changes next) = record { shapes = refl; chunks = refl; prunes = refl }
-turn_keeps session (Answers changes reply took records) = record { shapes = refl; chunks = refl; prunes = refl }
-turn_keeps session (Enters time) = record { shapes = refl; chunks = refl; prunes = refl }
-turn_keeps session (Ends ending) = record { shapes = refl; chunks = refl; prunes = refl }
+turn_goes : (core : Option CoreData) (session : SessionData) (turn : Turn Change) → IsFree turn → IsGoing (after_turn core session turn).1
+turn_goes core session Rests free = ended_goes
+turn_goes core session (Waits by) free = absurd (free by refl)
+turn_goes core session Begins free = answered_goes
+turn_goes core session (Visits changes next) free = moved_goes
+turn_goes core session (Answers changes reply took records) free = answered_goes
+turn_goes core session Enters free = moved_goes
+turn_goes core session (Ends ending) free = answered_goes
 
-layout_kept : (session : SessionData) (turn : Turn) (progress : Progress) (after : SessionData) → Takes session turn progress after → KeepsLayout session after
-layout_kept session turn progress after e = subst (KeepsLayout session) (sym (ap (λ (s : Step). s.0) e)) (turn_keeps session turn)
+turn_keeps : (core : Option CoreData) (session : SessionData) (turn : Turn Change) → KeepsLayout session (after_turn core session turn).0
+turn_keeps core session Rests = record { shapes = refl; chunks = refl; prunes = refl }
+turn_keeps core session (Waits by) = record { shapes = refl; chunks = refl; prunes = refl }
+turn_keeps core session Begins = record { shapes = refl; chunks = refl; prunes = refl }
+turn_keeps core session (Visits changes next) = record { shapes = refl; chunks = refl; prunes = refl }
+turn_keeps core session (Answers changes reply took records) = record { shapes = refl; chunks = refl; prunes = refl }
+turn_keeps core session Enters = record { shapes = refl; chunks = refl; prunes = refl }
+turn_keeps core session (Ends ending) = record { shapes = refl; chunks = refl; prunes = refl }
 
-turned : (session : SessionData) (turn : Turn) (progress : Progress) (after : SessionData) → IsFree turn → Takes session turn progress after
-    → IsTurned session progress after
-turned session turn progress after free e = record {
-  layout = layout_kept session turn progress after e;
-  going = subst IsGoing (sym (ap (λ (s : Step). s.1) e)) (turn_goes session turn free);
+-- at a part that is the core or a chunk
+turned_by : (core : Option CoreData) (session : SessionData) (turn : Turn Change) (progress : Progress) (after : SessionData) → IsFree turn
+    → ◌≡◌ {A = Step} (after, progress) (after_turn core session turn) → IsTurned session progress after
+turned_by core session turn progress after free e = record {
+  layout = subst (KeepsLayout session) (sym (ap (λ (s : Step). s.0) e)) (turn_keeps core session turn);
+  going = subst IsGoing (sym (ap (λ (s : Step). s.1) e)) (turn_goes core session turn free);
 }
+
+turned : (session : SessionData) (turn : Turn Change) (progress : Progress) (after : SessionData) → IsFree turn → Takes session turn progress after
+    → IsTurned session progress after
+turned session turn progress after free e = turned_by None session turn progress after free e
 
 visits_free : (changes : List Change) (next : Phase) → IsFree (Visits changes next)
 visits_free changes next by e = cc e
 
-either_free : (b : Bool) (one other : Turn) → IsFree one → IsFree other → IsFree (if b then one else other)
+either_free : (b : Bool) (one other : Turn Change) → IsFree one → IsFree other → IsFree (if b then one else other)
 either_free true one other free others = free
 either_free false one other free others = others
 
@@ -118,7 +126,7 @@ read_free session now visited tables statement gathered reply =
 read_by : (session : SessionData) (now : Open) (visited : ℕ) (statement : Bound) (plan : ReadPlan) (gathered : List Table)
     (progress : Progress) (after : SessionData) → Reads session now visited statement plan gathered progress after → IsTurned session progress after
 read_by session now visited statement plan gathered progress after visit =
-    let turn : Turn = read_turn session now visited plan.tables statement (spread_all plan.parts gathered) (plan.reply gathered) in
+    let turn : Turn Change = read_turn session now visited plan.tables statement (spread_all plan.parts gathered) (plan.reply gathered) in
     let here = turned (with_gathered gathered session) turn progress after
     (read_free session now visited plan.tables statement (spread_all plan.parts gathered) (plan.reply gathered)) visit in
     record { layout = record { shapes = here.layout.shapes; chunks = here.layout.chunks; prunes = here.layout.prunes }; going = here.going }
@@ -213,8 +221,8 @@ phase_turned : (session : SessionData) (txn : Txn) (now : Open) (at : Phase) (ol
     → PhaseVisit session txn now at old progress after new → IsTurned session progress after
 phase_turned session txn now (phase.Working visited count) old progress after new visit =
     working_turned session txn now visited count (slice_get txn.statements (length now.replies)) old progress after new visit
-phase_turned session txn now (phase.Stamping visited time) old progress after new visit =
-    turned session (Visits [] (phase.Stamping (suc visited) time)) progress after (visits_free [] (phase.Stamping (suc visited) time)) visit.turn
+phase_turned session txn now (phase.Stamping visited) old progress after new visit =
+    turned session (Visits [] (phase.Stamping (suc visited))) progress after (visits_free [] (phase.Stamping (suc visited))) visit.turn
 phase_turned session txn now (phase.Undoing visited cause) old progress after new visit =
     undo_turned session now visited cause old progress after new visit
 
@@ -274,7 +282,7 @@ working_stays session core txn now (Some statement) = none_stays core
 
 phase_stays : (session : SessionData) (core : CoreData) (txn : Txn) (now : Open) (at : Phase) → AllStay core (phase_turn session core txn now at)
 phase_stays session core txn now (phase.Working visited count) = working_stays session core txn now (slice_get txn.statements (length now.replies))
-phase_stays session core txn now (phase.Stamping visited time) =
+phase_stays session core txn now (phase.Stamping visited) =
     some_stays core (leave_turn core now) (free_stays core (leave_turn core now) (λ by e. cc e))
 phase_stays session core txn now (phase.Undoing visited cause) =
     let found = blocked_by core (label_of session) in
@@ -305,11 +313,12 @@ abbrev pub CameTo : SessionData → CoreData → Progress → SessionData → Co
 CameTo session core (Blocked by) after new = IsWaiting session core by after new
 CameTo session core Moved after new = IsGoingOn session core Moved after
 CameTo session core Answered after new = IsGoingOn session core Answered after
+CameTo session core Ended after new = IsGoingOn session core Ended after
 
-going_on : (session : SessionData) (core : CoreData) (first : Turn) (left : CoreData) (progress : Progress) (after : SessionData)
-    → core_turn session core ≡ Some (first, left) → IsFree first → Takes session first progress after → IsGoingOn session core progress after
+going_on : (session : SessionData) (core : CoreData) (first : Turn Change) (left : CoreData) (progress : Progress) (after : SessionData)
+    → core_turn session core ≡ Some (first, left) → IsFree first → TakesBy core session first progress after → IsGoingOn session core progress after
 going_on session core first left progress after found free takes = record {
-  turned = turned session first progress after free takes;
+  turned = turned_by (Some core) session first progress after free takes;
   free = λ by h. free by (ap (λ (turn : CoreTurn). turn.0) (same_Some (first, left) (Waits by, core) (sym found ∙ h)));
 }
 
@@ -318,14 +327,15 @@ came_of : (session : SessionData) (core : CoreData) (progress : Progress) (after
 came_of session core (Blocked by) after new goes = absurd (goes.turned.going by refl)
 came_of session core Moved after new goes = goes
 came_of session core Answered after new goes = goes
+came_of session core Ended after new goes = goes
 
-came_free : (session : SessionData) (core : CoreData) (first : Turn) (left : CoreData) (progress : Progress) (after : SessionData) (new : CoreData)
-    → core_turn session core ≡ Some (first, left) → IsFree first → Takes session first progress after → CameTo session core progress after new
+came_free : (session : SessionData) (core : CoreData) (first : Turn Change) (left : CoreData) (progress : Progress) (after : SessionData) (new : CoreData)
+    → core_turn session core ≡ Some (first, left) → IsFree first → TakesBy core session first progress after → CameTo session core progress after new
 came_free session core first left progress after new found free takes =
     came_of session core progress after new (going_on session core first left progress after found free takes)
 
-came_by : (session : SessionData) (core : CoreData) (first : Turn) (left : CoreData) (progress : Progress) (after : SessionData) (new : CoreData)
-    → core_turn session core ≡ Some (first, left) → Stays core (first, left) → Takes session first progress after → new ≡ left
+came_by : (session : SessionData) (core : CoreData) (first : Turn Change) (left : CoreData) (progress : Progress) (after : SessionData) (new : CoreData)
+    → core_turn session core ≡ Some (first, left) → Stays core (first, left) → TakesBy core session first progress after → new ≡ left
     → CameTo session core progress after new
 came_by session core (Waits by) left progress after new found stays takes is =
     subst (λ (p : Progress). CameTo session core p after new) (sym (ap (λ (s : Step). s.1) takes))
@@ -334,19 +344,21 @@ came_by session core (Waits by) left progress after new found stays takes is =
       same = ap (λ (s : Step). s.0) takes;
       core_same = is ∙ stays by refl;
     })
-came_by session core (Begins now) left progress after new found stays takes is =
-    came_free session core (Begins now) left progress after new found (λ by e. cc e) takes
+came_by session core Rests left progress after new found stays takes is =
+    came_free session core Rests left progress after new found (λ by e. cc e) takes
+came_by session core Begins left progress after new found stays takes is =
+    came_free session core Begins left progress after new found (λ by e. cc e) takes
 came_by session core (Visits changes next) left progress after new found stays takes is =
     came_free session core (Visits changes next) left progress after new found (visits_free changes next) takes
 came_by session core (Answers changes reply took records) left progress after new found stays takes is =
     came_free session core (Answers changes reply took records) left progress after new found (λ by e. cc e) takes
-came_by session core (Enters time) left progress after new found stays takes is =
-    came_free session core (Enters time) left progress after new found (λ by e. cc e) takes
+came_by session core Enters left progress after new found stays takes is =
+    came_free session core Enters left progress after new found (λ by e. cc e) takes
 came_by session core (Ends ending) left progress after new found stays takes is =
     came_free session core (Ends ending) left progress after new found (λ by e. cc e) takes
 
 came_at : (session : SessionData) (core : CoreData) (found : Option CoreTurn) (progress : Progress) (after : SessionData) (new : CoreData)
-    → core_turn session core ≡ found → TakesAtCore session found progress after new → CameTo session core progress after new
+    → core_turn session core ≡ found → TakesAtCore session core found progress after new → CameTo session core progress after new
 came_at session core None progress after new e takes = absurd takes
 came_at session core (Some turn) progress after new e takes =
     came_by session core turn.0 turn.1 progress after new e (session_stays session core (txn_at session) session.now turn e) takes.0 takes.1
@@ -365,6 +377,7 @@ came_layout session core (Blocked by) after new came =
     }
 came_layout session core Moved after new came = came.turned.layout
 came_layout session core Answered after new came = came.turned.layout
+came_layout session core Ended after new came = came.turned.layout
 
 -- ---- what a gate is told
 
@@ -374,6 +387,7 @@ core_told : (number : ℕ) (session : SessionData) (core : CoreData) (progress :
 core_told number session core (Blocked by) after new visit came = ((by, came.turn), came.same, ap CoreOf came.core_same)
 core_told number session core Moved after new visit came = (visit, λ waits. came.free waits.0 waits.1)
 core_told number session core Answered after new visit came = (visit, λ waits. came.free waits.0 waits.1)
+core_told number session core Ended after new visit came = (visit, λ waits. came.free waits.0 waits.1)
 
 chunk_told : (number : ℕ) (session : SessionData) (types : List Kind) (chunk : ChunkData) (progress : Progress) (after : SessionData) (new : SharedData)
     → IsVisit number session (ChunkOf types chunk) after new → IsGoing progress
@@ -381,6 +395,7 @@ chunk_told : (number : ℕ) (session : SessionData) (types : List Kind) (chunk :
 chunk_told number session types chunk (Blocked by) after new visit goes = absurd (goes by refl)
 chunk_told number session types chunk Moved after new visit goes = (visit, λ waits. waits)
 chunk_told number session types chunk Answered after new visit goes = (visit, λ waits. waits)
+chunk_told number session types chunk Ended after new visit goes = (visit, λ waits. waits)
 
 told_by : (number : ℕ) (need : Need) (session : SessionData) (old : SharedData) (progress : Progress) (after : SessionData) (new : SharedData)
     → need_of session ≡ need → part_number session (need_of session) ≡ Some number

@@ -9,7 +9,7 @@ use Rattle.hy_event.specs.declared.Need.{Need}
 use Rattle.hy_event.specs.declared.Need.TheVariants.{Chunk, Done}
 use Rattle.hy_machine.specs.declared.Setting.{Setting}
 use Rattle.hy_machine.specs.States.{State}
-use Rattle.hy_machine.specs.declared.Stepped.TheVariants.{Ended}
+use Rattle.hy_protocol.specs.declared.Progress.TheVariants.{Ended}
 use Rattle.hy_machine.specs.Steps.{Step, step_of}
 use Rattle.hy_stepping.specs.Steps.{NeededChunksAreThere, ChunksAreNear, EndedStayAsTheyAre}
 use Rattle.hy_session.specs.Near.{NearChunk}

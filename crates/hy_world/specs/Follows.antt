@@ -3,7 +3,7 @@ use Rattle.std.specs.Prelude.{◌≡◌, ℕ, true}
 use Rattle.hy_render.specs.declared.Outcome.{Outcome}
 use Rattle.hy_machine.specs.declared.Setting.{Setting}
 use Rattle.hy_machine.specs.States.{State}
-use Rattle.hy_machine.specs.declared.Stepped.{Stepped}
+use Rattle.hy_protocol.specs.declared.Progress.{Progress}
 use Rattle.hy_machine.specs.Outcomes.{outcome_of}
 use Rattle.hy_machine.specs.Steps.{step_of}
 use Rattle.hy_stepping.specs.Outcomes.{are_done}
@@ -14,11 +14,11 @@ abbrev pub Follows : (Setting → State → State) → WorldData → WorldData �
 Follows makes old new = (setting : Setting) (state : State) → ShowsState setting state old → ShowsState setting (makes setting state) new
 
 -- so for a step of a session, which comes to what the machine's step comes to
-pub record IsStep (setting : Setting) (state : State) (number : ℕ) (stepped : Stepped) (new : WorldData) : Type 0 where
+pub record IsStep (setting : Setting) (state : State) (number : ℕ) (stepped : Progress) (new : WorldData) : Type 0 where
   pub shows : ShowsState setting (step_of setting state number).0 new
   pub answer : (step_of setting state number).1 ≡ stepped
 
-abbrev pub Steps : ℕ → Stepped → WorldData → WorldData → Type 0
+abbrev pub Steps : ℕ → Progress → WorldData → WorldData → Type 0
 Steps number stepped old new = (setting : Setting) (state : State) → ShowsState setting state old → IsStep setting state number stepped new
 
 -- an outcome is the machine's, of each state that the world shows, where all sessions are at their end

@@ -5,8 +5,8 @@ use Rattle.std.specs.Option.{option_map}
 use Rattle.std.proofs.lemmas.Bool.{ltb-true}
 use Rattle.std.proofs.lemmas.Option.{same_Some}
 use Rattle.hy_event.specs.declared.SessionData.{SessionData}
-use Rattle.hy_event.specs.declared.Progress.{Progress}
-use Rattle.hy_event.specs.declared.Progress.TheVariants as progress
+use Rattle.hy_protocol.specs.declared.Progress.{Progress}
+use Rattle.hy_protocol.specs.declared.Progress.TheVariants as progress
 use Rattle.hy_event.specs.Events.{part_number}
 use Rattle.hy_event.specs.Needs.{need_of}
 use Rattle.hy_session.specs.Standing.{standing_of, needed_number, number_within, width_of}
@@ -34,6 +34,7 @@ point_of session = option_map (visit_at session) (needed_number session)
 -- what a visit came to, as a gate is told
 abbrev pub visited_of : Progress → Visited
 visited_of progress.Moved = Moved
+visited_of progress.Ended = Moved
 visited_of progress.Answered = Answered
 visited_of (progress.Blocked by) = Blocked
 

@@ -14,11 +14,11 @@ use Rattle.hy_stamp.specs.declared.Label.{Label}
 use Rattle.hy_event.specs.declared.SessionData.{SessionData}
 use Rattle.hy_event.specs.declared.Need.{Need}
 use Rattle.hy_event.specs.declared.Need.TheVariants.{Core, Chunk}
-use Rattle.hy_event.specs.declared.Progress.{Progress}
+use Rattle.hy_protocol.specs.declared.Progress.{Progress}
 use Rattle.hy_event.specs.CoreTurns.{core_turn}
 use Rattle.hy_event.specs.Events.{Part, ChunkPart, CorePart, part_number, NeededVisit}
 use Rattle.hy_event.specs.Needs.{need_of}
-use Rattle.hy_event.specs.Turns.{Waits}
+use Rattle.hy_protocol.specs.Turns.{Waits}
 use Rattle.hy_machine.specs.declared.Setting.{Setting}
 use Rattle.hy_machine.specs.States.{State}
 use Rattle.hy_session.specs.Near.{NearCore, NearChunk}

@@ -9,7 +9,7 @@ ghost use Rattle.hy_world.specs.Shared.{CoreOf, IsChunk, AreParts, KeepsLayout, 
 
 use hy_chunk::Chunk;
 use hy_core::Core;
-use hy_event::Progress;
+use hy_protocol::Progress;
 use hy_session::Session;
 use std::alloc::{AllocError, Global};
 use std::marker::Model;

@@ -14,15 +14,15 @@ use crate::logging::log_entry;
 use hy_bound::Item;
 use hy_disk::Disk;
 use hy_event::Need;
-use hy_machine::Stepped;
+use hy_protocol::Progress;
 use hy_redo::{AppendError, Log};
 use std::alloc::Global;
 
 /// Whether a session went on without an answer.
-fn has_moved(stepped: Stepped) -> bool
+fn has_moved(stepped: Progress) -> bool
     ensures { result ≡ is_moved stepped }
 {
-    matches!(stepped, Stepped::Moved)
+    matches!(stepped, Progress::Moved)
 }
 
 /// Whether a session that needs this is at the end of its script.
@@ -41,7 +41,7 @@ impl World {
         number: u32,
         log: &mut Option<Log>,
         disk: &mut D,
-    ) -> Result<Stepped, AppendError>
+    ) -> Result<Progress, AppendError>
         requires kept { IsKept D.image self.old.core.entries log.old disk.old }
         ensures step { IfOk result (λ stepped. Steps number stepped self.old self.new) }
         ensures under_way { OnErr result (Approaches (λ setting state. (step_of setting state number).0) self.old self.new) }

@@ -17,8 +17,8 @@ use crate::opening::{Opened, open_all};
 use crate::shared::{SharedPart, share, unshare, visit_part};
 use crate::{Kinds, World};
 use hy_bound::Shapes;
-use hy_event::Progress;
 use hy_machine::Setting;
+use hy_protocol::Progress;
 use hy_render::Outcome;
 use hy_session::{Session, Standing};
 use hy_threads::{Gate, Moment, Parted, Point, Visited, Worked, run_all};
@@ -124,7 +124,7 @@ fn to_visited(progress: Progress) -> Visited
     ensures { result ≡ visited_of progress }
 {
     match progress {
-        Progress::Moved => Visited::Moved,
+        Progress::Moved | Progress::Ended => Visited::Moved,
         Progress::Answered => Visited::Answered,
         Progress::Blocked { .. } => Visited::Blocked,
     }

@@ -2,9 +2,7 @@
 
 ghost use Rattle.std.specs.Prelude.{◌≡◌, ◌+◌, ◌*◌, ◌^◌, ◌<◌, false, IfOk, OnErr};
 ghost use Rattle.hy_event.specs.declared.Need.{Need};
-ghost use Rattle.hy_event.specs.declared.Progress.{Progress};
-ghost use Rattle.hy_machine.specs.declared.Stepped.{Stepped};
-ghost use Rattle.hy_refinement.specs.Taken.{stepped_of};
+ghost use Rattle.hy_protocol.specs.declared.Progress.{Progress};
 ghost use Rattle.hy_stamp.specs.declared.Label.{Label};
 ghost use Rattle.hy_world.specs.Asks.{has_entry_at, need_at};
 ghost use Rattle.hy_world.specs.Follows.{Steps};
@@ -12,21 +10,9 @@ ghost use Rattle.hy_world.specs.Logged.{GrowByOne};
 ghost use Rattle.hy_world.specs.Openings.{prunings};
 
 use crate::World;
-use hy_event::{Need, Progress};
-use hy_machine::Stepped;
+use hy_event::Need;
+use hy_protocol::Progress;
 use std::alloc::{AllocError, Global};
-
-/// What a visit came to, as the machine says it.
-fn to_stepped(progress: Progress) -> Stepped
-    ensures told { result ≡ stepped_of progress }
-    ensures blocked { (by : Label) → result ≡ Stepped.Blocked by → progress ≡ Progress.Blocked by }
-{
-    match progress {
-        Progress::Moved => Stepped::Moved,
-        Progress::Answered => Stepped::Answered,
-        Progress::Blocked { by } => Stepped::Blocked { by },
-    }
-}
 
 /// Where a chunk of a table stands among all chunks.
 fn place_of(per_table: u32, table: u32, chunk: u32) -> usize
@@ -49,7 +35,7 @@ impl World {
     /// A session visits the core. Err is for want of memory, and changes nothing that contracts see.
     fn visit_core(&mut self, alloc: Global, number: u32) -> Result<Progress, AllocError>
         requires { need_at self.old.sessions number ≡ Need.Core }
-        ensures step { IfOk result (λ progress. Steps number (stepped_of progress) self.old self.new) }
+        ensures step { IfOk result (λ progress. Steps number progress self.old self.new) }
         ensures err { OnErr result (self.new ≡ self.old) }
         ensures grows { GrowByOne self.old.core.entries self.new.core.entries }
         ensures entered { OnErr result (has_entry_at self.old.sessions number ≡ false) }
@@ -71,7 +57,7 @@ impl World {
         chunk: u32,
     ) -> Result<Progress, AllocError>
         requires { need_at self.old.sessions number ≡ Need.Chunk table chunk }
-        ensures step { IfOk result (λ progress. Steps number (stepped_of progress) self.old self.new) }
+        ensures step { IfOk result (λ progress. Steps number progress self.old self.new) }
         ensures err { OnErr result (self.new ≡ self.old) }
         ensures grows { GrowByOne self.old.core.entries self.new.core.entries }
         ensures entered { OnErr result (has_entry_at self.old.sessions number ≡ false) }
@@ -90,21 +76,19 @@ impl World {
     /// A step of a session. One that is blocked changes nothing, and none changes who prunes. Err is for want of memory, and
     /// changes nothing that contracts see; it never comes where the session's open transaction has its entry, so that the
     /// steps from an entry to its end take none.
-    pub fn step(&mut self, alloc: Global, number: u32) -> Result<Stepped, AllocError>
+    pub fn step(&mut self, alloc: Global, number: u32) -> Result<Progress, AllocError>
         ensures step { IfOk result (λ stepped. Steps number stepped self.old self.new) }
         ensures err { OnErr result (self.new ≡ self.old) }
         ensures grows { GrowByOne self.old.core.entries self.new.core.entries }
         ensures entered { OnErr result (has_entry_at self.old.sessions number ≡ false) }
-        ensures blocked { IfOk result (λ stepped. (by : Label) → stepped ≡ Stepped.Blocked by → self.new ≡ self.old) }
+        ensures blocked { IfOk result (λ stepped. (by : Label) → stepped ≡ Progress.Blocked by → self.new ≡ self.old) }
         ensures prunes { prunings self.new.sessions ≡ prunings self.old.sessions }
     {
         hy_stepping::ended_stay_as_they_are();
         match self.next_need(number) {
-            Need::Core => Ok(to_stepped(self.visit_core(alloc, number)?)),
-            Need::Chunk { table, chunk } => Ok(to_stepped(self.visit_chunk(
-                alloc, number, table, chunk,
-            )?)),
-            Need::Done => Ok(Stepped::Ended),
+            Need::Core => self.visit_core(alloc, number),
+            Need::Chunk { table, chunk } => self.visit_chunk(alloc, number, table, chunk),
+            Need::Done => Ok(Progress::Ended),
         }
     }
 }

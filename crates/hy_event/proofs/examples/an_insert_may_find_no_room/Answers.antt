@@ -1,5 +1,5 @@
 use Rattle.std.proofs.Common.{refl}
-use Rattle.hy_event.specs.declared.Phase.{Phase}
+use Rattle.hy_protocol.specs.declared.Phase.{Phase}
 use Rattle.hy_event.specs.Accounts.{account, chunk_of, opening, with_row}
 use Rattle.hy_event.specs.Examples.{begun, running}
 use Rattle.hy_event.proofs.Unpruned.{unpruned}

@@ -1,7 +1,7 @@
 use Rattle.std.proofs.Common.{refl}
 use Rattle.std.specs.Prelude.{[], ◌∷◌, None, false}
 use Rattle.hy_stamp.specs.Times.{id_of}
-use Rattle.hy_event.specs.declared.Phase.{Phase}
+use Rattle.hy_protocol.specs.declared.Phase.{Phase}
 use Rattle.hy_event.specs.Accounts.{account, chunk_of, first, opening, unused, with_new, with_row}
 use Rattle.hy_event.specs.Examples.{begun, running}
 use Rattle.hy_event.proofs.Unpruned.{unpruned}

@@ -1,5 +1,5 @@
 use Rattle.std.proofs.Common.{refl}
-use Rattle.hy_event.specs.declared.Phase.{Phase}
+use Rattle.hy_protocol.specs.declared.Phase.{Phase}
 use Rattle.hy_event.specs.Accounts.{account, chunk_of, with_old_record, with_row}
 use Rattle.hy_event.specs.Examples.{begun}
 use Rattle.hy_event.proofs.examples.an_update_prunes_first.Goals as goal

@@ -4,7 +4,7 @@ use Rattle.std.specs.declared.alloc.AllocError.{AllocError}
 use Rattle.hy_stamp.specs.Times.{id_of}
 use Rattle.hy_event.specs.declared.SessionData.{SessionData}
 use Rattle.hy_event.specs.declared.Open.{Open}
-use Rattle.hy_event.specs.declared.Phase.TheVariants.{Working, Stamping, Undoing}
+use Rattle.hy_protocol.specs.declared.Phase.TheVariants.{Working, Stamping, Undoing}
 use Rattle.hy_event.specs.Sessions.{txn_at}
 use Rattle.hy_event.specs.Turns.{with_open}
 use Rattle.hy_session.specs.contracts.Session.{the_view}
@@ -79,12 +79,12 @@ returns-clause-event c =
           c.self.view_is (visitor_is c) (txn_is c) (open_is c)
           w.in-Working.visited w.in-Working.count c.requires.near works none w.undo.ensures.event)
       | in-Stamping w ↦
-          let stands : now.phase ≡ Stamping w.in-Stamping.visited w.in-Stamping.time = ap (λ (v : Open). v.phase) (sym c.now.view_is) ∙ w.in-Stamping.is in
+          let stands : now.phase ≡ Stamping w.in-Stamping.visited = ap (λ (v : Open). v.phase) (sym c.now.view_is) ∙ w.in-Stamping.is in
           event_moves session chunk.shown c.match-now.result (Ok w.stamp.result) _ (with_open w.stamp.new.now seen) c.match-now.chunk w.stamp.new.chunk
           w.result-is (ap the_view w.self-inside-is) w.chunk-is
           (stamped {E = AllocError} session seen (visitor_at c) txn now w.stamp.new.now chunk w.stamp.new.chunk.shown (Ok w.stamp.result)
           c.self.view_is (visitor_is c) (txn_is c) (open_is c)
-          w.in-Stamping.visited w.in-Stamping.time stands w.stamp.ensures.event)
+          w.in-Stamping.visited stands w.stamp.ensures.event)
       | in-Undoing w ↦
           let stands : now.phase ≡ Undoing w.in-Undoing.visited w.in-Undoing.cause = ap (λ (v : Open). v.phase) (sym c.now.view_is) ∙ w.in-Undoing.is in
           event_moves session chunk.shown c.match-now.result (Ok w.undo-in-Undoing.result) _ (with_open w.undo-in-Undoing.new.now seen) c.match-now.chunk
@@ -139,9 +139,9 @@ stamp-requires-clause-few c =
     (omega (arith, c.len.ensures, c.self.inside.done.ok.0, ap (λ (v : SessionData). length v.done) c.self.view_is))
     c.in-Some.ensures.lookup.0 c.in-Some.ensures.lookup.1 in
     let opened : session.now ≡ Some c.in-Some-now.now = ap (λ (v : SessionData). v.now) (sym c.self.view_is) ∙ c.in-Some-now.is in
-    let stands : c.in-Some-now.now.phase ≡ Stamping c.in-Stamping.visited c.in-Stamping.time =
+    let stands : c.in-Some-now.now.phase ≡ Stamping c.in-Stamping.visited =
     ap (λ (v : Open). v.phase) (sym c.now.view_is) ∙ c.in-Stamping.is in
-    stamp_fits session (the_view c.self.inside) c.in-Some.txn.now c.in-Some-now.now c.in-Stamping.visited c.in-Stamping.time c.args.chunk.now.shown.table
+    stamp_fits session (the_view c.self.inside) c.in-Some.txn.now c.in-Some-now.now c.in-Stamping.visited c.args.chunk.now.shown.table
     c.requires.near.number c.self.view_is c.self.invariant.0.few_chunks there opened stands c.requires.near.needed
 
 pub undo-requires-in-Undoing : goal.undo-requires-in-Undoing

@@ -3,9 +3,10 @@ use Rattle.std.proofs.lemmas.Result.{IfOk-weaker}
 use Rattle.hy_chunk.specs.Views.{Whole}
 use Rattle.hy_meaning.specs.Statement.{Table}
 use Rattle.hy_event.specs.declared.SessionData.{SessionData}
-use Rattle.hy_event.specs.declared.Phase.TheVariants.{Working}
+use Rattle.hy_protocol.specs.declared.Phase.TheVariants.{Working}
 use Rattle.hy_event.specs.Reading.{with_gathered}
-use Rattle.hy_event.specs.Turns.{Answers, Takes, Visits}
+use Rattle.hy_protocol.specs.Turns.{Answers, Visits}
+use Rattle.hy_event.specs.Turns.{Takes}
 use Rattle.hy_session.specs.Reading.{IsStepOf}
 use Rattle.hy_session.proofs.SelectVisits.{given_event, kept_event, with_piece}
 use Rattle.hy_session.proofs.Session.read.Goals as goal

@@ -3,7 +3,7 @@ use Rattle.std.specs.Prelude.{slice_get}
 use Rattle.std.proofs.lemmas.Result.{IfOk-weaker}
 use Rattle.hy_event.specs.declared.SessionData.{SessionData}
 use Rattle.hy_event.specs.declared.Open.{Open}
-use Rattle.hy_event.specs.declared.Phase.TheVariants.{Working}
+use Rattle.hy_protocol.specs.declared.Phase.TheVariants.{Working}
 use Rattle.hy_event.specs.Sessions.{txn_at}
 use Rattle.hy_session.proofs.PresentSelects.{next_at, present_at, works_at}
 use Rattle.hy_session.proofs.Results.{got}

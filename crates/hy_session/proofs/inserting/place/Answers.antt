@@ -4,7 +4,7 @@ use Rattle.hy_bound.specs.declared.Reply.{Reply}
 use Rattle.hy_bound.specs.declared.Reply.TheVariants.{Inserted}
 use Rattle.hy_plan.specs.Reads.{records_of}
 use Rattle.hy_event.specs.declared.Open.{Open}
-use Rattle.hy_event.specs.declared.Phase.{Phase}
+use Rattle.hy_protocol.specs.declared.Phase.{Phase}
 use Rattle.hy_session.specs.Written.{Came}
 use Rattle.hy_session.proofs.VisitTurns.{moved_to}
 use Rattle.hy_session.proofs.StatementVisits.{added_one, answered_by, has_noted, places_here, places_not, reserved_so}

@@ -6,7 +6,7 @@ use Rattle.hy_plan.specs.Reads.{records_of}
 use Rattle.hy_render.specs.declared.Ending.{Ending}
 use Rattle.hy_undo.specs.declared.refusal.Refusal.{Refusal}
 use Rattle.hy_event.specs.declared.Open.{Open}
-use Rattle.hy_event.specs.declared.Phase.TheVariants.{Undoing}
+use Rattle.hy_protocol.specs.declared.Phase.TheVariants.{Undoing}
 use Rattle.hy_event.specs.Writing.{told_by}
 use Rattle.hy_session.specs.Written.{Wrote}
 use Rattle.hy_session.proofs.VisitTurns.{moved_to}

@@ -3,7 +3,7 @@ use Rattle.hy_chunk.specs.Writes.{sets_of}
 use Rattle.hy_render.specs.declared.Ending.{Ending}
 use Rattle.hy_undo.specs.declared.refusal.Refusal.{Refusal}
 use Rattle.hy_event.specs.declared.Open.{Open}
-use Rattle.hy_event.specs.declared.Phase.TheVariants.{Working, Undoing}
+use Rattle.hy_protocol.specs.declared.Phase.TheVariants.{Working, Undoing}
 use Rattle.hy_session.specs.Written.{Wrote}
 use Rattle.hy_session.proofs.VisitTurns.{moved_to}
 use Rattle.hy_session.proofs.StatementVisits.{has_noted, refuses, writes_on}

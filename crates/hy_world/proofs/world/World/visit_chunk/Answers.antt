@@ -1,8 +1,7 @@
 use Rattle.std.proofs.Common.{◌≡◌, arith, false, subst, refl, inl}
 use Rattle.std.specs.Prelude.{IfOk, OnErr}
 use Rattle.hy_event.specs.declared.Need.TheVariants.{Chunk}
-use Rattle.hy_event.specs.declared.Progress.TheVariants.{Blocked}
-use Rattle.hy_refinement.specs.Taken.{stepped_of}
+use Rattle.hy_protocol.specs.declared.Progress.TheVariants.{Blocked}
 use Rattle.hy_stamp.specs.declared.Label.{Label}
 use Rattle.hy_world.specs.Asks.{has_entry_at}
 use Rattle.hy_world.specs.Openings.{prunings}
@@ -72,7 +71,7 @@ returns-clause-step c =
     c.place_of-place.result c.index_mut-part.result.now c.self.view_is c.requires c.index_mut-session.ensures.value c.place_of-place.ensures
     c.index_mut-part.ensures.value c.self.invariant in
     let new : WorldData = world_of (chunk_put fields c.args.number c.visit_chunk.new.self c.place_of-place.result c.visit_chunk.new.chunk) in
-    subst (λ (world : WorldData). IfOk c.visit_chunk.result (λ progress. Steps c.args.number (stepped_of progress) world new)) c.self.view_is
+    subst (λ (world : WorldData). IfOk c.visit_chunk.result (λ progress. Steps c.args.number progress world new)) c.self.view_is
     (chunk_steps c.visit_chunk.result c.needed_chunks_are_there.ensures c.visits_are_steps.ensures fields c.args.number
     c.index_mut-session.result.now c.visit_chunk.new.self c.args.table c.args.chunk c.place_of-place.result c.index_mut-part.result.now c.visit_chunk.new.chunk at
     (record { event = c.visit_chunk.ensures.event; kept = c.visit_chunk.ensures.kept; kinds = c.visit_chunk.ensures.kinds }))

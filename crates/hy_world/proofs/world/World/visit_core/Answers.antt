@@ -1,8 +1,7 @@
 use Rattle.std.proofs.Common.{◌≡◌, arith, false, subst}
 use Rattle.std.specs.Prelude.{IfOk, OnErr}
 use Rattle.hy_event.specs.declared.Need.TheVariants.{Core}
-use Rattle.hy_event.specs.declared.Progress.TheVariants.{Blocked}
-use Rattle.hy_refinement.specs.Taken.{stepped_of}
+use Rattle.hy_protocol.specs.declared.Progress.TheVariants.{Blocked}
 use Rattle.hy_stamp.specs.declared.Label.{Label}
 use Rattle.hy_world.specs.Asks.{has_entry_at}
 use Rattle.hy_world.specs.Openings.{prunings}
@@ -60,7 +59,7 @@ returns-clause-step c =
     let at = session_read fields c.args.self.now c.args.number c.index_mut-session.result.now Core c.self.view_is c.requires not_core
     c.index_mut-session.ensures.value in
     let new : WorldData = world_of (core_put fields c.args.number c.visit_core.new.self c.visit_core.new.core) in
-    subst (λ (world : WorldData). IfOk c.visit_core.result (λ progress. Steps c.args.number (stepped_of progress) world new)) c.self.view_is
+    subst (λ (world : WorldData). IfOk c.visit_core.result (λ progress. Steps c.args.number progress world new)) c.self.view_is
     (core_steps c.visit_core.result c.visits_are_steps.ensures (world_of fields) c.args.number c.index_mut-session.result.now c.visit_core.new.self
     c.visit_core.new.core at (c.visit_core.ensures.event, c.visit_core.ensures.kept))
 

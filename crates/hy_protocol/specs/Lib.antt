@@ -1,0 +1,5 @@
+pub mod Turns
+pub mod Asking
+pub mod Statements
+pub mod Closing
+pub mod Sessions

@@ -220,12 +220,14 @@ impl Tried {
     ) -> Result<Vec<(i64, i64)>, AllocError> {
         let values = values_of(alloc, ids)?;
         let mut gathered = Gathered::new(alloc, 2)?;
+        let pred = Pred::always();
+        let keys = Keys {
+            column: 0,
+            values: values.as_slice(),
+        };
         let sought = Sought {
-            pred: &Pred::always(),
-            keys: Keys {
-                column: 0,
-                values: values.as_slice(),
-            },
+            pred: &pred,
+            keys,
             columns: ColMask(3),
         };
         self.chunk

@@ -1,7 +1,7 @@
 -- Where each transaction ends in one of the four ways, the counts of these add up.
 use Rattle.std.proofs.Common.{◌≡◌, ◌+◌, List, [], ◌∷◌, refl, arith}
-use Rattle.hy_render.specs.declared.Ending.{Ending}
-use Rattle.hy_render.specs.declared.Ending.TheVariants.{Committed, Read, RolledBack, Conflict, Invalid, Range, Full}
+use Rattle.hy_bound.specs.declared.Ending.{Ending}
+use Rattle.hy_bound.specs.declared.Ending.TheVariants.{Committed, Read, RolledBack, Conflict, Invalid, Range, Full}
 use Rattle.hy_render.specs.declared.TxnOutcome.{TxnOutcome}
 use Rattle.hy_render.specs.Summary.{is_committed, is_read, is_conflict, is_invalid, one_if}
 use Rattle.hy_bank.specs.Endings.{IsEndingOfBank, EndInFourWays, EndingsAddUp, MadeEndingsAddUp}

@@ -1,7 +1,7 @@
 -- How the transactions of a script that is made end.
 use Rattle.std.specs.Prelude.{◌≡◌, ℕ, ◌+◌, ◌≤◌, List, ◌||◌, IsTrue, length}
 use Rattle.std.specs.List.{AllByRecursion}
-use Rattle.hy_render.specs.declared.Ending.{Ending}
+use Rattle.hy_bound.specs.declared.Ending.{Ending}
 use Rattle.hy_render.specs.declared.TxnOutcome.{TxnOutcome}
 use Rattle.hy_render.specs.declared.Outcome.{Outcome}
 use Rattle.hy_render.specs.Summary.{is_committed, is_read, is_conflict, is_invalid, ended_so}

@@ -1,5 +1,5 @@
 //! Statements as the engine runs them, with names and types resolved: predicates, SET, records of
-//! reads, replies.
+//! reads, replies, and how a transaction ends.
 #![tactic(auto)]
 
 ghost use Rattle.std.specs.Prelude.{◌≡◌, IfOk};
@@ -15,6 +15,7 @@ mod schedule;
 
 pub use conjuncts::conditions;
 pub use expression::{ExprRoot, SetExpr, set_row, value};
+use hy_stamp::Label;
 use hy_value::{ColMask, Row, Seq, Value};
 pub use laws::{only_named_columns_matter, projections_are_spread};
 pub use predicate::{Pred, Root, Side, SideView, cell, column_value, compare, is_null, truth};
@@ -259,3 +260,49 @@ pub enum Reply {
 
 /// The replies of a transaction.
 pub type Replies = Seq<Reply>;
+
+/// How a transaction ended.
+#[derive(Clone, Copy, Debug, PartialEq, Eq)]
+pub enum Ending {
+    /// Committed, at this rank of the commit order.
+    Committed {
+        /// The rank, from 0.
+        rank: u32,
+    },
+    /// Committed, having written no position.
+    Read,
+    /// By ROLLBACK.
+    RolledBack,
+    /// Refused at a position that another transaction wrote.
+    Conflict {
+        /// The table.
+        table: u32,
+        /// The position.
+        pos: u32,
+        /// The transaction that wrote it.
+        other: Label,
+    },
+    /// Refused by validation: a change hits what a statement read.
+    Invalid {
+        /// The table of the change.
+        table: u32,
+        /// Its position.
+        pos: u32,
+        /// The transaction whose change it is.
+        other: Label,
+        /// The number of the statement, from 1.
+        statement: u32,
+    },
+    /// Refused since a value of SET leaves 64 bits.
+    Range {
+        /// The table.
+        table: u32,
+        /// The position of the row.
+        pos: u32,
+    },
+    /// Refused since there was no room for an insert.
+    Full {
+        /// The table.
+        table: u32,
+    },
+}

@@ -5,7 +5,7 @@ use Rattle.hy_value.specs.declared.Value.{Value}
 use Rattle.hy_value.specs.declared.Value.TheVariants.{Null}
 use Rattle.hy_bound.specs.Condition.{True}
 use Rattle.hy_bound.specs.Fits.{FitsShape}
-use Rattle.hy_render.specs.declared.Ending.{Ending}
+use Rattle.hy_bound.specs.declared.Ending.{Ending}
 use Rattle.hy_machine.specs.Writes.{Write}
 use Rattle.hy_machine.specs.Positions.{item_at}
 use Rattle.hy_machine.specs.Validation.{record_hit}

@@ -3,7 +3,7 @@
 use Rattle.std.proofs.Common.{refl, ℕ, zero, suc, ◌≤◌, List, [], ◌∷◌, arith}
 use Rattle.std.specs.Prelude.{Option, None, Some, IfSome, slice_get, slice_index_or}
 use Rattle.hy_value.specs.declared.Value.{Value}
-use Rattle.hy_render.specs.declared.Ending.TheVariants.{RolledBack, Full}
+use Rattle.hy_bound.specs.declared.Ending.TheVariants.{RolledBack, Full}
 use Rattle.hy_lawful.specs.Serial.{IsSerial}
 use Rattle.hy_cases.specs.Words.{row, a1, a2, told, rows, balance}
 use Rattle.hy_cases.specs.Scripts.{hundreds}

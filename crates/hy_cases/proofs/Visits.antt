@@ -4,7 +4,7 @@ use Rattle.hy_bound.specs.Condition.{True}
 use Rattle.hy_replay.specs.EffectVisits.{Visited}
 use Rattle.hy_cases.specs.Examples.{row_of}
 use Rattle.hy_cases.specs.Visits.{RevisitsAddUp, to_two}
-use Rattle.hy_render.specs.declared.Ending.{Ending}
+use Rattle.hy_bound.specs.declared.Ending.{Ending}
 
 count_of : Result Visited Ending → ℕ
 count_of (Err cause) = 0

@@ -2,7 +2,7 @@
 -- is free, and what came before what at a time, lawfulness and serializability leave open.
 use Rattle.std.specs.Prelude.{[], ◌∷◌, None, Some}
 use Rattle.hy_bound.specs.declared.Reply.TheVariants.{Inserted, Updated, Deleted}
-use Rattle.hy_render.specs.declared.Ending.TheVariants.{Committed, RolledBack, Conflict, Range, Full}
+use Rattle.hy_bound.specs.declared.Ending.TheVariants.{Committed, RolledBack, Conflict, Range, Full}
 use Rattle.hy_cases.specs.Words.{row, greatest, a1, a2, b1, at, change, told, entry}
 use Rattle.hy_cases.specs.Scripts as script
 use Rattle.hy_cases.specs.Scripts.{hundreds}

@@ -2,7 +2,7 @@
 use Rattle.std.specs.Prelude.{List, [], ◌∷◌, None, Some}
 use Rattle.hy_bound.specs.declared.Reply.TheVariants.{Inserted, Duplicate, Updated, Deleted}
 use Rattle.hy_bound.specs.declared.schedule.Item.{Item}
-use Rattle.hy_render.specs.declared.Ending.TheVariants.{Committed, Read, RolledBack, Conflict, Invalid, Range, Full}
+use Rattle.hy_bound.specs.declared.Ending.TheVariants.{Committed, Read, RolledBack, Conflict, Invalid, Range, Full}
 use Rattle.hy_cases.specs.Words.{int, greatest, row, overdrawn, goes, a1, a2, b1, b2, c1, at, change, told, entry, rows, balance, total, group, groups}
 use Rattle.hy_cases.specs.Scripts as script
 use Rattle.hy_cases.specs.Scripts.{hundreds}

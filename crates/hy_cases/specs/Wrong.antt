@@ -1,7 +1,7 @@
 -- Outcomes that the engine never gives, each made from a right one by what its name says.
 use Rattle.std.specs.Prelude.{[], ◌∷◌, None, Some}
 use Rattle.hy_bound.specs.declared.Reply.TheVariants.{Inserted, Duplicate, Updated, Deleted}
-use Rattle.hy_render.specs.declared.Ending.TheVariants.{Committed, Read, RolledBack, Conflict, Invalid, Range, Full}
+use Rattle.hy_bound.specs.declared.Ending.TheVariants.{Committed, Read, RolledBack, Conflict, Invalid, Range, Full}
 use Rattle.hy_cases.specs.Words.{int, greatest, minus, row, overdrawn, a1, a2, b1, b2, c1, at, change, told, entry, rows, balance, total, group, groups}
 use Rattle.hy_cases.specs.Words.{commits, rolls_back, read_all, read_balance, sum_balances, insert, set_balance, add_to_balance}
 use Rattle.hy_cases.specs.Scripts.{hundreds}

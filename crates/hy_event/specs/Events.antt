@@ -5,7 +5,7 @@ use Rattle.hy_bound.specs.declared.Bound.TheVariants.{Select, Group, Insert, Upd
 use Rattle.hy_bound.specs.declared.Txn.{Txn}
 use Rattle.hy_bound.specs.Records.{shape_of}
 use Rattle.hy_journal.specs.declared.CoreData.{CoreData}
-use Rattle.hy_render.specs.declared.Ending.TheVariants.{RolledBack}
+use Rattle.hy_bound.specs.declared.Ending.TheVariants.{RolledBack}
 use Rattle.hy_undo.specs.Chunks.{ChunkData}
 use Rattle.hy_event.specs.declared.SessionData.{SessionData}
 use Rattle.hy_event.specs.declared.Open.{Open}

@@ -1,6 +1,6 @@
 -- A visit of a transaction that is undone: what it wrote in the chunk goes.
 use Rattle.std.specs.Prelude.{ℕ, suc, []}
-use Rattle.hy_render.specs.declared.Ending.{Ending}
+use Rattle.hy_bound.specs.declared.Ending.{Ending}
 use Rattle.hy_stamp.specs.Times.{id_of}
 use Rattle.hy_undo.specs.Chunks.{ChunkData, Undone, AtOwn, Everywhere}
 use Rattle.hy_event.specs.declared.SessionData.{SessionData}

@@ -3,7 +3,7 @@
 ghost use Rattle.std.specs.Prelude.{◌≡◌, [], ◌∷◌, None, Some, pos};
 ghost use Rattle.hy_bound.specs.Condition.{True};
 ghost use Rattle.hy_bound.specs.declared.Reply.{Reply};
-ghost use Rattle.hy_render.specs.declared.Ending.{Ending};
+ghost use Rattle.hy_bound.specs.declared.Ending.{Ending};
 ghost use Rattle.hy_journal.specs.declared.CoreData.{CoreData};
 ghost use Rattle.hy_stamp.specs.Times.{id_of};
 ghost use Rattle.hy_undo.specs.Chunks.{ChunkData};

@@ -7,7 +7,7 @@ use Rattle.std.specs.Option.{option_map}
 use Rattle.std.proofs.lemmas.Option.{same_Some, IfSome_then}
 use Rattle.hy_bound.specs.declared.Txn.{Txn}
 use Rattle.hy_stamp.specs.declared.Label.{Label}
-use Rattle.hy_render.specs.declared.Ending.{Ending}
+use Rattle.hy_bound.specs.declared.Ending.{Ending}
 use Rattle.hy_machine.specs.Writes.{Write}
 use Rattle.hy_machine.specs.declared.Setting.{Setting}
 use Rattle.hy_protocol.specs.declared.Phase.TheVariants.{Stamping}

@@ -6,8 +6,8 @@ use Rattle.std.specs.List.{AllByRecursion}
 use Rattle.std.specs.Option.{option_map}
 use Rattle.std.proofs.lemmas.List.{length-map}
 use Rattle.hy_stamp.specs.declared.Label.{Label}
-use Rattle.hy_render.specs.declared.Ending.{Ending}
-use Rattle.hy_render.specs.declared.Ending.TheVariants.{Committed, Read, RolledBack, Conflict, Invalid, Range, Full}
+use Rattle.hy_bound.specs.declared.Ending.{Ending}
+use Rattle.hy_bound.specs.declared.Ending.TheVariants.{Committed, Read, RolledBack, Conflict, Invalid, Range, Full}
 use Rattle.hy_render.specs.declared.TxnOutcome.{TxnOutcome}
 use Rattle.hy_render.specs.declared.Committed.{Committed as Committing}
 use Rattle.hy_render.specs.declared.Outcome.{Outcome}

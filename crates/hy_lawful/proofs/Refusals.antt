@@ -14,8 +14,8 @@ use Rattle.hy_bound.specs.Condition.{Condition}
 use Rattle.hy_bound.specs.Predicate.{truth_of}
 use Rattle.hy_value.specs.declared.change.Change.{Change}
 use Rattle.hy_stamp.specs.declared.Label.{Label}
-use Rattle.hy_render.specs.declared.Ending.{Ending}
-use Rattle.hy_render.specs.declared.Ending.TheVariants.{Committed, Read, RolledBack, Conflict, Invalid, Range, Full}
+use Rattle.hy_bound.specs.declared.Ending.{Ending}
+use Rattle.hy_bound.specs.declared.Ending.TheVariants.{Committed, Read, RolledBack, Conflict, Invalid, Range, Full}
 use Rattle.hy_machine.specs.Tables.{Entry, Cell}
 use Rattle.hy_machine.specs.Writes.{Write}
 use Rattle.hy_machine.specs.Visits.{new_cell, judged, verdict, and_write, sweep}

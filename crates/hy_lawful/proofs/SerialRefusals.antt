@@ -13,8 +13,8 @@ use Rattle.hy_bound.specs.declared.Reply.{Reply}
 use Rattle.hy_meaning.specs.Statement.{Database, rows_in}
 use Rattle.hy_meaning.specs.Serial.{Alone, alone_of}
 use Rattle.hy_stamp.specs.declared.Label.{Label}
-use Rattle.hy_render.specs.declared.Ending.{Ending}
-use Rattle.hy_render.specs.declared.Ending.TheVariants.{Committed, Read, RolledBack, Conflict, Invalid, Range, Full}
+use Rattle.hy_bound.specs.declared.Ending.{Ending}
+use Rattle.hy_bound.specs.declared.Ending.TheVariants.{Committed, Read, RolledBack, Conflict, Invalid, Range, Full}
 use Rattle.hy_render.specs.declared.TxnOutcome.{TxnOutcome}
 use Rattle.hy_machine.specs.declared.Setting.{Setting}
 use Rattle.hy_machine.specs.States.{State, Session, Begun, Finished}

@@ -10,7 +10,7 @@ use Rattle.hy_value.specs.declared.Value.{Value}
 use Rattle.hy_bound.specs.declared.WriteKind.{WriteKind}
 use Rattle.hy_bound.specs.Condition.{Condition}
 use Rattle.hy_render.specs.declared.Place.{Place}
-use Rattle.hy_render.specs.declared.Ending.{Ending}
+use Rattle.hy_bound.specs.declared.Ending.{Ending}
 use Rattle.hy_machine.specs.Writes.{Write, with_write, with_writes, place_at, written}
 use Rattle.hy_machine.specs.Positions.{item_at, by_position, by_table}
 use Rattle.hy_machine.specs.Tables.{Cell, Own}

@@ -11,7 +11,7 @@ use Rattle.hy_bound.specs.declared.Reply.{Reply}
 use Rattle.hy_bound.specs.Changes.{present}
 use Rattle.hy_bound.specs.Condition.{Condition}
 use Rattle.hy_meaning.specs.Statement.{answer_of, grouped}
-use Rattle.hy_render.specs.declared.Ending.{Ending}
+use Rattle.hy_bound.specs.declared.Ending.{Ending}
 use Rattle.hy_protocol.specs.declared.Phase.{Phase}
 use Rattle.hy_protocol.specs.Asking.{Places, InChunks, AtCore}
 use Rattle.hy_protocol.specs.Turns.{Turn}

@@ -6,8 +6,8 @@ use Rattle.hy_bound.specs.Records.{is_hit}
 use Rattle.hy_value.specs.declared.change.Change.{Change}
 use Rattle.hy_render.specs.declared.Committed.{Committed}
 use Rattle.hy_stamp.specs.declared.Label.{Label}
-use Rattle.hy_render.specs.declared.Ending.{Ending}
-use Rattle.hy_render.specs.declared.Ending.TheVariants.{Invalid}
+use Rattle.hy_bound.specs.declared.Ending.{Ending}
+use Rattle.hy_bound.specs.declared.Ending.TheVariants.{Invalid}
 use Rattle.hy_machine.specs.Tables.{Entry, Pair, Cell}
 use Rattle.hy_machine.specs.Positions.{by_place}
 

@@ -12,8 +12,8 @@ use Rattle.hy_bound.specs.Predicate.{truth_of}
 use Rattle.hy_bound.specs.Assignment.{assigned}
 use Rattle.hy_meaning.specs.Statement.{has_key_of}
 use Rattle.hy_stamp.specs.declared.Label.{Label}
-use Rattle.hy_render.specs.declared.Ending.{Ending}
-use Rattle.hy_render.specs.declared.Ending.TheVariants.{Conflict, Range}
+use Rattle.hy_bound.specs.declared.Ending.{Ending}
+use Rattle.hy_bound.specs.declared.Ending.TheVariants.{Conflict, Range}
 use Rattle.hy_protocol.specs.Asking.{Layout}
 use Rattle.hy_protocol.specs.Statements as by_statement
 use Rattle.hy_machine.specs.declared.Setting.{Setting}

@@ -1,7 +1,7 @@
 -- What closes a transaction: COMMIT, ROLLBACK, and the visits of the chunks that it wrote.
 use Rattle.std.specs.Prelude.{ℕ, suc, List, [], Bool, nat_lt, Option, None, Some, length, if◌then◌else◌}
-use Rattle.hy_render.specs.declared.Ending.{Ending}
-use Rattle.hy_render.specs.declared.Ending.TheVariants.{Committed, Read, RolledBack}
+use Rattle.hy_bound.specs.declared.Ending.{Ending}
+use Rattle.hy_bound.specs.declared.Ending.TheVariants.{Committed, Read, RolledBack}
 use Rattle.hy_protocol.specs.declared.Phase.TheVariants.{Stamping, Undoing}
 use Rattle.hy_protocol.specs.Asking.{AtCore}
 use Rattle.hy_protocol.specs.Turns.{Turn, Visits, Enters, Ends, refused, unless_blocked}

@@ -10,8 +10,8 @@ use Rattle.hy_bound.specs.declared.WriteKind.{WriteKind}
 use Rattle.hy_bound.specs.declared.WriteKind.TheVariants as kind
 use Rattle.hy_bound.specs.Records.{shape_of}
 use Rattle.hy_plan.specs.Reads.{records_of}
-use Rattle.hy_render.specs.declared.Ending.{Ending}
-use Rattle.hy_render.specs.declared.Ending.TheVariants.{Full}
+use Rattle.hy_bound.specs.declared.Ending.{Ending}
+use Rattle.hy_bound.specs.declared.Ending.TheVariants.{Full}
 use Rattle.hy_protocol.specs.declared.Phase.TheVariants.{Working}
 use Rattle.hy_protocol.specs.Asking.{Layout, Places, InChunks}
 use Rattle.hy_protocol.specs.Turns.{Turn, Visits, Answers, goes_on, refused}

@@ -8,7 +8,7 @@
 //! it has to say what becomes of the core besides.
 #![tactic(auto)]
 
-use hy_render::Ending;
+use hy_bound::Ending;
 use hy_stamp::Label;
 
 /// Where an open transaction stands. Which kind of visit comes next follows from its present statement.

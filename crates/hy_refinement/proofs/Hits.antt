@@ -6,7 +6,7 @@ use Rattle.std.proofs.lemmas.Option.{same_Some}
 use Rattle.hy_bound.specs.declared.Record.{Record}
 use Rattle.hy_bound.specs.Records.{is_hit}
 use Rattle.hy_value.specs.declared.change.Change.{Change}
-use Rattle.hy_render.specs.declared.Ending.{Ending}
+use Rattle.hy_bound.specs.declared.Ending.{Ending}
 use Rattle.hy_stamp.specs.declared.Label.{Label}
 use Rattle.hy_notes.specs.Notes.{is_change}
 use Rattle.hy_notes.specs.Telling.{TellingIsOne}

@@ -33,7 +33,7 @@ use Rattle.hy_event.specs.Turns.{Takes, answer_turn}
 use Rattle.hy_protocol.specs.Turns.{Visits as visits_here}
 use Rattle.hy_event.specs.Turns.{after_visit as visited_by, after_answer as answered_by}
 use Rattle.hy_event.specs.Inserting.{PlaceVisit, Comes, place_turn as place_turn_here}
-use Rattle.hy_render.specs.declared.Ending.TheVariants.{Full}
+use Rattle.hy_bound.specs.declared.Ending.TheVariants.{Full}
 use Rattle.hy_machine.specs.declared.Setting.{Setting}
 use Rattle.hy_machine.specs.States.{State, Open as MachineOpen}
 use Rattle.hy_protocol.specs.Turns.{Visits, Answers, goes_on, refused}

@@ -19,7 +19,7 @@ use Rattle.hy_undo.specs.Chunks.{Written}
 use Rattle.hy_undo.specs.Sweeps.{some_cell, new_cell, judged, verdict, and_new, swept, AllWritten}
 use Rattle.hy_event.specs.Changing.{changes_from}
 use Rattle.hy_event.specs.Writing.{ending_by}
-use Rattle.hy_render.specs.declared.Ending.{Ending}
+use Rattle.hy_bound.specs.declared.Ending.{Ending}
 use Rattle.hy_machine.specs.Writes.{Write}
 use Rattle.hy_protocol.specs.Statements.{kind_of}
 use Rattle.hy_machine.specs.Visits.{sweep, and_write}

@@ -1,8 +1,8 @@
 -- A visit of the core is the machine's turn: for each kind of visit.
 use Rattle.std.specs.Prelude.{◌≡◌, ℕ, ◌-◌, ◌≤◌, ◌==◌, List, false, None, Some, slice_get, drop, filter, length, map}
 use Rattle.std.specs.Option.{option_map}
-use Rattle.hy_render.specs.declared.Ending.{Ending}
-use Rattle.hy_render.specs.declared.Ending.TheVariants.{Committed}
+use Rattle.hy_bound.specs.declared.Ending.{Ending}
+use Rattle.hy_bound.specs.declared.Ending.TheVariants.{Committed}
 use Rattle.hy_stamp.specs.declared.Label.{Label}
 use Rattle.hy_stamp.specs.Times.{IsLabel}
 use Rattle.hy_validate.specs.Hits.{first_invalid}

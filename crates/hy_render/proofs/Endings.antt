@@ -4,8 +4,8 @@ use Rattle.std.proofs.lemmas.List.{append_assoc, append_cancel_left}
 use Rattle.std.specs.Fmt.{decimal}
 use Rattle.std.specs.Prelude.{codes}
 use Rattle.hy_render.specs.declared.Names.{Names}
-use Rattle.hy_render.specs.declared.Ending.{Ending}
-use Rattle.hy_render.specs.declared.Ending.TheVariants.{Committed, Read, RolledBack, Conflict, Invalid, Range, Full}
+use Rattle.hy_bound.specs.declared.Ending.{Ending}
+use Rattle.hy_bound.specs.declared.Ending.TheVariants.{Committed, Read, RolledBack, Conflict, Invalid, Range, Full}
 use Rattle.hy_render.specs.Named.{AreTelling, IsNamedEnding}
 use Rattle.hy_render.specs.Report.{line, table_name, label_name, place_name, ending_text}
 use Rattle.hy_render.proofs.Reading.{Reads, AnyText, byte, behind_first}

@@ -13,7 +13,7 @@ ghost use Rattle.hy_render.specs.Report.{order_lines, table_line, table_lines, t
 mod laws;
 mod summary;
 
-use hy_bound::{Grouped, Replies, Reply, Rows};
+use hy_bound::{Ending, Grouped, Replies, Reply, Rows};
 use hy_stamp::Label;
 use hy_value::{Change, Changes, Row, Seq, Text, print, print_row};
 use itoa::Buffer;
@@ -31,52 +31,6 @@ pub struct Names {
     pub tables: Texts,
     /// Of the sessions.
     pub sessions: Texts,
-}
-
-/// How a transaction ended.
-#[derive(Clone, Copy, Debug, PartialEq, Eq)]
-pub enum Ending {
-    /// Committed, at this rank of the commit order.
-    Committed {
-        /// The rank, from 0.
-        rank: u32,
-    },
-    /// Committed, having written no position.
-    Read,
-    /// By ROLLBACK.
-    RolledBack,
-    /// Refused at a position that another transaction wrote.
-    Conflict {
-        /// The table.
-        table: u32,
-        /// The position.
-        pos: u32,
-        /// The transaction that wrote it.
-        other: Label,
-    },
-    /// Refused by validation: a change hits what a statement read.
-    Invalid {
-        /// The table of the change.
-        table: u32,
-        /// Its position.
-        pos: u32,
-        /// The transaction whose change it is.
-        other: Label,
-        /// The number of the statement, from 1.
-        statement: u32,
-    },
-    /// Refused since a value of SET leaves 64 bits.
-    Range {
-        /// The table.
-        table: u32,
-        /// The position of the row.
-        pos: u32,
-    },
-    /// Refused since there was no room for an insert.
-    Full {
-        /// The table.
-        table: u32,
-    },
 }
 
 /// A position of a table.

@@ -7,8 +7,8 @@ ghost use Rattle.hy_bound.specs.Predicate.{column_of};
 ghost use Rattle.hy_render.specs.Summary.{is_committed, is_read, is_conflict, is_invalid, one_if, ended_so};
 ghost use Rattle.hy_render.specs.Summary.{balances, txns_line, ending_lines, total_line, end_line, summary_of};
 
-use crate::{Ending, Outcome, TxnOutcome, end_with_total, print_count, print_line, put};
-use hy_bound::{Rows, column_value};
+use crate::{Outcome, TxnOutcome, end_with_total, print_count, print_line, put};
+use hy_bound::{Ending, Rows, column_value};
 use hy_value::{Row, Value};
 use std::alloc::AllocError;
 

@@ -15,7 +15,7 @@ use Rattle.hy_bound.specs.Changes.{present}
 use Rattle.hy_bound.specs.Assignment.{assigned}
 use Rattle.hy_bound.specs.Predicate.{truth_of}
 use Rattle.hy_meaning.specs.Statement.{Table, updated_rows}
-use Rattle.hy_render.specs.declared.Ending.{Ending}
+use Rattle.hy_bound.specs.declared.Ending.{Ending}
 use Rattle.hy_machine.specs.Writes.{Write}
 use Rattle.hy_machine.specs.Tables.{Cell, covered}
 use Rattle.hy_machine.specs.Visits.{new_cell, judged, verdict, write_of, and_write, sweep}

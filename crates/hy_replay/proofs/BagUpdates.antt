@@ -20,7 +20,7 @@ use Rattle.hy_bound.specs.Changes.{present}
 use Rattle.hy_bound.specs.Predicate.{truth_of}
 use Rattle.hy_plan.specs.Reads.{records_of}
 use Rattle.hy_meaning.specs.Statement.{Table, rows_in, gathered_by, updated_rows, with_table}
-use Rattle.hy_render.specs.declared.Ending.{Ending}
+use Rattle.hy_bound.specs.declared.Ending.{Ending}
 use Rattle.hy_machine.specs.declared.Setting.{Setting}
 use Rattle.hy_machine.specs.Writes.{Write, with_writes}
 use Rattle.hy_machine.specs.Positions.{item_at}

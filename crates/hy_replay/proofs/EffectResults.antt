@@ -6,7 +6,7 @@ use Rattle.hy_bound.specs.declared.WriteKind.{WriteKind}
 use Rattle.hy_bound.specs.declared.WriteKind.TheVariants as kind
 use Rattle.hy_bound.specs.Condition.{Condition}
 use Rattle.hy_bound.specs.Records.{shape_of}
-use Rattle.hy_render.specs.declared.Ending.{Ending}
+use Rattle.hy_bound.specs.declared.Ending.{Ending}
 use Rattle.hy_machine.specs.Positions.{item_at}
 use Rattle.hy_machine.specs.Tables.{Cell, Tables}
 use Rattle.hy_machine.specs.Visits.{verdict, and_write, sweep}

@@ -4,7 +4,7 @@ use Rattle.std.proofs.Common.{get_or, refl, ap, sym, ◌∙◌, arith, append_as
 use Rattle.std.proofs.Math.ListN.{set}
 use Rattle.std.specs.List.{AllByRecursion, range_with_len}
 use Rattle.std.proofs.lemmas.List.{get_or-set_other}
-use Rattle.hy_render.specs.declared.Ending.{Ending}
+use Rattle.hy_bound.specs.declared.Ending.{Ending}
 use Rattle.hy_machine.specs.Writes.{Write, with_write, with_writes}
 use Rattle.hy_machine.specs.Positions.{item_at}
 use Rattle.hy_machine.specs.Tables.{Cell, Tables, Own, overlaid, covered, over}

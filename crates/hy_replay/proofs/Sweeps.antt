@@ -12,7 +12,7 @@ use Rattle.hy_bound.specs.declared.WriteKind.TheVariants as kind
 use Rattle.hy_bound.specs.Assignment.{value_of, set_column, assigned_to, assigned}
 use Rattle.hy_bound.specs.Condition.{Condition}
 use Rattle.hy_bound.specs.Predicate.{truth_of, truth_at}
-use Rattle.hy_render.specs.declared.Ending.{Ending}
+use Rattle.hy_bound.specs.declared.Ending.{Ending}
 use Rattle.hy_machine.specs.Writes.{Write}
 use Rattle.hy_machine.specs.Tables.{Cell}
 use Rattle.hy_machine.specs.Visits.{new_cell, judged, verdict, and_write, sweep}

@@ -5,7 +5,7 @@ use Rattle.hy_bound.specs.declared.Record.{Record}
 use Rattle.hy_bound.specs.declared.WriteKind.{WriteKind}
 use Rattle.hy_bound.specs.Condition.{Condition}
 use Rattle.hy_plan.specs.Reads.{records_of}
-use Rattle.hy_render.specs.declared.Ending.{Ending}
+use Rattle.hy_bound.specs.declared.Ending.{Ending}
 use Rattle.hy_machine.specs.declared.Setting.{Setting}
 use Rattle.hy_machine.specs.Writes.{Write, with_writes}
 use Rattle.hy_machine.specs.Tables.{Tables, Own, over, positions_in}

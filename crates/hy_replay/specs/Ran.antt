@@ -15,7 +15,7 @@ use Rattle.hy_bound.specs.Condition.{Condition}
 use Rattle.hy_bound.specs.Records.{shape_of}
 use Rattle.hy_plan.specs.Reads.{records_of}
 use Rattle.hy_meaning.specs.Statement.{answer_of, grouped}
-use Rattle.hy_render.specs.declared.Ending.{Ending}
+use Rattle.hy_bound.specs.declared.Ending.{Ending}
 use Rattle.hy_machine.specs.declared.Setting.{Setting}
 use Rattle.hy_machine.specs.Writes.{Write, blank_own, with_write, with_writes}
 use Rattle.hy_machine.specs.Positions.{item_at}

@@ -6,8 +6,8 @@ use Rattle.std.proofs.lemmas.Option.{slice_get_past}
 use Rattle.hy_bound.specs.declared.Bound.{Bound}
 use Rattle.hy_bound.specs.declared.Bound.TheVariants.{Select, Group, Insert, Update, Delete}
 use Rattle.hy_bound.specs.declared.Txn.{Txn}
-use Rattle.hy_render.specs.declared.Ending.{Ending}
-use Rattle.hy_render.specs.declared.Ending.TheVariants.{Committed, Read, RolledBack, Conflict, Invalid, Range, Full}
+use Rattle.hy_bound.specs.declared.Ending.{Ending}
+use Rattle.hy_bound.specs.declared.Ending.TheVariants.{Committed, Read, RolledBack, Conflict, Invalid, Range, Full}
 use Rattle.hy_render.specs.declared.Place.{Place}
 use Rattle.hy_render.specs.declared.TxnOutcome.{TxnOutcome}
 use Rattle.hy_render.specs.declared.Outcome.{Outcome}

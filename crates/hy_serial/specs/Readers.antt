@@ -5,7 +5,7 @@ use Rattle.std.specs.Option.{option_map}
 use Rattle.hy_bound.specs.declared.Bound.{Bound}
 use Rattle.hy_bound.specs.declared.Reply.{Reply}
 use Rattle.hy_meaning.specs.Statement.{Database, mean}
-use Rattle.hy_render.specs.declared.Ending.TheVariants.{Read, RolledBack}
+use Rattle.hy_bound.specs.declared.Ending.TheVariants.{Read, RolledBack}
 use Rattle.hy_render.specs.declared.TxnOutcome.{TxnOutcome}
 use Rattle.hy_render.specs.declared.Committed.{Committed as Entry}
 use Rattle.hy_render.specs.declared.Outcome.{Outcome}

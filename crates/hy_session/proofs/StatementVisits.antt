@@ -14,7 +14,7 @@ use Rattle.hy_bound.specs.Condition.{Condition}
 use Rattle.hy_value.specs.declared.change.Change.{Change}
 use Rattle.hy_meaning.specs.Statement.{Table}
 use Rattle.hy_plan.specs.Reads.{records_of}
-use Rattle.hy_render.specs.declared.Ending.TheVariants.{Full}
+use Rattle.hy_bound.specs.declared.Ending.TheVariants.{Full}
 use Rattle.hy_undo.specs.declared.refusal.Refusal.{Refusal}
 use Rattle.hy_undo.specs.Chunks.{ChunkData}
 use Rattle.hy_event.specs.declared.SessionData.{SessionData}

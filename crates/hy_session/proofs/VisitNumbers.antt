@@ -17,7 +17,7 @@ use Rattle.hy_event.specs.declared.Need.TheVariants.{Chunk}
 use Rattle.hy_protocol.specs.declared.Phase.TheVariants.{Stamping, Undoing}
 use Rattle.hy_event.specs.Needs.{chunk_or_core, need_of, phase_need, written_need}
 use Rattle.hy_event.specs.Sessions.{chunks_from, chunks_in_table, lies_in, txn_at, written, written_chunks}
-use Rattle.hy_render.specs.declared.Ending.{Ending}
+use Rattle.hy_bound.specs.declared.Ending.{Ending}
 use Rattle.hy_session.specs.Limits.{HasRoomFor}
 use Rattle.hy_session.proofs.Dispatch.{session_needs}
 

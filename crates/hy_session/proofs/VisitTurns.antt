@@ -10,7 +10,7 @@ use Rattle.hy_bound.specs.declared.Reply.{Reply}
 use Rattle.hy_bound.specs.declared.Reply.TheVariants as reply
 use Rattle.hy_value.specs.declared.change.Change.{Change}
 use Rattle.hy_plan.specs.Reads.{records_of}
-use Rattle.hy_render.specs.declared.Ending.TheVariants.{Full}
+use Rattle.hy_bound.specs.declared.Ending.TheVariants.{Full}
 use Rattle.hy_undo.specs.declared.refusal.Refusal.{Refusal}
 use Rattle.hy_visit.specs.Placing.{change_at}
 use Rattle.hy_visit.specs.Writing.{counted, noted_after}

@@ -13,10 +13,9 @@ ghost use Rattle.hy_session.specs.CoreSteps.{leaves, turn_by};
 
 use crate::numbers::elements_behind;
 use crate::{OpenTransaction, Session};
-use hy_bound::{Record, Txn};
+use hy_bound::{Ending, Record, Txn};
 use hy_core::Core;
 use hy_protocol::Phase;
-use hy_render::Ending;
 use hy_stamp::Label;
 use hy_validate::{Invalid, Tree, validate_with};
 use std::alloc::{AllocError, Global};

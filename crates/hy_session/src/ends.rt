@@ -10,9 +10,9 @@ ghost use Rattle.hy_event.specs.Turns.{with_ended};
 ghost use Rattle.hy_session.specs.Entered.{is_stamping};
 
 use crate::{OpenTransaction, Session};
-use hy_bound::Bound;
+use hy_bound::{Bound, Ending};
 use hy_protocol::Phase;
-use hy_render::{Ending, Place, Places, TxnOutcome};
+use hy_render::{Place, Places, TxnOutcome};
 use hy_value::{Change, Seq};
 use std::alloc::{AllocError, Global};
 use std::mem;

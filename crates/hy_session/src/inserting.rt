@@ -2,7 +2,7 @@
 
 ghost use Rattle.std.specs.Prelude.{◌≡◌, ◌<◌, ◌≤◌, suc, true, nat_lt, if◌then◌else◌, Some, IfOk, OnErr, OnOk};
 ghost use Rattle.hy_protocol.specs.declared.Phase.{Phase};
-ghost use Rattle.hy_render.specs.declared.Ending.{Ending};
+ghost use Rattle.hy_bound.specs.declared.Ending.{Ending};
 ghost use Rattle.hy_bound.specs.declared.Bound.{Bound};
 ghost use Rattle.hy_bound.specs.Records.{shape_of};
 ghost use Rattle.hy_event.specs.Inserting.{CheckVisit, PlaceVisit, InsertVisit};
@@ -13,12 +13,11 @@ ghost use Rattle.hy_session.specs.Written.{CanInsert, HasCome};
 use crate::OpenTransaction;
 use crate::answers::{Answer, push_answer, reserve_answer, reserve_writes};
 use crate::visitors::{Present, Visitor};
-use hy_bound::{Reply, table_shape};
+use hy_bound::{Ending, Reply, table_shape};
 use hy_chunk::Chunk;
 use hy_notes::Changes;
 use hy_protocol::{Phase, Progress};
 use hy_prune::Cover;
-use hy_render::Ending;
 use hy_value::Row;
 use hy_visit::{Writer, check_visit, place_visit};
 use std::alloc::{AllocError, Global};

@@ -8,9 +8,9 @@ ghost use Rattle.hy_session.specs.Visitors.{ForVisitor};
 
 use crate::OpenTransaction;
 use crate::visitors::Visitor;
+use hy_bound::Ending;
 use hy_chunk::Chunk;
 use hy_protocol::{Phase, Progress};
-use hy_render::Ending;
 use hy_visit::{stamp_visit, undo_visit};
 
 /// A stamp visit, so many being done: the own records in the chunk get the commit time. It takes no memory.

@@ -15,10 +15,10 @@ use crate::stamping::{stamp, undo};
 use crate::visitors::{Present, Visitor};
 use crate::writing::{Write, write_rows};
 use crate::{OpenTransaction, Session};
-use hy_bound::{Bound, WriteKind};
+use hy_bound::{Bound, Ending, WriteKind};
 use hy_chunk::Chunk;
 use hy_protocol::{Phase, Progress};
-use hy_render::{Ending, TxnOutcome};
+use hy_render::TxnOutcome;
 use hy_value::Seq;
 use std::alloc::{AllocError, Global};
 

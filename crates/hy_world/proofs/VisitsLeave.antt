@@ -18,8 +18,8 @@ use Rattle.hy_value.specs.declared.change.Change.{Change}
 use Rattle.hy_journal.specs.declared.CoreData.{CoreData}
 use Rattle.hy_journal.specs.Core.{blocked_by}
 use Rattle.hy_plan.specs.declared.PlanPart.{PlanPart}
-use Rattle.hy_render.specs.declared.Ending.{Ending}
-use Rattle.hy_render.specs.declared.Ending.TheVariants.{Full, RolledBack}
+use Rattle.hy_bound.specs.declared.Ending.{Ending}
+use Rattle.hy_bound.specs.declared.Ending.TheVariants.{Full, RolledBack}
 use Rattle.hy_stamp.specs.declared.Label.{Label}
 use Rattle.hy_undo.specs.Chunks.{ChunkData}
 use Rattle.hy_undo.specs.Places.{Place}

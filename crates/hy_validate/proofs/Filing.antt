@@ -1,17 +1,21 @@
 -- Records in groups when one more comes.
 use Rattle.std.proofs.Common.{◌≡◌, ◌⊎◌, ℕ, ◌+◌, ◌<◌, ◌≤◌, List, [], ◌∷◌, ◌++◌, length, get_or, set, sym, ap, ◌∙◌, inl, inr, arith, subst, length-append}
-use Rattle.std.specs.Prelude.{All, Any, Contains}
+use Rattle.std.specs.Prelude.{All, Contains}
 use Rattle.std.specs.List.Sorted.{IsStrictlyIncreasing}
 use Rattle.std.proofs.lemmas.Bool.{cases_lt}
 use Rattle.std.proofs.lemmas.List.{get_or_append_left, get_or_default}
 use Rattle.std.proofs.lemmas.List.Quantifiers.{any-set, Any-push, all_pairs_push}
-use Rattle.std.proofs.lemmas.List.Elements.{All-set, Contains-append_left, Contains-append_right}
+use Rattle.std.proofs.lemmas.List.Elements.{All-push, All-set, Contains-append_left, Contains-push}
 use Rattle.std.proofs.Math.Seq.{get_or-append_seam}
 use Rattle.hy_bound.specs.declared.Record.{Record}
 use Rattle.hy_bound.specs.Condition.{Condition}
 use Rattle.hy_validate.specs.declared.groups.Group.{Group}
 use Rattle.hy_validate.specs.FirstConditions.{first_condition_of}
-use Rattle.hy_validate.specs.Groups.{IsOf, IsFiled, IsGrouped}
+use Rattle.hy_validate.specs.declared.keys.Key.{Key}
+use Rattle.hy_validate.specs.declared.keys.KeyedRecords.{KeyedRecords}
+use Rattle.hy_validate.specs.Groups.{IsOf, IsFiled, IsGrouped, IsIn, IsTakenIn}
+use Rattle.hy_validate.specs.Keys.{keyed, IsKeyOf, AreOfKeys, IsMasked, HasNumber}
+use Rattle.hy_validate.specs.Filed.{AreFiled}
 use Rattle.hy_validate.proofs.Replaced.{all_and_last, pairs_with, any_and_last, any_with}
 
 -- numbers ascend when a higher one comes behind them
@@ -80,48 +84,76 @@ filed_alone records n logged group within is h numbers =
 abbrev Apart : Group → Group → Type 0
 Apart group other = IsOf group.table group.first.now other → ⊥
 
-only : (n k : ℕ) → n ≡ k → Contains (n ∷ []) k
-only n k e = (0, omega arith, e)
-
 -- a group that gets one more record
 pub one_in_its_group : (records : List Record) (n : ℕ) (logged : Record) (groups : List Group) (at : ℕ) (group other : Group)
     → n < length records → get_or records n logged ≡ logged → at < length groups → get_or groups at group ≡ group
     → IsOf logged.table (first_condition_of logged.pred) group → IsOf group.table group.first.now other
-    → other.numbers.items ≡ group.numbers.items ++ n ∷ [] → IsGrouped records n groups → IsGrouped records (n + 1) (set groups at other)
+    → other.numbers.items ≡ group.numbers.items ++ n ∷ [] → IsGrouped records n groups → IsTakenIn records n groups (set groups at other)
 one_in_its_group records n logged groups at group other within is in' there h same numbers grouped =
     record {
-      filed = All-set (IsFiled records (n + 1)) groups at other
-          (filed_with records n logged group other within is h (subst (IsFiled records n) there (grouped.filed at group in')) same numbers)
-          (λ k d l. filed_further records n (get_or groups k d) (grouped.filed k d l));
-      complete = λ k l. complete k (cases_lt k n) l;
-      apart = pairs_with Apart groups at group other in' there
-          (λ z a b. a (sym same.0 ∙ b.0, sym same.1 ∙ b.1)) (λ z a b. a (b.0 ∙ same.0, b.1 ∙ same.1)) grouped.apart;
+      grouped = record {
+        filed = All-set (IsFiled records (n + 1)) groups at other
+            (filed_with records n logged group other within is h (subst (IsFiled records n) there (grouped.filed at group in')) same numbers)
+            (λ k d l. filed_further records n (get_or groups k d) (grouped.filed k d l));
+        apart = pairs_with Apart groups at group other in' there
+            (λ z a b. a (sym same.0 ∙ b.0, sym same.1 ∙ b.1)) (λ z a b. a (b.0 ∙ same.0, b.1 ∙ same.1)) grouped.apart;
+      };
+      kept = λ k. any_with (λ g. Contains g.numbers.items k) groups at group other in' there
+          (λ c. subst (λ ns. Contains ns k) (sym numbers) (Contains-append_left group.numbers.items (n ∷ []) k c));
+      taken = any-set (λ g. Contains g.numbers.items n) groups at other in'
+          (subst (λ ns. Contains ns n) (sym numbers) (Contains-push group.numbers.items n));
     }
-  where
-    complete : (k : ℕ) → (k < n) ⊎ (n ≤ k) → k < n + 1 → Any (λ g. Contains g.numbers.items k) (set groups at other)
-    complete k (inl l) _ =
-        any_with (λ g. Contains g.numbers.items k) groups at group other in' there
-        (λ c. subst (λ ns. Contains ns k) (sym numbers) (Contains-append_left group.numbers.items (n ∷ []) k c)) (grouped.complete k l)
-    complete k (inr l) m =
-        let e : n ≡ k = omega arith in
-        any-set (λ g. Contains g.numbers.items k) groups at other in'
-        (subst (λ ns. Contains ns k) (sym numbers) (Contains-append_right group.numbers.items (n ∷ []) k (only n k e)))
 
 -- a group that is new
 pub one_in_a_new_group : (records : List Record) (n : ℕ) (logged : Record) (groups : List Group) (group : Group)
     → n < length records → get_or records n logged ≡ logged → All (λ g. IsOf logged.table (first_condition_of logged.pred) g → ⊥) groups
     → IsOf logged.table (first_condition_of logged.pred) group → group.numbers.items ≡ n ∷ []
-    → IsGrouped records n groups → IsGrouped records (n + 1) (groups ++ group ∷ [])
+    → IsGrouped records n groups → IsTakenIn records n groups (groups ++ group ∷ [])
 one_in_a_new_group records n logged groups group within is none h numbers grouped =
     record {
-      filed = all_and_last (IsFiled records (n + 1)) groups group (λ k d l. filed_further records n (get_or groups k d) (grouped.filed k d l))
-          (filed_alone records n logged group within is h numbers);
-      complete = λ k l. complete k (cases_lt k n) l;
-      apart = all_pairs_push Apart groups group grouped.apart (λ k d l a. none k d l (sym a.0 ∙ h.0, sym a.1 ∙ h.1));
+      grouped = record {
+        filed = all_and_last (IsFiled records (n + 1)) groups group (λ k d l. filed_further records n (get_or groups k d) (grouped.filed k d l))
+            (filed_alone records n logged group within is h numbers);
+        apart = all_pairs_push Apart groups group grouped.apart (λ k d l a. none k d l (sym a.0 ∙ h.0, sym a.1 ∙ h.1));
+      };
+      kept = λ k. any_and_last (λ g. Contains g.numbers.items k) groups group;
+      taken = Any-push (λ g. Contains g.numbers.items n) groups group (subst (λ ns. Contains ns n) (sym numbers) (Contains-push [] n));
+    }
+
+-- groups beside which one more record comes
+pub grouped_further : (records : List Record) (n : ℕ) (groups : List Group) → IsGrouped records n groups → IsGrouped records (n + 1) groups
+grouped_further records n groups grouped =
+    record { filed = λ k d l. filed_further records n (get_or groups k d) (grouped.filed k d l); apart = grouped.apart }
+
+-- one more record is in a group
+pub filed_in_group : (records : List Record) (n : ℕ) (keyed : KeyedRecords) (old new : List Group)
+    → AreFiled records n keyed old → IsTakenIn records n old new → AreFiled records (n + 1) keyed new
+filed_in_group records n keyed old new filed taken =
+    record { keyed_are = filed.keyed_are; grouped = taken.grouped; complete = λ k l. by k l (cases_lt k n) }
+  where
+    by : (k : ℕ) → k < n + 1 → (k < n) ⊎ (n ≤ k) → HasNumber keyed.places.items k ⊎ IsIn new k
+    by k l (inl below) = elim (filed.complete k below) [ inl has ↦ inl has | inr there ↦ inr (taken.kept k there) ]
+    by k l (inr up) = let e : n ≡ k = omega arith in inr (subst (IsIn new) e taken.taken)
+
+-- one more record is under its key
+pub filed_by_key : (records : List Record) (n : ℕ) (logged : Record) (old new : KeyedRecords) (groups : List Group) (key : Key)
+    → n < length records → get_or records n logged ≡ logged → IsKeyOf logged key → IsMasked new
+    → new.places.items ≡ old.places.items ++ keyed key n ∷ [] → AreFiled records n old groups → AreFiled records (n + 1) new groups
+filed_by_key records n logged old new groups key within is of masked added filed =
+    record {
+      keyed_are = record { of_keys = subst (AreOfKeys records) (sym added) (All-push (λ place. (d : Record) → IsKeyOf (get_or records place.number d) place.key) old.places.items (keyed key n) filed.keyed_are.of_keys own); masked = masked };
+      grouped = grouped_further records n groups filed.grouped;
+      complete = λ k l. by k l (cases_lt k n);
     }
   where
-    complete : (k : ℕ) → (k < n) ⊎ (n ≤ k) → k < n + 1 → Any (λ g. Contains g.numbers.items k) (groups ++ group ∷ [])
-    complete k (inl l) _ = any_and_last (λ g. Contains g.numbers.items k) groups group (grouped.complete k l)
-    complete k (inr l) m =
+    own : (d : Record) → IsKeyOf (get_or records n d) key
+    own d = subst (λ (r : Record). IsKeyOf r key) (sym (get_or_default records n d logged within ∙ is)) of
+
+    by : (k : ℕ) → k < n + 1 → (k < n) ⊎ (n ≤ k) → HasNumber new.places.items k ⊎ IsIn groups k
+    by k l (inl below) = elim (filed.complete k below) [
+      | inl has ↦ inl (subst (λ ps. HasNumber ps k) (sym added) (any_and_last (λ p. p.number ≡ k) old.places.items (keyed key n) has))
+      | inr there ↦ inr there
+    ]
+    by k l (inr up) =
         let e : n ≡ k = omega arith in
-        Any-push (λ g. Contains g.numbers.items k) groups group (subst (λ ns. Contains ns k) (sym numbers) (only n k e))
+        inl (subst (λ ps. HasNumber ps k) (sym added) (Any-push (λ p. p.number ≡ k) old.places.items (keyed key n) e))

@@ -4,3 +4,6 @@ pub mod Least
 pub mod Earliness
 pub mod Replaced
 pub mod Filing
+pub mod KeyOrder
+pub mod Sought
+pub mod Masked

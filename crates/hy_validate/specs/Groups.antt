@@ -1,5 +1,5 @@
 -- Records in groups, by their tables and the first conditions of their restrictions.
-use Rattle.std.specs.Prelude.{◌≡◌, ℕ, ◌<◌, List, All, Any, AllPairs, Contains, slice_index_or}
+use Rattle.std.specs.Prelude.{◌≡◌, ℕ, ◌+◌, ◌<◌, List, All, Any, AllPairs, Contains, slice_index_or}
 use Rattle.std.specs.List.Sorted.{IsStrictlyIncreasing}
 use Rattle.hy_bound.specs.declared.Record.{Record}
 use Rattle.hy_bound.specs.Condition.{Condition}
@@ -21,9 +21,18 @@ pub record IsFiled (records : List Record) (upto : ℕ) (group : Group) : Type 0
   pub own : All (IsOwn records group) group.numbers.items
   pub ascends : IsStrictlyIncreasing group.numbers.items
 
--- each of the first so many records is in a group, each group has its own ones, and no two are of the same table and
--- the same first condition
+-- each group has its own ones of the first so many records, and no two are of the same table and the same first
+-- condition
 pub record IsGrouped (records : List Record) (upto : ℕ) (groups : List Group) : Type 0 where
   pub filed : All (IsFiled records upto) groups
-  pub complete : (number : ℕ) → number < upto → Any (λ group. Contains group.numbers.items number) groups
   pub apart : AllPairs (λ group other. IsOf group.table group.first.now other → ⊥) groups
+
+-- a number is in a group
+abbrev pub IsIn : List Group → ℕ → Type 0
+IsIn groups number = Any (λ group. Contains group.numbers.items number) groups
+
+-- one more record comes into a group
+pub record IsTakenIn (records : List Record) (number : ℕ) (old new : List Group) : Type 0 where
+  pub grouped : IsGrouped records (number + 1) new
+  pub kept : (other : ℕ) → IsIn old other → IsIn new other
+  pub taken : IsIn new number

@@ -1,5 +1,5 @@
 -- Which records of what was read a change hits.
-use Rattle.std.specs.Prelude.{ℕ, ◌≤◌, min, List, Bool, false, ◌&&◌, ◌||◌, ◌==◌, Option, None, Some, slice_get}
+use Rattle.std.specs.Prelude.{◌≡◌, ℕ, ◌≤◌, min, List, Bool, true, false, ◌&&◌, ◌||◌, ◌==◌, Option, None, Some, IfSome, slice_get}
 use Rattle.std.specs.Option.{option_map_or}
 use Rattle.std.specs.List.{position}
 use Rattle.hy_bound.specs.declared.Record.{Record}
@@ -25,10 +25,15 @@ is_hit_number records change number = option_map_or (is_hit_by change) (slice_ge
 abbrev pub is_asked : Change → Group → Bool
 is_asked change group = group.table == change.table && (truth_at group.first.now change.before || truth_at group.first.now change.after)
 
--- the least number of which P holds, if it holds of one
-abbrev pub IsLeast : (ℕ → Type 0) → Option ℕ → Type 0
-IsLeast P None = (number : ℕ) → P number → ⊥
-IsLeast P (Some least) = P least × ((number : ℕ) → P number → least ≤ number)
+-- a number is there, and no higher than this one
+abbrev pub IsUpTo : ℕ → Option ℕ → Type 0
+IsUpTo number None = ⊥
+IsUpTo number (Some found) = found ≤ number
+
+-- what is found is the number of a record that is hit, and no record that is hit has a lower number of which S holds
+pub record Finds (is_hit : ℕ → Bool) (S : ℕ → Type 0) (found : Option ℕ) : Type 0 where
+  pub hit : IfSome found (λ number. is_hit number ≡ true)
+  pub least : (number : ℕ) → S number → is_hit number ≡ true → IsUpTo number found
 
 -- the less of two numbers that may be there
 abbrev pub earlier_of : Option ℕ → Option ℕ → Option ℕ

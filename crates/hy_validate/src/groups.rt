@@ -1,13 +1,14 @@
 //! The groups of a predicate tree.
 
-ghost use Rattle.std.specs.Prelude.{◌≡◌, true, ◌+◌, ◌<◌, [], ◌∷◌, ◌++◌, IfOk, OnOk, IfSome, IfNone, All, Contains, length, slice_index_or};
+ghost use Rattle.std.specs.Prelude.{◌≡◌, ◌<◌, [], ◌∷◌, ◌++◌, IfOk, OnOk, IfSome, IfNone, All, Contains, length, slice_index_or};
 ghost use Rattle.std.specs.Option.{option_copied};
 ghost use Rattle.hy_bound.specs.Predicate.{truth_at};
-ghost use Rattle.hy_validate.specs.Groups.{IsGrouped, IsFiled, IsOf};
-ghost use Rattle.hy_validate.specs.TreeHits.{is_hit_by, is_hit_number, first_hit_of, is_asked, IsLeast, earlier_of};
+ghost use Rattle.hy_validate.specs.Groups.{IsGrouped, IsFiled, IsIn, IsOf, IsTakenIn};
+ghost use Rattle.hy_validate.specs.TreeHits.{is_hit_number, is_asked, Finds};
 
 use crate::conditions::{first_condition, is_same};
-use hy_bound::{Pred, Record, hits, truth};
+use crate::hits::{earlier, is_hit};
+use hy_bound::{Pred, Record, truth};
 use hy_value::{Change, Row};
 use std::alloc::{AllocError, Global};
 
@@ -76,7 +77,7 @@ pub(crate) fn file<'a>(
 ) -> Result<(), AllocError>
     requires within { number < length records.now }
     requires grouped { IsGrouped records.now number groups.old.items }
-    ensures { OnOk result (IsGrouped records.now (number + 1) groups.new.items) }
+    ensures { OnOk result (IsTakenIn records.now number groups.old.items groups.new.items) }
 {
     let logged = &records[number];
     let first = first_condition(&logged.pred);
@@ -89,7 +90,7 @@ pub(crate) fn file<'a>(
 }
 
 /// The number of a record, of which there are 2^32.
-fn as_number(index: usize) -> Result<u32, AllocError>
+pub(crate) fn as_number(index: usize) -> Result<u32, AllocError>
     ensures { IfOk result (λ number. number ≡ index) }
 {
     u32::try_from(index).map_err(|_| AllocError)
@@ -109,10 +110,10 @@ fn place_of(groups: &[Group], table: u32, first: &Pred) -> Option<usize>
     None
 }
 
-/// The number of the first record that a change hits.
+/// The number of the first record that a change hits, of those in groups.
 pub(crate) fn first_among(records: &[Record], groups: &[Group], change: &Change) -> Option<u32>
     requires { IsGrouped records.now (length records.now) groups.now }
-    ensures { result ≡ first_hit_of records.now change.now }
+    ensures { Finds (is_hit_number records.now change.now) (IsIn groups.now) result }
 {
     let mut first = None;
     for group in groups {
@@ -124,7 +125,7 @@ pub(crate) fn first_among(records: &[Record], groups: &[Group], change: &Change)
 /// The number of the first record of a group that a change hits.
 fn first_in(records: &[Record], group: &Group, change: &Change) -> Option<u32>
     requires { IsFiled records.now (length records.now) group.now }
-    ensures { IsLeast (λ number. Contains group.now.numbers.items number × (is_hit_number records.now change.now number ≡ true)) result }
+    ensures { Finds (is_hit_number records.now change.now) (Contains group.now.numbers.items) result }
 {
     if !group.may_be_hit(change) {
         return None;
@@ -135,28 +136,4 @@ fn first_in(records: &[Record], group: &Group, change: &Change) -> Option<u32>
         }
     }
     None
-}
-
-/// Whether a change hits the record of a number.
-fn is_hit(records: &[Record], number: u32, change: &Change) -> bool
-    ensures { result ≡ is_hit_number records.now change.now number }
-{
-    match records.get(number as usize) {
-        Some(logged) => {
-            logged.table == change.table
-                && hits(logged, change.before.as_ref(), change.after.as_ref())
-        }
-        None => false,
-    }
-}
-
-/// The less of two numbers that may be there.
-fn earlier(number: Option<u32>, other: Option<u32>) -> Option<u32>
-    ensures { result ≡ earlier_of number other }
-{
-    match (number, other) {
-        (Some(number), Some(other)) => Some(number.min(other)),
-        (None, other) => other,
-        (number, None) => number,
-    }
 }

@@ -8,6 +8,8 @@ ghost use Rattle.hy_validate.specs.Hits.{hit_among, first_invalid};
 
 mod conditions;
 mod groups;
+mod hits;
+mod keys;
 mod laws;
 mod tree;
 

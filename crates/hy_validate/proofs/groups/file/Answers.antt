@@ -1,9 +1,9 @@
-use Rattle.std.proofs.Common.{rules, ◌≡◌, ℕ, ◌+◌, ◌<◌, ◌∷◌, [], ◌++◌, List, length, get_or, sym, ap, ◌∙◌, arith, subst}
+use Rattle.std.proofs.Common.{rules, ◌≡◌, ℕ, ◌<◌, ◌∷◌, [], ◌++◌, List, length, get_or, sym, ap, ◌∙◌, arith, subst}
 use Rattle.std.specs.Prelude.{All}
 use Rattle.hy_bound.specs.Condition.{Condition}
 use Rattle.hy_validate.specs.declared.groups.Group.{Group}
 use Rattle.hy_validate.specs.FirstConditions.{first_condition_of}
-use Rattle.hy_validate.specs.Groups.{IsOf, IsGrouped}
+use Rattle.hy_validate.specs.Groups.{IsOf, IsTakenIn}
 use Rattle.hy_validate.proofs.Filing.{one_in_its_group, one_in_a_new_group}
 use Rattle.hy_validate.proofs.groups.file.Goals as goal
 
@@ -41,6 +41,6 @@ returns-in_ok-push-in-None c =
     subst (λ (f : Condition). IsOf logged.table f group) first c.in_ok-new-in-None.ensures.of in
     let numbers : group.numbers.items ≡ c.args.number ∷ [] = c.in_ok-new-in-None.ensures.numbers ∙ ap (λ (n : ℕ). n ∷ []) c.in_ok-number.ensures in
     let pushed : c.push.new.self.items ≡ groups ++ group ∷ [] = search rules in
-    subst (λ (gs : List Group). IsGrouped c.args.records.now (c.args.number + 1) gs) (sym pushed)
+    subst (λ (gs : List Group). IsTakenIn c.args.records.now c.args.number groups gs) (sym pushed)
     (one_in_a_new_group c.args.records.now c.args.number logged groups group c.requires.within
     (sym c.index-records-number.is) none of numbers c.requires.grouped)

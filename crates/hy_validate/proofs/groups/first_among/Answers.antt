@@ -1,8 +1,12 @@
-use Rattle.std.proofs.Common.{rules, ◌≡◌, ℕ, ◌+◌, Option, true, length, sym, arith, subst}
+use Rattle.std.proofs.Common.{rules, ◌≡◌, ◌+◌, length, sym, arith, subst}
 use Rattle.hy_validate.specs.Groups.{IsFiled}
-use Rattle.hy_validate.specs.TreeHits.{is_hit_number, IsLeast, earlier_of}
-use Rattle.hy_validate.proofs.Earliness.{InFirst, one_group_more, first_of_all}
+use Rattle.hy_validate.specs.TreeHits.{is_hit_number, Finds, earlier_of}
+use Rattle.hy_validate.proofs.Earliness.{InFirst, one_group_more, all_groups}
+use Rattle.hy_validate.proofs.Least.{finds_none}
 use Rattle.hy_validate.proofs.groups.first_among.Goals as goal
+
+pub loop-group-init : goal.loop-group-init
+loop-group-init c = finds_none (is_hit_number c.args.records.now c.args.change.now) (InFirst c.args.groups.now 0) (λ n a t. let l = a.below in absurd (omega arith))
 
 pub first_in-requires : goal.first_in-requires
 first_in-requires c =
@@ -11,16 +15,13 @@ first_in-requires c =
 
 pub loop-group-preserved : goal.loop-group-preserved
 loop-group-preserved c =
-    let passes = is_hit_number c.args.records.now c.args.change.now in
+    let is_hit = is_hit_number c.args.records.now c.args.change.now in
     let less : c.earlier-first.result ≡ earlier_of c.loop-group.first c.first_in.result = search rules in
-    subst (λ (o : Option ℕ). IsLeast (λ n. InFirst c.args.groups.now (c.loop-group.group-index + 1) n × (passes n ≡ true)) o) (sym less)
-    (one_group_more c.args.groups.now c.loop-group.group-index c.group-item.result passes c.loop-group.first c.first_in.result
-    (omega arith) (sym c.group-item.is)
-    c.loop-group.invariant c.first_in.ensures)
+    subst (Finds is_hit (InFirst c.args.groups.now (c.loop-group.group-index + 1))) (sym less)
+    (one_group_more c.args.groups.now c.loop-group.group-index c.group-item.result is_hit c.loop-group.first c.first_in.result
+    (omega arith) (sym c.group-item.is) c.loop-group.invariant c.first_in.ensures)
 
 pub returns : goal.returns
 returns c =
-    let passes = is_hit_number c.args.records.now c.args.change.now in
-    let all : c.loop-group.group-index ≡ length c.args.groups.now = omega arith in
-    first_of_all c.args.records.now c.args.groups.now c.args.change.now c.loop-group.first c.requires
-    (subst (λ (i : ℕ). IsLeast (λ n. InFirst c.args.groups.now i n × (passes n ≡ true)) c.loop-group.first) all c.loop-group.invariant)
+    all_groups c.args.groups.now (is_hit_number c.args.records.now c.args.change.now) c.loop-group.group-index c.loop-group.first
+    (omega arith) c.loop-group.invariant

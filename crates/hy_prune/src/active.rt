@@ -86,7 +86,7 @@ impl Active {
     {
         let starts = Vec::from_slice(*self.starts.allocator(), self.starts.as_slice())?;
         Ok(Cover {
-            starts: Starts::from_vec(starts),
+            starts: Starts::from_rising(starts),
             next,
         })
     }

@@ -6,8 +6,8 @@
 //! become one.
 #![tactic(auto)]
 
-ghost use Rattle.std.specs.Prelude.{◌≡◌};
-ghost use Rattle.hy_prune.specs.Fates.{group, fate_of, watermark_of};
+ghost use Rattle.std.specs.Prelude.{◌≡◌, Some};
+ghost use Rattle.hy_prune.specs.Fates.{fate_of, is_same_group, watermark_of};
 
 mod active;
 mod starts;
@@ -36,16 +36,11 @@ pub enum Fate {
     Drop,
 }
 
-/// How many starts are below a time.
-fn count_below(cover: &Cover, time: u64) -> usize
-    ensures { result ≡ group cover.now time }
+/// Whether a record of this time is of the group of a newer one that stays.
+fn is_in_group(newer: u64, time: u64, cover: &Cover) -> bool
+    ensures { result ≡ is_same_group cover.now (Some newer) time }
 {
-    cover
-        .starts
-        .as_slice()
-        .iter()
-        .filter(|start| **start < time)
-        .count()
+    newer < cover.next && cover.starts.count_below(newer) == cover.starts.count_below(time)
 }
 
 /// The fate of a record of this time, behind a record of the chain that stays and has the time `kept`, if
@@ -56,12 +51,11 @@ pub fn fate_behind(kept: Option<u64>, time: u64, cover: &Cover) -> Fate
     if cover.next <= time {
         return Fate::Keep;
     }
-    let below = count_below(cover, time);
-    if below == 0 {
+    if !cover.starts.has_below(time) {
         return Fate::Drop;
     }
     match kept {
-        Some(newer) if newer < cover.next && count_below(cover, newer) == below => Fate::Merge,
+        Some(newer) if is_in_group(newer, time, cover) => Fate::Merge,
         _ => Fate::Keep,
     }
 }

@@ -1,6 +1,8 @@
--- Pruning record by record: the one in hand, and those put aside.
-use Rattle.std.specs.Prelude.{ℕ, List, [], ◌∷◌, ◌++◌, Option, None, Some}
+-- Pruning record by record: the one in hand, those put aside, and whether all stay where they are.
+use Rattle.std.specs.Prelude.{ℕ, List, [], ◌∷◌, ◌++◌, Bool, true, false, Option, None, Some}
+use Rattle.hy_prune.specs.declared.Cover.{Cover}
 use Rattle.hy_prune.specs.declared.Fate.{Fate}
+use Rattle.hy_prune.specs.Fates.{fate_of}
 use Rattle.hy_chain.specs.Chains.{Undo}
 use Rattle.hy_chain.specs.Pruning.{alone, joined_to, by_fate}
 
@@ -21,3 +23,8 @@ aside_after fate kept aside = by_fate fate (alone kept ++ aside) aside aside
 abbrev pub put_back : {X : Type 0} → List X → List X → List X
 put_back [] chain = chain
 put_back (undo ∷ aside) chain = put_back aside (undo ∷ chain)
+
+-- whether each record stays, the first one behind one of this mark, so that nothing of the chain changes
+abbrev pub stays_whole : {D : Type 0} → Cover → Option ℕ → List (Undo D) → Bool
+stays_whole cover kept [] = true
+stays_whole cover kept (undo ∷ chain) = by_fate (fate_of cover kept undo.stamp.mark) (stays_whole cover (Some undo.stamp.mark) chain) false false

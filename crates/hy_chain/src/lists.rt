@@ -1,10 +1,12 @@
 //! Lists of undo records in one slab.
 
 ghost use Rattle.std.specs.Prelude.{◌≡◌, ◌+◌, ◌<◌, ◌≤◌, [], ◌∷◌};
-ghost use Rattle.std.specs.Prelude.{Some, IfOk, OnSome, OnOk, OnErr, length, drop, replicate, slice_index_or, slice_set};
+ghost use Rattle.std.specs.Prelude.{None, Some, IfOk, OnSome, OnOk, OnErr, length, drop, replicate, slice_index_or, slice_set};
 ghost use Rattle.hy_chain.specs.Chains.{stops};
+ghost use Rattle.hy_chain.specs.Settling.{stays_whole};
 
 use crate::Image;
+use hy_prune::{Cover, Fate, fate_behind};
 use hy_stamp::{Stamp, Viewer};
 use slab::Slab;
 use std::alloc::{AllocError, Global};
@@ -199,5 +201,27 @@ impl<D: Image> Lists<D> {
             node.image.apply(base);
             key = node.older;
         }
+    }
+
+    /// Whether pruning by a cover leaves a list as it is, since each of its records stays. It moves nothing.
+    pub fn is_pruned(&self, list: usize, cover: &Cover) -> bool
+        requires { list < length self.now.chains }
+        ensures { result ≡ stays_whole cover.now None (slice_index_or self.now.chains list []) }
+    {
+        let head = self.heads[list];
+        let mut key = head.key;
+        let mut kept = None;
+        for _passed in 0..head.len {
+            let Some(node) = self.nodes.get(key) else {
+                return true;
+            };
+            let mark = node.stamp.mark;
+            if fate_behind(kept, mark, cover) != Fate::Keep {
+                return false;
+            }
+            kept = Some(mark);
+            key = node.older;
+        }
+        true
     }
 }

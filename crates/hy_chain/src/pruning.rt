@@ -92,7 +92,8 @@ impl<D: Image> Lists<D> {
         }
     }
 
-    /// Prunes a list by a cover, by way of the list `aside`, which is empty. It takes no memory.
+    /// Prunes a list by a cover, by way of the list `aside`, which is empty. A list of which each record stays isn't
+    /// touched. It takes no memory.
     pub fn prune(&mut self, list: usize, aside: usize, cover: &Cover)
         requires within { list < length self.old.chains }
         requires aside_within { aside < length self.old.chains }
@@ -101,6 +102,9 @@ impl<D: Image> Lists<D> {
         ensures chains { self.new.chains ≡ slice_set self.old.chains list (pruned D.merged cover.now (slice_index_or self.old.chains list [])) }
         ensures room { self.old.room ≤ self.new.room }
     {
+        if self.is_pruned(list, cover) {
+            return;
+        }
         self.prune_aside(list, aside, cover);
         self.move_back(aside, list);
     }

@@ -1,11 +1,18 @@
-use Rattle.std.proofs.Common.{ℕ, [], get_or, sym, ap, ◌∙◌, inl, inr}
+use Rattle.std.proofs.Common.{ℕ, [], None, get_or, sym, ap, ◌∙◌, inl, inr}
 use Rattle.std.proofs.Math.ListN.{set}
 use Rattle.std.proofs.lemmas.Bool.{cases_eq}
-use Rattle.std.proofs.lemmas.List.{get_or-set_same, get_or-set_other, length-set}
+use Rattle.std.proofs.lemmas.List.{get_or-set_same, get_or-set_other, length-set, set-get_or}
 use Rattle.hy_chain.specs.Pruning.{pruned}
 use Rattle.hy_chain.specs.Settling.{put_back}
-use Rattle.hy_chain.proofs.Settlings.{same_lists}
+use Rattle.hy_chain.proofs.Settlings.{same_lists, unchanged}
 use Rattle.hy_chain.proofs.lists.Lists.prune.Goals as goal
+
+pub returns-then-is_pruned-clause-chains : goal.returns-then-is_pruned-clause-chains
+returns-then-is_pruned-clause-chains g c =
+    let before = c.args.self.now.chains in
+    let chain = get_or before c.args.list [] in
+    let same = unchanged g.D.Image.merged c.args.cover.now None chain (sym c.is_pruned.ensures ∙ c.if-is_pruned.true) in
+    sym (ap (set before c.args.list) same ∙ set-get_or before c.args.list [])
 
 pub returns-clause-chains : goal.returns-clause-chains
 returns-clause-chains g c =

@@ -1,5 +1,5 @@
 -- The bits of a mask that lies in words of 64.
-use Rattle.std.specs.Prelude.{◌≡◌, ◌≤◌, ◌+◌, false, ℕ, ℤ, ◌/◌, ◌%◌, List, Bool, ◌==◌, map, length, slice_index}
+use Rattle.std.specs.Prelude.{◌≡◌, ◌≤◌, ◌<◌, ◌+◌, false, ℕ, ℤ, ◌/◌, ◌%◌, List, Bool, ◌==◌, map, length, slice_index}
 use Rattle.std.specs.List.{range_with_len}
 use Rattle.std.specs.Int.{bit_at}
 use Rattle.std.specs.Ordering.{int_cmp}
@@ -22,3 +22,10 @@ bits_below count words = map (is_bit words) (range_with_len 0 count)
 pub record Lies (count : ℕ) (words : List ℕ) : Type 0 where
   pub size : length words ≡ count / 64 + 1
   pub clear : (i : ℕ) → count ≤ i → is_bit words i ≡ false
+
+-- of the bits of a word from one on, this is the lowest that is set
+pub record IsLowest (word from bit : ℕ) : Type 0 where
+  pub reached : from ≤ bit
+  pub within : bit < 64
+  pub set : bit_at word bit ≡ 1
+  pub passed : (i : ℕ) → from ≤ i → i < bit → bit_at word i ≡ 0

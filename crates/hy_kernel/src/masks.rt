@@ -1,7 +1,7 @@
 //! Masks: one bit for each of some places.
 
-ghost use Rattle.std.specs.Prelude.{◌≡◌, ◌≢◌, ℕ, ◌<◌, ◌==◌, ◌&&◌, ◌||◌, length, map, not as negated};
-ghost use Rattle.std.specs.Prelude.{false, IfOk, replicate, slice_index_or, slice_set};
+ghost use Rattle.std.specs.Prelude.{◌≡◌, ◌≢◌, ℕ, ◌<◌, ◌≤◌, ◌==◌, ◌&&◌, ◌||◌, length, map, not as negated};
+ghost use Rattle.std.specs.Prelude.{true, false, IfOk, replicate, slice_index_or, slice_set};
 ghost use lib.Lanes.{zip2};
 ghost use Rattle.std.specs.Int.{bit_at};
 ghost use Rattle.hy_kernel.specs.Bits.{compares};
@@ -74,6 +74,17 @@ impl Mask {
     {
         let words = self.words.as_mut_slice();
         words[place / 64] = with_bit(words[place / 64], place % 64, bit);
+    }
+
+    /// The first place from one on whose bit is set, or how many bits there are: 64 bits at a time.
+    pub fn next_set(&self, from: usize) -> usize
+        requires { from ≤ length self.now }
+        ensures reached { from ≤ result }
+        ensures within { result ≤ length self.now }
+        ensures passed { (place : ℕ) → from ≤ place → place < result → slice_index_or self.now place false ≡ false }
+        ensures set { result < length self.now → slice_index_or self.now result false ≡ true }
+    {
+        words::next(self.words.as_slice(), self.bits, from)
     }
 
     /// Makes each bit say whether the comparison holds of the number at its place.

@@ -2,11 +2,11 @@
 
 ghost use Rattle.std.specs.Prelude.{◌≡◌, ◌+◌, ◌-◌, ◌*◌, ◌^◌, ◌≤◌, ◌<◌, ◌&&◌, ◌||◌};
 ghost use Rattle.std.specs.Prelude.{ℕ, length, map, not as negated, nat_lt, slice_index_or};
-ghost use Rattle.std.specs.Prelude.{false, FitsSigned};
-ghost use Rattle.std.specs.Int.{w64};
+ghost use Rattle.std.specs.Prelude.{true, false, FitsSigned, IfSome, IfNone};
+ghost use Rattle.std.specs.Int.{w64, bit_at};
 ghost use Rattle.std.specs.List.{All};
 ghost use lib.Lanes.{mask_l};
-ghost use Rattle.hy_kernel.specs.Bits.{is_bit, compares};
+ghost use Rattle.hy_kernel.specs.Bits.{is_bit, compares, IsLowest, Lies};
 
 use hy_value::Cmp;
 use std::simd::prelude::*;
@@ -134,4 +134,37 @@ pub fn not(into: &mut [u64], bits: usize)
         into[k] = !into[k] & low_ones(now);
         left -= now;
     }
+}
+
+/// The lowest bit of a word that is set, of those from one on.
+fn lowest_from(word: u64, from: usize) -> Option<usize>
+    requires { from ≤ 64 }
+    ensures found { IfSome result (IsLowest word from) }
+    ensures none { IfNone result ((i : ℕ) → from ≤ i → i < 64 → bit_at word i ≡ 0) }
+{
+    let rest = word & !low_ones(from);
+    if rest == 0 {
+        None
+    } else {
+        Some(rest.trailing_zeros() as usize)
+    }
+}
+
+/// The first bit from one on that is set, or how many bits there are.
+pub fn next(words: &[u64], bits: usize, from: usize) -> usize
+    requires lies { Lies bits words.now }
+    requires within { from ≤ bits }
+    ensures reached { from ≤ result }
+    ensures within { result ≤ bits }
+    ensures passed { (i : ℕ) → from ≤ i → i < result → is_bit words.now i ≡ false }
+    ensures set { result < bits → is_bit words.now result ≡ true }
+{
+    let mut skipped = from % 64;
+    for k in from / 64..words.len() {
+        if let Some(bit) = lowest_from(words[k], skipped) {
+            return 64 * k + bit;
+        }
+        skipped = 0;
+    }
+    bits
 }

@@ -95,7 +95,8 @@ pub group_missed : (records : List Record) (upto : ℕ) (group : Group) (change 
 group_missed records upto group change filed not_asked =
     finds_none (is_hit_number records change) (Contains group.numbers.items) (λ n c t.
     let own : (d : Record) → (group.table ≡ (get_or records n d).table) × (group.first.now ≡ first_condition_of (get_or records n d).pred) =
-    λ d. subst (λ (k : ℕ). (group.table ≡ (get_or records k d).table) × (group.first.now ≡ first_condition_of (get_or records k d).pred)) c.2 (filed.own c.0 n c.1 d) in
+    λ d. subst (λ (k : ℕ). (group.table ≡ (get_or records k d).table) × (group.first.now ≡ first_condition_of (get_or records k d).pred)) c.2
+    (filed.own c.0 n c.1 d) in
     let meets = meets_first records change n group.table group.first.now own t in
     both_ways (is_asked change group) not_asked
     (and_from (group.table == change.table) _ (eq-eqb group.table change.table meets.same)

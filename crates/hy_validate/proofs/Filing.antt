@@ -141,7 +141,11 @@ pub filed_by_key : (records : List Record) (n : ℕ) (logged : Record) (old new 
     → new.places.items ≡ old.places.items ++ keyed key n ∷ [] → AreFiled records n old groups → AreFiled records (n + 1) new groups
 filed_by_key records n logged old new groups key within is of masked added filed =
     record {
-      keyed_are = record { of_keys = subst (AreOfKeys records) (sym added) (All-push (λ place. (d : Record) → IsKeyOf (get_or records place.number d) place.key) old.places.items (keyed key n) filed.keyed_are.of_keys own); masked = masked };
+      keyed_are = record {
+        of_keys = subst (AreOfKeys records) (sym added)
+            (All-push (λ place. (d : Record) → IsKeyOf (get_or records place.number d) place.key) old.places.items (keyed key n) filed.keyed_are.of_keys own);
+        masked = masked;
+      };
       grouped = grouped_further records n groups filed.grouped;
       complete = λ k l. by k l (cases_lt k n);
     }

@@ -14,7 +14,7 @@ use Rattle.hy_value.specs.Refs.{referred}
 use Rattle.hy_value.specs.TotalOrder.{values_total}
 use Rattle.hy_validate.specs.declared.keys.Key.{Key}
 use Rattle.hy_validate.specs.declared.keys.Keyed.{Keyed}
-use Rattle.hy_validate.specs.Keys.{key_cmp, keyed_cmp, HasTied}
+use Rattle.hy_validate.specs.Keys.{key_cmp, keyed_cmp, is_below, HasTied}
 use Rattle.hy_validate.specs.TreeHits.{Finds}
 use Rattle.hy_validate.proofs.Least.{finds_none}
 
@@ -56,7 +56,7 @@ lower_rank Greater Equal l h = h
 lower_rank Greater Greater l h = h
 
 -- those of lower keys stand in front
-pub keys_parted : (key : Key) (places : List Keyed) → IsSorted keyed_cmp places → IsPartitionedBy (λ (p : Keyed). is_lt (key_cmp p.key key)) places
+pub keys_parted : (key : Key) (places : List Keyed) → IsSorted keyed_cmp places → IsPartitionedBy (is_below key) places
 keys_parted key places up i j d l m h =
     lower_rank (key_cmp (get_or places i d).key key) (key_cmp (get_or places j d).key key) (keys_rise key places up i j d l m) h
 
@@ -67,18 +67,19 @@ sorted_behind n places up k d l m =
     let e : n + (k + 1) ≡ n + k + 1 = omega arith in
     let later : get_or (drop n places) (k + 1) d ≡ get_or places (n + k + 1) d = get_or-drop n places (k + 1) d ∙ ap (λ i. get_or places i d) e in
     subst (λ (p : Keyed). is_lt (keyed_cmp p (get_or (drop n places) k d)) ≡ false) (sym later)
-    (subst (λ (p : Keyed). is_lt (keyed_cmp (get_or places (n + k + 1) d) p) ≡ false) (sym (get_or-drop n places k d)) (up (n + k) d (omega arith) (omega arith)))
+    (subst (λ (p : Keyed). is_lt (keyed_cmp (get_or places (n + k + 1) d) p) ≡ false) (sym (get_or-drop n places k d))
+    (up (n + k) d (omega arith) (omega arith)))
 
 -- from where a key can begin on, its records are all there
 pub tied_behind : (key : Key) (places : List Keyed) (n number : ℕ) → n ≤ length places
-    → IsPartitionPoint (λ (p : Keyed). is_lt (key_cmp p.key key) ≡ true) (λ (p : Keyed). is_lt (key_cmp p.key key) ≡ false) places n
+    → IsPartitionPoint (λ p. is_below key p ≡ true) (λ p. is_below key p ≡ false) places n
     → HasTied key places number → HasTied key (drop n places) number
 tied_behind key places n number within point a = by (cases_lt a.0 n)
   where
     by : (a.0 < n) ⊎ (n ≤ a.0) → HasTied key (drop n places) number
     by (inl below) =
-        let less : is_lt (key_cmp (get_or places a.0 a.1).key key) ≡ true = point.0 a.0 a.1 (omega arith) below in
-        absurd (both_ways (is_lt (key_cmp a.1.key key)) (ap is_lt a.4.0) (subst (λ (p : Keyed). is_lt (key_cmp p.key key) ≡ true) a.3 less))
+        let less : is_below key (get_or places a.0 a.1) ≡ true = point.0 a.0 a.1 (omega arith) below in
+        absurd (both_ways (is_below key a.1) (ap is_lt a.4.0) (subst (λ p. is_below key p ≡ true) a.3 less))
     by (inr up) =
         let len = length-drop n places in
         let l = a.2 in
@@ -106,7 +107,7 @@ higher_rank Greater p l h g e = let f = ap ordering_index e in omega arith
 
 -- records in front that are hit by nothing, and then one of a higher key
 pub none_tied : (key : Key) (places : List Keyed) (is_hit : ℕ → Bool) (i : ℕ) → IsSorted keyed_cmp places
-    → All (λ (p : Keyed). is_lt (key_cmp p.key key) ≡ false) places → i ≤ length places
+    → All (λ p. is_below key p ≡ false) places → i ≤ length places
     → ((k : ℕ) (d : Keyed) → k < i → is_hit (get_or places k d).number ≡ false)
     → (i < length places → (d : Keyed) → is_eq (key_cmp (get_or places i d).key key) ≡ false)
     → Finds is_hit (HasTied key places) None

@@ -23,7 +23,6 @@ use Rattle.hy_validate.specs.declared.keys.Key.{Key}
 use Rattle.hy_validate.specs.declared.keys.Keyed.{Keyed}
 use Rattle.hy_validate.specs.declared.keys.KeyedRecords.{KeyedRecords}
 use Rattle.hy_validate.specs.Filed.{AreFiled, IsTree}
-use Rattle.hy_validate.specs.FirstConditions.{first_condition_of}
 use Rattle.hy_validate.specs.Keys.{IsKeyOf, sought, keyed_cmp, AreOfKeys, HasNumber, HasValue, IsTrueIn, HasTrue}
 use Rattle.hy_validate.specs.TreeHits.{is_hit_number, Finds, earlier_of}
 use Rattle.hy_validate.proofs.Earliness.{MeetsFirst, meets_first}
@@ -64,7 +63,8 @@ pub one_column_more : (is_hit : ℕ → Bool) (table column : ℕ) (row : List V
     → column_of row column ≡ value → Finds is_hit (HasBelow column table (Some row) places) first → Finds is_hit (HasValue table column value places) found
     → Finds is_hit (HasBelow (column + 1) table (Some row) places) (earlier_of first found)
 one_column_more is_hit table column row value places first found is p q =
-    finds_both is_hit (HasBelow column table (Some row) places) (HasValue table column value places) (HasBelow (column + 1) table (Some row) places) first found p q
+    finds_both is_hit (HasBelow column table (Some row) places) (HasValue table column value places) (HasBelow (column + 1) table (Some row) places)
+    first found p q
     (λ n a t. by n a (cases_lt a.1.key.column column))
   where
     by : (n : ℕ) (a : HasBelow (column + 1) table (Some row) places n) → (a.1.key.column < column) ⊎ (column ≤ a.1.key.column)
@@ -75,7 +75,8 @@ one_column_more is_hit table column row value places first found is p q =
         let at : a.1.key.column ≡ column = omega arith in
         let here : column_of row a.1.key.column ≡ value = ap (column_of row) at ∙ is in
         let tie = ties_with (column_of row a.1.key.column) (referred a.1.key.value) a.4.1.holds in
-        inr (a.0, a.1, a.2, a.3, (record { table_is = a.4.1.table_is; column_is = at; ties = ap (value_cmp (referred a.1.key.value)) (sym here) ∙ tie }, a.4.2))
+        let ties = ap (value_cmp (referred a.1.key.value)) (sym here) ∙ tie in
+        inr (a.0, a.1, a.2, a.3, (record { table_is = a.4.1.table_is; column_is = at; ties = ties }, a.4.2))
 
 -- what is found in all columns of a row is found in it
 pub all_columns : (is_hit : ℕ → Bool) (table upto : ℕ) (row : List Value) (places : List Keyed) (first : Option ℕ) → length row ≤ upto
@@ -90,15 +91,14 @@ pub in_either_row : (records : List Record) (change : Change) (places : List Key
     → Finds (is_hit_number records change) (HasTrue change.table change.after places) after
     → Finds (is_hit_number records change) (HasNumber places) (earlier_of before after)
 in_either_row records change places before after own p q =
-    finds_both (is_hit_number records change) (HasTrue change.table change.before places) (HasTrue change.table change.after places) (HasNumber places) before after p q
-    (λ n a t. by n a (meets n a t))
+    finds_both (is_hit_number records change) (HasTrue change.table change.before places) (HasTrue change.table change.after places) (HasNumber places)
+    before after p q (λ n a t. by n a (meets n a t))
   where
     meets : (n : ℕ) (a : HasNumber places n) → is_hit_number records change n ≡ true → MeetsFirst a.1.key.table (sought a.1.key) change
     meets n a t =
-        let of = subst (λ (p : Keyed). (d : Record) → (p.key.table ≡ (get_or records p.number d).table) × (sought p.key ≡ first_condition_of (get_or records p.number d).pred))
-        a.3 (λ d. (let k = own a.0 a.1 a.2 d in (k.table, k.first))) in
-        meets_first records change n a.1.key.table (sought a.1.key)
-        (subst (λ (k : ℕ). (d : Record) → (a.1.key.table ≡ (get_or records k d).table) × (sought a.1.key ≡ first_condition_of (get_or records k d).pred)) a.4 of) t
+        let at = subst (λ (p : Keyed). (d : Record) → IsKeyOf (get_or records p.number d) p.key) a.3 (own a.0 a.1 a.2) in
+        let of = subst (λ (k : ℕ). (d : Record) → IsKeyOf (get_or records k d) a.1.key) a.4 at in
+        meets_first records change n a.1.key.table (sought a.1.key) (λ d. ((of d).table, (of d).first)) t
 
     by : (n : ℕ) (a : HasNumber places n) → MeetsFirst a.1.key.table (sought a.1.key) change
         → HasTrue change.table change.before places n ⊎ HasTrue change.table change.after places n
@@ -118,12 +118,16 @@ tree_from_sort records old new groups filed same moved up =
     record {
       filed = record {
         keyed_are = record {
-          of_keys = All-permutation (λ place. (d : Record) → IsKeyOf (get_or records place.number d) place.key) old.places.items new.places.items moved filed.keyed_are.of_keys;
+          of_keys = All-permutation (λ place. (d : Record) → IsKeyOf (get_or records place.number d) place.key)
+              old.places.items new.places.items moved filed.keyed_are.of_keys;
           masked = subst (λ columns. All (λ place. has_column columns place.key.column ≡ true) new.places.items) (sym same)
               (All-permutation (λ place. has_column old.columns place.key.column ≡ true) old.places.items new.places.items moved filed.keyed_are.masked);
         };
         grouped = filed.grouped;
-        complete = λ n l. elim (filed.complete n l) [ inl has ↦ inl (number_kept old.places.items new.places.items n moved has) | inr there ↦ inr there ];
+        complete = λ n l. elim (filed.complete n l) [
+          | inl has ↦ inl (number_kept old.places.items new.places.items n moved has)
+          | inr there ↦ inr there
+        ];
       };
       sorted = up;
     }

@@ -1,6 +1,6 @@
 -- Records by what the first condition of their restrictions seeks: a value in a column of a table.
-use Rattle.std.specs.Prelude.{◌≡◌, ℕ, ◌<◌, List, All, Any, true, Option, slice_index_or}
-use Rattle.std.specs.Ordering.{nat_cmp, ordering_then}
+use Rattle.std.specs.Prelude.{◌≡◌, ℕ, ◌<◌, List, All, Any, Bool, true, Option, slice_index_or}
+use Rattle.std.specs.Ordering.{nat_cmp, ordering_then, is_lt}
 use Rattle.std.specs.declared.cmp.Ordering.{Ordering}
 use Rattle.std.specs.declared.cmp.Ordering.TheVariants.{Equal}
 use Rattle.hy_value.specs.declared.Value.{Value}
@@ -32,11 +32,16 @@ pub record IsKeyOf (logged : Record) (key : Key) : Type 0 where
 
 -- by table, column and value
 abbrev pub key_cmp : Key → Key → Ordering
-key_cmp key other = ordering_then (ordering_then (nat_cmp key.table other.table) (nat_cmp key.column other.column)) (value_cmp (referred key.value) (referred other.value))
+key_cmp key other =
+    ordering_then (ordering_then (nat_cmp key.table other.table) (nat_cmp key.column other.column)) (value_cmp (referred key.value) (referred other.value))
 
 -- by what is sought, and then by number
 abbrev pub keyed_cmp : Keyed → Keyed → Ordering
 keyed_cmp place other = ordering_then (key_cmp place.key other.key) (nat_cmp place.number other.number)
+
+-- what a record seeks comes before a key
+abbrev pub is_below : Key → Keyed → Bool
+is_below key place = is_lt (key_cmp place.key key)
 
 -- each record is of the key that it stands under
 abbrev pub AreOfKeys : List Record → List Keyed → Type 0

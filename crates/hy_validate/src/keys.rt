@@ -2,7 +2,6 @@
 
 ghost use Rattle.std.specs.Prelude.{◌≡◌, ◌<◌, ◌++◌, [], ◌∷◌, IfSome, IfNone, OnOk, All, true, false, ℕ, ◌≤◌, length};
 ghost use Rattle.std.specs.Option.{option_copied};
-ghost use Rattle.std.specs.Ordering.{is_lt};
 ghost use Rattle.std.specs.List.Sorted.{IsPartitionPoint, IsPermutation, IsSorted};
 ghost use Rattle.hy_bound.specs.Predicate.{truth_at};
 ghost use Rattle.hy_bound.specs.PredView.{viewed_side};
@@ -11,7 +10,7 @@ ghost use Rattle.hy_value.specs.Order.{value_cmp};
 ghost use Rattle.hy_value.specs.Columns.{has_column};
 ghost use Rattle.hy_value.specs.Refs.{referred};
 ghost use Rattle.hy_validate.specs.FirstConditions.{first_condition_of};
-ghost use Rattle.hy_validate.specs.Keys.{IsKeyOf, keyed, key_cmp, keyed_cmp, sought, HasTied, HasValue, HasTrue, HasNumber, AreKeyed, IsMasked};
+ghost use Rattle.hy_validate.specs.Keys.{IsKeyOf, keyed, key_cmp, keyed_cmp, is_below, HasTied, HasValue, HasTrue, HasNumber, AreKeyed, IsMasked};
 ghost use Rattle.hy_validate.specs.TreeHits.{is_hit_number, Finds};
 
 use crate::conditions::first_condition;
@@ -219,7 +218,7 @@ fn first_of_value(
 fn places_from<'a, 'b>(places: &'b [Keyed<'a>], key: &Key) -> &'b [Keyed<'a>]
     requires { IsSorted keyed_cmp places.now }
     ensures sorted { IsSorted keyed_cmp result.now }
-    ensures none_below { All (λ place. is_lt (key_cmp place.key key.now) ≡ false) result.now }
+    ensures none_below { All (λ place. is_below key.now place ≡ false) result.now }
     ensures kept { (number : ℕ) → HasTied key.now places.now number → HasTied key.now result.now number }
 {
     let (_below, others) = places.split_at(count_below(places, key));
@@ -230,7 +229,7 @@ fn places_from<'a, 'b>(places: &'b [Keyed<'a>], key: &Key) -> &'b [Keyed<'a>]
 fn count_below(places: &[Keyed], key: &Key) -> usize
     requires { IsSorted keyed_cmp places.now }
     ensures within { result ≤ length places.now }
-    ensures point { IsPartitionPoint (λ place. is_lt (key_cmp place.key key.now) ≡ true) (λ place. is_lt (key_cmp place.key key.now) ≡ false) places.now result }
+    ensures point { IsPartitionPoint (λ place. is_below key.now place ≡ true) (λ place. is_below key.now place ≡ false) places.now result }
 {
     places.partition_point(|place| compare_keys(&place.key, key).is_lt())
 }
@@ -238,7 +237,7 @@ fn count_below(places: &[Keyed], key: &Key) -> usize
 /// The number of the first record that a change hits, of those that seek this: they stand in front.
 fn first_of_key(records: &[Record], places: &[Keyed], key: &Key, change: &Change) -> Option<u32>
     requires sorted { IsSorted keyed_cmp places.now }
-    requires none_below { All (λ place. is_lt (key_cmp place.key key.now) ≡ false) places.now }
+    requires none_below { All (λ place. is_below key.now place ≡ false) places.now }
     ensures { Finds (is_hit_number records.now change.now) (HasTied key.now places.now) result }
 {
     for place in places {

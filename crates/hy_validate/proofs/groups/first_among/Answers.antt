@@ -6,7 +6,8 @@ use Rattle.hy_validate.proofs.Least.{finds_none}
 use Rattle.hy_validate.proofs.groups.first_among.Goals as goal
 
 pub loop-group-init : goal.loop-group-init
-loop-group-init c = finds_none (is_hit_number c.args.records.now c.args.change.now) (InFirst c.args.groups.now 0) (λ n a t. let l = a.below in absurd (omega arith))
+loop-group-init c =
+    finds_none (is_hit_number c.args.records.now c.args.change.now) (InFirst c.args.groups.now 0) (λ n a t. let l = a.below in absurd (omega arith))
 
 pub first_in-requires : goal.first_in-requires
 first_in-requires c =

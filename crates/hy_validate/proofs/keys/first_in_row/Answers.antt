@@ -27,7 +27,8 @@ loop-column-preserved c =
     subst (λ (o : Option (List Value)). Finds is_hit (HasBelow (column + 1) table o places) c.earlier-first.result) (sym there)
     (subst (Finds is_hit (HasBelow (column + 1) table (Some row) places)) (sym less)
     (one_column_more is_hit table column row value places c.loop-column.first c.first_of_value.result is
-    (subst (λ (o : Option (List Value)). Finds is_hit (HasBelow column table o places) c.loop-column.first) there c.loop-column.invariant) c.first_of_value.ensures))
+    (subst (λ (o : Option (List Value)). Finds is_hit (HasBelow column table o places) c.loop-column.first) there c.loop-column.invariant)
+    c.first_of_value.ensures))
 
 pub returns : goal.returns
 returns c =

@@ -20,6 +20,7 @@ returns c =
     subst (λ (gs : List Group). Finds is_hit (IsIn gs) c.first_among-in_groups.result) c.as_slice.ensures.value c.first_among-in_groups.ensures in
     finds_position (is_hit_by change) records c.earlier.result either
     (subst (Finds is_hit either) (sym less)
-    (finds_both is_hit (HasNumber places) (IsIn groups) either c.first_hit-by_key.result c.first_among-in_groups.result c.first_hit-by_key.ensures in_groups (λ n s t. s)))
+    (finds_both is_hit (HasNumber places) (IsIn groups) either c.first_hit-by_key.result c.first_among-in_groups.result c.first_hit-by_key.ensures in_groups
+    (λ n s t. s)))
     (λ n l. c.self.invariant.filed.complete n l)
     ∙ ap (λ (rs : List Record). first_hit_of rs change) c.self.view_is

@@ -93,23 +93,19 @@ ascends_with new (n ∷ ns) up = step (order_of n new.table new.pos) refl (ascen
         subst (λ (o : Ordering). Ascends (by_order o (n ∷ with_note new ns) (with_after n new.after ∷ ns) (new ∷ n ∷ ns))) (sym e) ((less, all_less new n ns less up.0), (up.0, up.1))
 
 -- what the code does, by what it knows of an index in a copy of the notes
-module _ (new : Change) (notes first second : List Change) (at : ℕ) (made : List Change) (e : first ≡ notes) (f : second ≡ notes) (count : at ≡ prefix_len (below new.table new.pos) first) where
+module _ (new : Change) (notes first second : List Change) (at : ℕ) (e : first ≡ notes) (f : second ≡ notes) (count : at ≡ prefix_len (below new.table new.pos) first) where
   here : at ≡ prefix_len (below new.table new.pos) notes
   here = count ∙ ap (prefix_len (below new.table new.pos)) e
 
-  pub put_noted : at < length second → ((d : Change) → order_of (get_or second at d) new.table new.pos ≡ Equal)
-      → ((d : Change) → made ≡ set notes at (with_after (get_or notes at d) new.after)) → made ≡ with_note new notes
-  put_noted within same items =
-      items new
-      ∙ (ap (λ (k : ℕ). set notes k (with_after (get_or notes k new) new.after)) here
+  pub put_noted : at < length second → ((d : Change) → order_of (get_or second at d) new.table new.pos ≡ Equal) → set notes at (with_after (get_or notes at new) new.after) ≡ with_note new notes
+  put_noted within same =
+      ap (λ (k : ℕ). set notes k (with_after (get_or notes k new) new.after)) here
       ∙ noted new notes new (omega (arith, within, here, ap length f))
-      (ap (λ (k : ℕ). order_of (get_or notes k new) new.table new.pos) (sym here) ∙ (ap (λ (xs : List Change). order_of (get_or xs at new) new.table new.pos) (sym f) ∙ same new)))
+      (ap (λ (k : ℕ). order_of (get_or notes k new) new.table new.pos) (sym here) ∙ (ap (λ (xs : List Change). order_of (get_or xs at new) new.table new.pos) (sym f) ∙ same new))
 
-  pub put_absent : (at < length second → (d : Change) → is_eq (order_of (get_or second at d) new.table new.pos) ≡ false)
-      → made ≡ insert notes at new → made ≡ with_note new notes
-  put_absent other items =
-      items
-      ∙ (ap (λ (k : ℕ). insert notes k new) here
+  pub put_absent : (at < length second → (d : Change) → is_eq (order_of (get_or second at d) new.table new.pos) ≡ false) → insert notes at new ≡ with_note new notes
+  put_absent other =
+      ap (λ (k : ℕ). insert notes k new) here
       ∙ absent new notes new (λ l.
       ap (λ (k : ℕ). is_eq (order_of (get_or notes k new) new.table new.pos)) (sym here)
-      ∙ (ap (λ (xs : List Change). is_eq (order_of (get_or xs at new) new.table new.pos)) (sym f) ∙ other (omega (arith, l, here, ap length f)) new)))
+      ∙ (ap (λ (xs : List Change). is_eq (order_of (get_or xs at new) new.table new.pos)) (sym f) ∙ other (omega (arith, l, here, ap length f)) new))

@@ -1,4 +1,9 @@
 pub mod Orders
 pub mod Prefixes
 pub mod Adding
+pub mod Joined
+pub mod Placing
+pub mod Edits
+pub mod Halves
+pub mod Finding
 pub mod Tells

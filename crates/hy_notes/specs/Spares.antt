@@ -6,7 +6,7 @@ use Rattle.hy_value.specs.declared.Value.{Value}
 
 -- for how many more notes there is room: each takes two rows at most
 abbrev pub rooms : ℕ → ℕ → ℕ → ℕ
-rooms capacity count spare = min (capacity - count) (spare / 2)
+rooms limit count spare = min (limit - count) (spare / 2)
 
 -- empty buffers with room for so many values
 abbrev pub AreSpare : ℕ → List (Vec Value) → Type 0

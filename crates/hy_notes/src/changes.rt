@@ -1,31 +1,30 @@
 //! The notes of a transaction.
 
-ghost use Rattle.std.specs.Prelude.{◌≡◌, ◌⊎◌, ◌+◌, ◌<◌, ◌≤◌, [], IfOk, OnOk, OnErr, IsTrue, not as negated};
-ghost use Rattle.std.specs.Prelude.{false, length, map, slice_index_or, slice_set, vec_len, vec_capacity};
-ghost use Rattle.std.specs.List.{prefix_len, insert};
-ghost use Rattle.std.specs.Ordering.{is_eq};
-ghost use Rattle.hy_value.specs.declared.change.Change.{Change};
+ghost use Rattle.std.specs.Prelude.{◌≡◌, ◌⊎◌, ◌+◌, ◌<◌, ◌≤◌, [], IfOk, OnOk, OnErr};
+ghost use Rattle.std.specs.Prelude.{length, map, option_map, slice_get, vec_len};
+ghost use Rattle.std.specs.List.{prefix_len};
 ghost use Rattle.std.specs.Option.{option_copied};
-ghost use Rattle.hy_notes.specs.Notes.{Ascends, order_of, below, with_after, with_note, place_of};
+ghost use Rattle.hy_notes.specs.Notes.{below, with_note, place_of};
 ghost use Rattle.hy_notes.specs.Spares.{AreSpare, cell_width};
 
 use crate::NotedPlace;
+use crate::blocks::{Blocks, count_below, is_noted};
 use crate::rows::kept;
 use hy_value::{Change, Changes as ChangeList, Row, Seq, Value};
 use std::alloc::{AllocError, Global};
-use std::cmp::Ordering;
 use std::marker::Model;
 
 /// The notes of a transaction, by table and then position, one for each position, and spare rows for more.
 #[derive(Drop)]
 pub struct Changes {
-    notes: Vec<Change>,
+    notes: Blocks,
     spare: Vec<Vec<Value>>,
     width: usize,
 }
 
 impl Model for Changes {
-    ghost use Rattle.std.specs.Prelude.{vec_len, vec_capacity};
+    ghost use Rattle.std.specs.Prelude.{vec_len};
+    ghost use Rattle.hy_notes.specs.Blocks.{notes_in};
     ghost use Rattle.hy_notes.specs.Noted.{Noted, noted_code};
     ghost use Rattle.hy_notes.specs.Spares.{rooms};
     ghost use Rattle.hy_notes.specs.Sound.{Sound};
@@ -35,28 +34,12 @@ impl Model for Changes {
     ghost coded = { noted_code };
 
     ghost view = { λ a. record {
-      notes = a.notes.items;
-      room = rooms (vec_capacity a.notes) (vec_len a.notes) (vec_len a.spare);
+      notes = notes_in a.notes;
+      room = rooms a.notes.limit a.notes.count (vec_len a.spare);
       width = a.width;
     } };
 
-    ghost invariant = { λ a. Sound a.notes.items a.spare.items a.width };
-}
-
-/// How a note stands to a position of a table.
-fn order(note: &Change, table: u32, pos: u32) -> Ordering
-    ensures { result ≡ order_of note.now table pos }
-{
-    note.table.cmp(&table).then(note.pos.cmp(&pos))
-}
-
-/// How many notes are of positions before this one.
-fn count_below(notes: &[Change], table: u32, pos: u32) -> usize
-    requires { Ascends notes.now }
-    ensures count { result ≡ prefix_len (below table pos) notes.now }
-    ensures within { result ≤ length notes.now }
-{
-    notes.partition_point(|note| order(note, table, pos).is_lt())
+    ghost invariant = { λ a. Sound a.notes a.spare.items a.width };
 }
 
 /// So many empty buffers with room for so many values. Err is for want of memory.
@@ -86,44 +69,13 @@ fn add_rows(spare: &mut Vec<Vec<Value>>, count: usize, width: usize) -> Result<(
     Ok(())
 }
 
-/// Whether the note at an index is of this position.
-fn is_noted(notes: &[Change], at: usize, table: u32, pos: u32) -> bool
-    ensures noted { IsTrue result → at < length notes.now }
-    ensures same { IsTrue result → (d : Change) → order_of (slice_index_or notes.now at d) table pos ≡ Ordering.Equal }
-    ensures other { IsTrue (negated result) → at < length notes.now
-        → (d : Change) → is_eq (order_of (slice_index_or notes.now at d) table pos) ≡ false }
-{
-    at < notes.len() && order(&notes[at], table, pos).is_eq()
-}
-
-/// Puts another row after into the note at an index.
-fn put_after(notes: &mut Vec<Change>, at: usize, after: Option<Row>)
-    requires { at < vec_len notes.old }
-    ensures items { (d : Change) → notes.new.items ≡ slice_set notes.old.items at (with_after (slice_index_or notes.old.items at d) after) }
-    ensures capacity { vec_capacity notes.new ≡ vec_capacity notes.old }
-    ensures len { vec_len notes.new ≡ vec_len notes.old }
-{
-    notes[at].after = after;
-}
-
-/// Puts a note at an index, where there is room for it.
-fn put_note(notes: &mut Vec<Change>, at: usize, note: Change)
-    requires within { at ≤ vec_len notes.old }
-    requires room { vec_len notes.old < vec_capacity notes.old }
-    ensures items { notes.new.items ≡ insert notes.old.items at note }
-    ensures capacity { vec_capacity notes.old ≤ vec_capacity notes.new }
-    ensures len { vec_len notes.new ≡ vec_len notes.old + 1 }
-{
-    let _put = notes.insert(at, note);
-}
-
 impl Changes {
     /// No notes, and room for none. It takes no memory.
     pub fn new(alloc: Global) -> Changes
         ensures { result.notes ≡ [] }
     {
         Changes {
-            notes: Vec::new(alloc),
+            notes: Blocks::new(alloc),
             spare: Vec::new(alloc),
             width: 0,
         }
@@ -162,15 +114,16 @@ impl Changes {
         ensures room { self.old.room ≤ self.new.room + 1 }
         ensures width { self.new.width ≡ self.old.width }
     {
-        let at = count_below(self.notes.as_slice(), table, pos);
-        let noted = is_noted(self.notes.as_slice(), at, table, pos);
+        let block = self.notes.find(table, pos);
+        let at = count_below(self.notes.notes(block), table, pos);
+        let noted = is_noted(self.notes.notes(block), at, table, pos);
         let after = kept(&mut self.spare, self.width, after);
         if noted {
-            put_after(&mut self.notes, at, after);
+            self.notes.put_after(block, at, after);
         } else {
             let before = kept(&mut self.spare, self.width, before);
-            put_note(
-                &mut self.notes,
+            self.notes.put_note(
+                block,
                 at,
                 Change {
                     table,
@@ -189,11 +142,11 @@ impl Changes {
         self.notes.len()
     }
 
-    /// The notes, by table and then position.
-    pub fn notes(&self) -> &[Change]
-        ensures { result.now ≡ self.now.notes }
+    /// The first noted position that isn't before this one, by table and then position.
+    pub fn first_from(&self, table: u32, pos: u32) -> Option<NotedPlace>
+        ensures { result ≡ option_map place_of (slice_get self.now.notes (prefix_len (below table pos) self.now.notes)) }
     {
-        self.notes.as_slice()
+        self.notes.first_from(table, pos)
     }
 
     /// The notes as a list, which has no more room than they take: none are left. Err is for want of memory: the notes
@@ -205,7 +158,7 @@ impl Changes {
         ensures kept { self.old.room ≤ self.new.room }
         ensures wide { self.old.width ≤ self.new.width }
     {
-        Ok(Seq::from_vec(self.notes.split_off(0)?))
+        Ok(Seq::from_vec(self.notes.take_all()?))
     }
 
     /// Drops the notes. There is never less room.
@@ -221,13 +174,6 @@ impl Changes {
     pub fn places(&self) -> Result<Seq<NotedPlace>, AllocError>
         ensures { IfOk result (λ places. places ≡ map place_of self.now.notes) }
     {
-        let mut places = Vec::with_capacity(*self.notes.allocator(), self.notes.len())?;
-        for note in self.notes.as_slice() {
-            places.push(NotedPlace {
-                table: note.table,
-                pos: note.pos,
-            })?;
-        }
-        Ok(Seq::from_vec(places))
+        Ok(Seq::from_vec(self.notes.places()?))
     }
 }

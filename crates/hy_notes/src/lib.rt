@@ -7,6 +7,7 @@ ghost use Rattle.std.specs.Prelude.{◌≡◌, ◌<◌, ◌≤◌, ◌&&◌, ◌
 ghost use Rattle.hy_notes.specs.Notes.{Ascends, order_of, is_change, place_of};
 ghost use Rattle.hy_notes.specs.Telling.{NotesTell, TellingIsOne};
 
+mod blocks;
 mod changes;
 mod rows;
 

@@ -3,7 +3,7 @@ use Rattle.std.proofs.lemmas.List.Sorted.{IsPartitionPoint-from_clause}
 use Rattle.hy_notes.specs.Notes.{below}
 use Rattle.hy_notes.proofs.Orders.{parted}
 use Rattle.hy_notes.proofs.Prefixes.{prefix_is}
-use Rattle.hy_notes.proofs.changes.count_below.Goals as goal
+use Rattle.hy_notes.proofs.blocks.count_below.Goals as goal
 
 pub returns-clause-count : goal.returns-clause-count
 returns-clause-count c =

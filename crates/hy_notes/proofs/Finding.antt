@@ -1,14 +1,17 @@
 -- All notes, by those of the block in which a position is or belongs.
-use Rattle.std.proofs.Common.{◌≡◌, ℕ, zero, suc, ◌<◌, ◌≤◌, true, false, List, [], ◌∷◌, ◌++◌, Option, None, Some, length, get_or, drop, refl, sym, ap, ◌∙◌, inl, inr, arith, option_map, slice_get}
-use Rattle.std.specs.List.{prefix_len, AllByRecursion}
+use Rattle.std.proofs.Common.{◌≡◌, ℕ, zero, suc, ◌<◌, ◌≤◌, true, false, List, [], ◌∷◌, ◌++◌, Option, None, Some, length, get_or, drop, refl, sym, ap, ◌∙◌, inl, inr, arith, option_map, slice_get, subst}
+use Rattle.std.specs.List.{prefix_len, insert, AllByRecursion}
 use Rattle.std.specs.Global.{Vec}
-use Rattle.std.specs.Ordering.{is_lt}
+use Rattle.std.specs.Ordering.{is_lt, is_eq}
+use Rattle.std.specs.declared.cmp.Ordering.TheVariants.{Equal}
+use Rattle.std.proofs.Math.ListN.{set}
 use Rattle.std.proofs.lemmas.Bool.{cases_Bool}
 use Rattle.hy_value.specs.declared.change.Change.{Change}
 use Rattle.hy_notes.specs.declared.blocks.Blocks.{Blocks}
-use Rattle.hy_notes.specs.Notes.{below, place_of, with_note}
+use Rattle.hy_notes.specs.Notes.{order_of, below, place_of, with_after, with_note}
 use Rattle.hy_notes.specs.Blocks.{joined, notes_in, notes_at, notes_before, notes_behind, next_block, AreBefore, AreBehind, IsPlace, IsLater}
 use Rattle.hy_notes.proofs.Prefixes.{passes, fails}
+use Rattle.hy_notes.proofs.Adding.{put_noted, put_absent}
 use Rattle.hy_notes.proofs.Placing.{with_in}
 use Rattle.hy_notes.proofs.Edits.{all_at}
 
@@ -54,12 +57,32 @@ first_found b at table pos is =
     ∙ placed (found table pos (notes_at b at)) (slice_get (notes_behind b at) 0))
 
 -- the notes with one more, by those of the block in which its position is or belongs
-pub with_place : (b : Blocks) (at : Option ℕ) (new : Change) (own : List Change) → IsPlace b at new.table new.pos → own ≡ with_note new (notes_at b at)
+with_place : (b : Blocks) (at : Option ℕ) (new : Change) (own : List Change) → IsPlace b at new.table new.pos → own ≡ with_note new (notes_at b at)
     → notes_before b at ++ (own ++ notes_behind b at) ≡ with_note new (notes_in b)
 with_place b at new own is e =
     ap (λ (ns : List Change). notes_before b at ++ (ns ++ notes_behind b at)) e
     ∙ (sym (with_in new (notes_before b at) (notes_at b at) (notes_behind b at) is.before is.behind)
     ∙ ap (λ (ns : List Change). with_note new ns) (sym (all_at b at is.within)))
+
+-- what the code makes of a block, by what it knows of an index in a copy of its notes
+module _ (b : Blocks) (at : Option ℕ) (new : Change) (pos : ℕ) (same : pos ≡ new.pos) (is : IsPlace b at new.table pos) (first second : List Change) (i : ℕ)
+    (e : first ≡ notes_at b at) (f : second ≡ notes_at b at) (count : i ≡ prefix_len (below new.table pos) first) where
+  here : IsPlace b at new.table new.pos
+  here = subst (λ (n : ℕ). IsPlace b at new.table n) same is
+
+  counted : i ≡ prefix_len (below new.table new.pos) first
+  counted = count ∙ ap (λ (n : ℕ). prefix_len (below new.table n) first) same
+
+  pub noted_in : i < length second → ((d : Change) → order_of (get_or second i d) new.table pos ≡ Equal)
+      → notes_before b at ++ (set (notes_at b at) i (with_after (get_or (notes_at b at) i new) new.after) ++ notes_behind b at) ≡ with_note new (notes_in b)
+  noted_in within tied =
+      with_place b at new _ here (put_noted new (notes_at b at) first second i e f counted within (λ d. ap (λ (n : ℕ). order_of (get_or second i d) new.table n) (sym same) ∙ tied d))
+
+  pub absent_in : (i < length second → (d : Change) → is_eq (order_of (get_or second i d) new.table pos) ≡ false)
+      → notes_before b at ++ (insert (notes_at b at) i new ++ notes_behind b at) ≡ with_note new (notes_in b)
+  absent_in other =
+      with_place b at new _ here
+      (put_absent new (notes_at b at) first second i e f counted (λ l d. ap (λ (n : ℕ). is_eq (order_of (get_or second i d) new.table n)) (sym same) ∙ other l d))
 
 head_of : (ns rest : List Change) → 64 ≤ length ns → slice_get ns 0 ≡ slice_get (ns ++ rest) 0
 head_of [] rest l = absurd (omega (arith, l))

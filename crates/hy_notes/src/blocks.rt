@@ -1,7 +1,8 @@
 //! Notes in blocks: lists of bounded length, one behind the other, so that one more note moves few of them.
 
 ghost use Rattle.std.specs.Prelude.{◌≡◌, ◌++◌, ◌+◌, ◌<◌, ◌≤◌, [], IfOk, OnOk, OnErr, IfSome, IsTrue, not as negated};
-ghost use Rattle.std.specs.Prelude.{◌^◌, ◌*◌, max, None, Some, true, false, length, drop, take, map, option_map, slice_get, slice_index_or, slice_set, vec_len, vec_capacity};
+ghost use Rattle.std.specs.Prelude.{◌^◌, ◌*◌, max, None, Some, true, false, length, drop, take, map, option_map};
+ghost use Rattle.std.specs.Prelude.{slice_get, slice_index_or, slice_set, vec_len, vec_capacity};
 ghost use Rattle.std.specs.List.{AllByRecursion, prefix_len, insert};
 ghost use Rattle.std.specs.List.Sorted.{IsPartitionPoint};
 ghost use Rattle.std.specs.Ordering.{is_eq};
@@ -37,14 +38,14 @@ pub struct Blocks {
 }
 
 /// How a note stands to a position of a table.
-fn order(note: &Change, table: u32, pos: u32) -> Ordering
+fn order(note: &Change, table: u32, pos: u64) -> Ordering
     ensures { result ≡ order_of note.now table pos }
 {
-    note.table.cmp(&table).then(note.pos.cmp(&pos))
+    note.table.cmp(&table).then(u64::from(note.pos).cmp(&pos))
 }
 
 /// How many notes are of positions before this one.
-pub fn count_below(notes: &[Change], table: u32, pos: u32) -> usize
+pub fn count_below(notes: &[Change], table: u32, pos: u64) -> usize
     requires { Ascends notes.now }
     ensures count { result ≡ prefix_len (below table pos) notes.now }
     ensures within { result ≤ length notes.now }
@@ -53,7 +54,7 @@ pub fn count_below(notes: &[Change], table: u32, pos: u32) -> usize
 }
 
 /// Whether the note at an index is of this position.
-pub fn is_noted(notes: &[Change], at: usize, table: u32, pos: u32) -> bool
+pub fn is_noted(notes: &[Change], at: usize, table: u32, pos: u64) -> bool
     ensures noted { IsTrue result → at < length notes.now }
     ensures same { IsTrue result → (d : Change) → order_of (slice_index_or notes.now at d) table pos ≡ Ordering.Equal }
     ensures other { IsTrue (negated result) → at < length notes.now
@@ -63,7 +64,7 @@ pub fn is_noted(notes: &[Change], at: usize, table: u32, pos: u32) -> bool
 }
 
 /// Whether a block begins at a position or before it.
-fn begins_by(block: &Vec<Change>, table: u32, pos: u32) -> bool
+fn begins_by(block: &Vec<Change>, table: u32, pos: u64) -> bool
     ensures { result ≡ begins table pos block.now }
 {
     match block.as_slice() {
@@ -73,7 +74,7 @@ fn begins_by(block: &Vec<Change>, table: u32, pos: u32) -> bool
 }
 
 /// How many blocks begin at a position or before it.
-fn count_begun(blocks: &[Vec<Change>], table: u32, pos: u32) -> usize
+fn count_begun(blocks: &[Vec<Change>], table: u32, pos: u64) -> usize
     requires ascends { Ascends (joined blocks.now) }
     requires later { AllByRecursion IsLater blocks.now }
     ensures within { result ≤ length blocks.now }
@@ -298,7 +299,7 @@ impl Blocks {
     }
 
     /// The block in which a position is or belongs: the first, or one behind it.
-    pub fn find(&self, table: u32, pos: u32) -> Option<usize>
+    pub fn find(&self, table: u32, pos: u64) -> Option<usize>
         requires sound { AreBlocks self.now }
         requires ascends { Ascends (notes_in self.now) }
         ensures { IsPlace self.now result table pos }
@@ -483,7 +484,7 @@ impl Blocks {
     }
 
     /// The first noted position that isn't before this one.
-    pub fn first_from(&self, table: u32, pos: u32) -> Option<NotedPlace>
+    pub fn first_from(&self, table: u32, pos: u64) -> Option<NotedPlace>
         requires sound { AreBlocks self.now }
         requires ascends { Ascends (notes_in self.now) }
         ensures { result ≡ option_map place_of (slice_get (notes_in self.now) (prefix_len (below table pos) (notes_in self.now))) }

@@ -114,9 +114,10 @@ impl Changes {
         ensures room { self.old.room ≤ self.new.room + 1 }
         ensures width { self.new.width ≡ self.old.width }
     {
-        let block = self.notes.find(table, pos);
-        let at = count_below(self.notes.notes(block), table, pos);
-        let noted = is_noted(self.notes.notes(block), at, table, pos);
+        let place = u64::from(pos);
+        let block = self.notes.find(table, place);
+        let at = count_below(self.notes.notes(block), table, place);
+        let noted = is_noted(self.notes.notes(block), at, table, place);
         let after = kept(&mut self.spare, self.width, after);
         if noted {
             self.notes.put_after(block, at, after);
@@ -143,7 +144,7 @@ impl Changes {
     }
 
     /// The first noted position that isn't before this one, by table and then position.
-    pub fn first_from(&self, table: u32, pos: u32) -> Option<NotedPlace>
+    pub fn first_from(&self, table: u32, pos: u64) -> Option<NotedPlace>
         ensures { result ≡ option_map place_of (slice_get self.now.notes (prefix_len (below table pos) self.now.notes)) }
     {
         self.notes.first_from(table, pos)

@@ -16,7 +16,7 @@ use Rattle.hy_bound.specs.Projection.{projected}
 use Rattle.hy_plan.specs.Reads.{by_key_of, is_read_of, key_is_value, most_keys}
 use Rattle.hy_undo.specs.Places.{Place, Cell, sees}
 use Rattle.hy_chunk.specs.Fields.{nth}
-use Rattle.hy_chunk.specs.Gathering.{Asks, AsksKey, AsksOneOf, conditions_of, kept_by}
+use Rattle.hy_chunk.specs.Gathering.{Asks, AsksOneOf, conditions_of, kept_by}
 use Rattle.hy_chunk.specs.declared.gathering.Keys.{Keys}
 use Rattle.hy_chunk.specs.Keyed.{AreFound}
 use Rattle.hy_chunk.proofs.Gathers.{few_looked_up, not_looked_up}
@@ -57,12 +57,6 @@ left_asks pred left right column value is asks =
 pub right_asks : (pred left right : Condition) (column : ℕ) (value : Value) → And left right ≡ pred → Asks right column value → Asks pred column value
 right_asks pred left right column value is asks =
     subst (λ (p : Condition). Asks p column value) is (λ row e. asks row (both_true (sense_of left row) (sense_of right row) e).1)
-
--- of the key
-pub key_asks : (pred : Condition) (key : Option ℕ) (column : ℕ) (asked : Option Value) → key ≡ Some column
-    → IfSome asked (λ value. Asks pred column value) → AsksKey pred key asked
-key_asks pred key column None is asks = subst (λ (k : Option ℕ). AsksKey pred k None) (sym is) tt
-key_asks pred key column (Some value) is asks = subst (λ (k : Option ℕ). AsksKey pred k (Some value)) (sym is) asks
 
 -- where a value is asked, one of some conditions asks it
 pub read_is_true : (pred : Condition) (key : ℕ) (values : List Value) (row : List Value) → is_read_of (by_key_of pred key values) row ≡ true

@@ -11,13 +11,12 @@ use Rattle.hy_index.specs.declared.IndexEntry.{IndexEntry}
 use Rattle.hy_index.specs.Entries.{entry, has_key}
 use Rattle.hy_index.specs.Indexed.{Indexed}
 use Rattle.hy_index.specs.Members.{FindsKeys}
-use Rattle.hy_index.specs.Nexts.{IsLeast}
 use Rattle.hy_stamp.specs.declared.Viewer.{Viewer}
 use Rattle.hy_bound.specs.Predicate.{column_of}
 use Rattle.hy_undo.specs.Images.{Image}
 use Rattle.hy_undo.specs.Places.{Place, sees}
 use Rattle.hy_chunk.specs.Fields.{nth}
-use Rattle.hy_chunk.specs.Keyed.{AreFound, HasKeys, IsIndexed, NoneBetween, SpareKeys, is_key_of}
+use Rattle.hy_chunk.specs.Keyed.{AreFound, HasKeys, HaveUsed, IsIndexed, SpareKeys, is_key_of}
 use Rattle.hy_chunk.specs.Sound.{Sound}
 use Rattle.hy_chunk.proofs.Places.{Fields, at, all, length_all, nth_is, within_rows}
 use Rattle.hy_chunk.proofs.Spared.{seen_entry}
@@ -54,39 +53,29 @@ module _ (f : Fields) (kinds : List Kind) (spare : List Image) (seen_places : Li
     | inr past ↦ absurd (both_ways (get_or f.used place false) (get_or_past f.used place false past) u)
   ]
 
-  -- the entry of a row that is seen
-  has_entry : (viewer : Viewer) (place : ℕ) (row : List Value) (value : Value) → place < length seen_places
-      → sees viewer (nth seen_places place) ≡ Some row → column_of row column ≡ value → Contains index.entries (entry value place)
-  has_entry viewer place row value l sees_row same =
+  -- a row that is seen is at a used position, with the key in place there
+  pub stays : (viewer : Viewer) (place : ℕ) (row : List Value) → place < length seen_places → sees viewer (nth seen_places place) ≡ Some row
+      → ((nth seen_places place).used ≡ true) × (column_of row column ≡ column_of (nth seen_places place).version.row column)
+  stays viewer place row l sees_row =
       let there : nth seen_places place ≡ at f place = nth_is f seen_places place view l in
       let seen = seen_entry column viewer (at f place) row (spares place) (s.each place (within_rows f seen_places place view l)).unused
       (ap (sees viewer) (sym there) ∙ sees_row) in
-      (keys.exact (entry value place)).1 (seen.0, sym same ∙ seen.1)
+      (ap (λ (p : Place). p.used) there ∙ seen.0, seen.1 ∙ ap (λ (p : Place). column_of p.version.row column) (sym there))
 
   module _ (finds : FindsKeys) (value : Value) (found : List IndexEntry) (is : found ≡ filter (has_key value) index.entries) where
     pub found_within : AllByRecursion (λ (e : IndexEntry). e.pos < length seen_places) found
     found_within = each_by (λ (e : IndexEntry). e.pos < length seen_places) found (λ e c.
         within e.pos ((keys.exact e).0 ((finds value e index.entries).0 (subst (λ (es : List IndexEntry). Contains es e) is c)).0).0)
 
-    pub found_all : AreFound column value seen_places (map (λ (e : IndexEntry). e.pos) found)
-    found_all viewer place row l sees_row same =
-        let here : Contains index.entries (entry value place) = has_entry viewer place row value l sees_row same in
+    pub found_used : HaveUsed column value seen_places (map (λ (e : IndexEntry). e.pos) found)
+    found_used place l used same =
+        let there : nth seen_places place ≡ at f place = nth_is f seen_places place view l in
+        let here : Contains index.entries (entry value place) = (keys.exact (entry value place)).1
+        (sym (ap (λ (p : Place). p.used) there) ∙ used, sym same ∙ ap (λ (p : Place). column_of p.version.row column) there) in
         contains_map (λ (e : IndexEntry). e.pos) found (entry value place)
         (subst (λ (es : List IndexEntry). Contains es (entry value place)) (sym is) ((finds value (entry value place) index.entries).1 (here, refl)))
 
-  -- the next position with a key
-  module _ (value : Value) (from : ℕ) where
-    pub next_within : (next : ℕ) → IsLeast index.entries value from next → next < length seen_places
-    next_within next least = within next ((keys.exact (entry value next)).0 least.there).0
-
-    pub passes_to : (next : ℕ) → IsLeast index.entries value from next → NoneBetween column value seen_places from next
-    passes_to next least viewer place row low l sees_row same =
-        let inside = next_within next least in
-        let less = least.least place (has_entry viewer place row value (omega (arith, l, inside)) sees_row same) low in
-        absurd (omega (arith, less, l))
-
-    pub passes_all : (end : ℕ) → end ≡ length seen_places → ((pos : ℕ) → Contains index.entries (entry value pos) → pos < from)
-        → NoneBetween column value seen_places from end
-    passes_all end all none viewer place row low l sees_row same =
-        let less = none place (has_entry viewer place row value (omega (arith, l, all)) sees_row same) in
-        absurd (omega (arith, less, low))
+    pub found_all : AreFound column value seen_places (map (λ (e : IndexEntry). e.pos) found)
+    found_all viewer place row l sees_row same =
+        let here = stays viewer place row l sees_row in
+        found_used place l here.0 (sym here.1 ∙ same)

@@ -16,7 +16,7 @@ pub record FoundFor (column : ℕ) (values : List Value) (places : List Place) (
   pub all : (j : ℕ) → j < count → AreFound column (get_or values j Null) places found
   pub within : (place : ℕ) → Contains found place → place < length places
 
-entries_within : (n : ℕ) (entries : List IndexEntry) (place : ℕ) → AllByRecursion (λ (e : IndexEntry). e.pos < n) entries
+pub entries_within : (n : ℕ) (entries : List IndexEntry) (place : ℕ) → AllByRecursion (λ (e : IndexEntry). e.pos < n) entries
     → Contains (map (λ (e : IndexEntry). e.pos) entries) place → place < n
 entries_within n entries place all c = at entries all c.0 c.1 c.2
   where

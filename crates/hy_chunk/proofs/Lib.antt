@@ -26,3 +26,5 @@ pub mod Asking
 pub mod FoundEach
 pub mod Masking
 pub mod Placing
+pub mod Candidates
+pub mod SweepSteps

@@ -234,7 +234,7 @@ conjunct_holds (d ∷ conditions) row c e (zero, l, is) =
 conjunct_holds (d ∷ conditions) row c e (suc k, l, is) =
     conjunct_holds conditions row c (and_parts (truth_of d row) (list_all (λ x. truth_of x row) conditions) e).1 (k, omega (arith, l), is)
 
-barred_pred : (pred : Condition) (place : Place) → BarsRow (conjuncts pred) place → truth_of pred place.version.row ≡ false
+pub barred_pred : (pred : Condition) (place : Place) → BarsRow (conjuncts pred) place → truth_of pred place.version.row ≡ false
 barred_pred pred place bars = false_from_ne_true (truth_of pred place.version.row) (λ e.
     both_ways (truth_of bars.pred place.version.row) bars.barred
     (conjunct_holds (conjuncts pred) place.version.row bars.pred (conjuncts_truth pred place.version.row ∙ e) bars.among))

@@ -10,7 +10,7 @@ use Rattle.hy_stamp.specs.declared.Label.{Label}
 use Rattle.hy_stamp.specs.declared.Viewer.{Viewer}
 use Rattle.hy_bound.specs.Condition.{Condition}
 use Rattle.hy_bound.specs.declared.Assign.{Assign}
-use Rattle.hy_bound.specs.Predicate.{truth_at, truth_of}
+use Rattle.hy_bound.specs.Predicate.{truth_at}
 use Rattle.hy_value.specs.declared.change.Change.{Change}
 use Rattle.hy_chain.specs.Chains.{Undo, rival, seen, stops}
 use Rattle.hy_undo.specs.declared.refusal.Refusal.{Refusal}
@@ -20,21 +20,13 @@ use Rattle.hy_undo.specs.Places.{Place, Cell, sees, cell_of}
 use Rattle.hy_undo.specs.Chunks.{Written}
 use Rattle.hy_undo.specs.Sweeps.{verdict, judged, new_cell, and_new, swept, AllWritten}
 use Rattle.hy_chunk.specs.Fields.{nth, blank_with}
-use Rattle.hy_chunk.specs.Gathering.{AsksKey}
-use Rattle.hy_chunk.specs.Keyed.{PassesOver}
 use Rattle.std.specs.List.{AllByRecursion}
-use Rattle.std.proofs.lemmas.Bool.{cases_eq, cases_lt, false_from_ne_true}
+use Rattle.std.proofs.lemmas.Bool.{cases_eq, cases_lt}
 use Rattle.std.proofs.Common.{inl, inr}
 use Rattle.hy_value.specs.declared.Kind.{Kind}
 use Rattle.hy_bound.specs.declared.WriteKind.{WriteKind}
 use Rattle.hy_bound.specs.declared.WriteKind.TheVariants.{Set, Delete}
 use Rattle.hy_chunk.specs.Writes.{FitsSets, FitsWrite, SetColumns, judged_at, refusal_in, WrittenAs, all_noted, IsDone}
-
--- a refusal here is the first one
-refused_here : (v : Result (Option Cell) Refusal) (rest : Result (List (Option Cell)) Refusal) (refusal : Refusal) → Some refusal ≡ refusal_in v
-    → Some refusal ≡ refusal_in (and_new v rest)
-refused_here (Ok cell) rest refusal e = absurd (cc)
-refused_here (Err other) rest refusal e = e
 
 not_here : (v : Result (Option Cell) Refusal) (rest : Result (List (Option Cell)) Refusal) → None ≡ refusal_in v → refusal_in (and_new v rest) ≡ refusal_in rest
 not_here (Ok cell) (Ok cells) e = refl
@@ -52,13 +44,6 @@ module _ (sets : Option (List Assign)) (pred : Condition) (viewer : Viewer) (fir
 
   next_number : (count : ℕ) → suc (first + count) ≡ first + (count + 1)
   next_number count = let e : ◌≡◌ {A = ℕ} (suc (first + count)) (first + (count + 1)) = omega arith in e
-
-  pub refused_at : (count : ℕ) (refusal : Refusal) → count < length places
-      → Some refusal ≡ refusal_in (judged_at sets pred viewer (first + count) (nth places count))
-      → Some refusal ≡ from count
-  refused_at count refusal l e =
-      refused_here (judged_at sets pred viewer (first + count) (nth places count))
-      (swept sets pred viewer (suc (first + count)) (drop (count + 1) places)) refusal e ∙ sym (step count l)
 
   pub goes_on : (count : ℕ) → count < length places → None ≡ refusal_in (judged_at sets pred viewer (first + count) (nth places count))
       → from (count + 1) ≡ from count
@@ -88,7 +73,7 @@ sees_in_place viewer version (undo ∷ rest) e =
     ] e
 
 -- what is judged of a version
-no_row : (sets : Option (List Assign)) (pred : Condition) (pos : ℕ) (other : Option Label) (cell : Cell) → truth_at pred cell ≡ false
+pub no_row : (sets : Option (List Assign)) (pred : Condition) (pos : ℕ) (other : Option Label) (cell : Cell) → truth_at pred cell ≡ false
     → verdict sets pred pos other cell ≡ Ok None
 no_row sets pred pos other None e = refl
 no_row sets pred pos other (Some row) e = ap (λ (b : Bool). cond b (judged pos other (new_cell sets row)) (Ok None)) e
@@ -236,23 +221,6 @@ module _ (sets : Option (List Assign)) (pred : Condition) (viewer : Viewer) (tab
     counted = unfolds (λ r ps. counted_of r)
         ∙ (ap (λ (v : Result (Option Cell) Refusal). counted_of (and_new v (left (suc (first + count))))) some
         ∙ (counted_some cell (left (suc (first + count))) both.1 ∙ ap (λ (n : ℕ). 1 + counted_of (left n)) after))
-
--- a position that a sweep passes over, since it looks for a key that no row has that is seen there
-pub passed : (sets : Option (List Assign)) (pred : Condition) (viewer : Viewer) (pos : ℕ) (key : Option ℕ) (asked : Option Value) (places now : List Place)
-    (from next place : ℕ) → AsksKey pred key asked → PassesOver key asked now from next → from ≤ place → place < next → nth now place ≡ nth places place
-    → judged_at sets pred viewer pos (nth places place) ≡ Ok None
-passed sets pred viewer pos None asked places now from next place asks over low l same = absurd (omega (arith, over, low, l))
-passed sets pred viewer pos (Some key) None places now from next place asks over low l same = absurd (omega (arith, over, low, l))
-passed sets pred viewer pos (Some key) (Some value) places now from next place asks over low l same =
-    by (sees viewer (nth places place)) refl
-  where
-    other : Option Label
-    other = rival viewer (nth places place).chain
-
-    by : (cell : Cell) → sees viewer (nth places place) ≡ cell → verdict sets pred pos other cell ≡ Ok None
-    by None is = refl
-    by (Some row) is = no_row sets pred pos other (Some row) (false_from_ne_true (truth_of pred row) (λ yes.
-        over viewer place row low l (ap (sees viewer) same ∙ is) (asks row yes)))
 
 module _ (sets : Option (List Assign)) (pred : Condition) (viewer : Viewer) (first : ℕ) (places : List Place) (from next : ℕ) (le : from ≤ next)
     (within : next ≤ length places)

@@ -1,5 +1,5 @@
 -- What is gathered of what a viewer sees.
-use Rattle.std.specs.Prelude.{◌≡◌, ◌<◌, ◌≤◌, ℕ, true, Contains, length, List, [], ◌∷◌, Option, None, Some, map, filter, if◌then◌else◌}
+use Rattle.std.specs.Prelude.{◌≡◌, ◌<◌, ℕ, true, Contains, length, List, [], ◌∷◌, Option, None, Some, map, filter, if◌then◌else◌}
 use Rattle.std.specs.List.{flat_map}
 use Rattle.hy_value.specs.declared.Value.{Value}
 use Rattle.hy_value.specs.declared.ColMask.{ColMask}
@@ -12,7 +12,6 @@ use Rattle.hy_undo.specs.Places.{Cell, Place, sees}
 use Rattle.hy_stamp.specs.declared.Viewer.{Viewer}
 use Rattle.std.specs.List.Sorted.{IsStrictlyIncreasing}
 use Rattle.hy_chunk.specs.Fields.{nth}
-use Rattle.hy_chunk.specs.Keyed.{PassesOver}
 use Rattle.hy_chunk.specs.declared.gathering.Keys.{Keys}
 
 -- of a row that is there and selected, its values in a set of columns
@@ -50,18 +49,6 @@ GathersRead = (columns : ColMask) (conditions : List Condition) (cells : List Ce
 -- a condition is true only of rows with this value in a column
 abbrev pub Asks : Condition → ℕ → Value → Type 0
 Asks pred column value = (row : List Value) → truth_of pred row ≡ true → column_of row column ≡ value
-
--- so it is of the key, where there is one and a value is asked of it
-abbrev pub AsksKey : Condition → Option ℕ → Option Value → Type 0
-AsksKey pred None asked = Unit {0}
-AsksKey pred (Some key) None = Unit {0}
-AsksKey pred (Some key) (Some value) = Asks pred key value
-
--- a sweep for the rows that a condition selects may begin at this position: the condition asks this of the key, and no row in front that is seen has it
-pub record Begins (pred : Condition) (key : Option ℕ) (asked : Option Value) (places : List Place) (first : ℕ) : Type 0 where
-  pub asks : AsksKey pred key asked
-  pub passed : PassesOver key asked places 0 first
-  pub within : first ≤ length places
 
 -- one of some conditions is true only of rows with one of these values in a column
 abbrev pub AsksOneOf : List Condition → ℕ → List Value → Type 0

@@ -49,13 +49,13 @@ AreFound key value places found =
     (viewer : Viewer) (place : ℕ) (row : List Value) → place < length places → sees viewer (nth places place) ≡ Some row → column_of row key ≡ value
     → Contains found place
 
--- no row that a viewer sees from one position up to another has this key
-abbrev pub NoneBetween : ℕ → Value → List Place → ℕ → ℕ → Type 0
-NoneBetween key value places from next =
-    (viewer : Viewer) (place : ℕ) (row : List Value) → from ≤ place → place < next → sees viewer (nth places place) ≡ Some row → column_of row key ≡ value → ⊥
+-- each used position with this key in place is one of these
+abbrev pub HaveUsed : ℕ → Value → List Place → List ℕ → Type 0
+HaveUsed key value places found =
+    (place : ℕ) → place < length places → (nth places place).used ≡ true → column_of (nth places place).version.row key ≡ value → Contains found place
 
--- so it is where a key is asked; else no position is passed over
-abbrev pub PassesOver : Option ℕ → Option Value → List Place → ℕ → ℕ → Type 0
-PassesOver None asked places from next = next ≡ from
-PassesOver (Some key) None places from next = next ≡ from
-PassesOver (Some key) (Some value) places from next = NoneBetween key value places from next
+-- a row that a viewer sees is at a used position, and has the key that is in place there
+abbrev pub KeysStay : Option ℕ → List Place → Type 0
+KeysStay key places =
+    (column : ℕ) (viewer : Viewer) (place : ℕ) (row : List Value) → key ≡ Some column → place < length places → sees viewer (nth places place) ≡ Some row
+    → ((nth places place).used ≡ true) × (column_of row column ≡ column_of (nth places place).version.row column)

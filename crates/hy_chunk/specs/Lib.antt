@@ -9,5 +9,6 @@ pub mod Steps
 pub mod Whole
 pub mod Gathering
 pub mod Writes
+pub mod Candidates
 pub mod Masked
 pub mod Parts

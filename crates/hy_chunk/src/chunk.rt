@@ -14,7 +14,8 @@ ghost use Rattle.hy_undo.specs.Places.{cell_of, in_place, sees};
 ghost use Rattle.hy_undo.specs.Chunks.{rows_seen, Placed, Everywhere, AtOwn, StampedPlace, Undone, Pruned};
 ghost use Rattle.hy_chunk.specs.Fields.{blank_place, nth};
 ghost use Rattle.hy_plan.specs.Reads.{by_key_of};
-ghost use Rattle.hy_chunk.specs.Gathering.{AreEnough, Begins, conditions_of, gathered_by, gathered_of, kept_by};
+ghost use Rattle.hy_chunk.specs.Candidates.{AreCandidates};
+ghost use Rattle.hy_chunk.specs.Gathering.{AreEnough, conditions_of, gathered_by, gathered_of, kept_by};
 ghost use Rattle.hy_chunk.specs.Keyed.{is_key_of};
 ghost use Rattle.hy_chunk.specs.Masked.{Admits, Confirms};
 ghost use Rattle.hy_chunk.specs.Parts.{part_of};
@@ -30,10 +31,9 @@ ghost use Rattle.hy_value.specs.declared.Cmp.{Cmp};
 ghost use Rattle.hy_bound.specs.declared.predicate.Side.{Side};
 
 use crate::gathering::{
-    Sought, Wanted, columns_in, conditions_gather_rows, has_in, keep, key_asked, keys_of,
-    value_asked,
+    Sought, Wanted, columns_in, conditions_gather_rows, has_in, keep, keys_of, value_asked,
 };
-use crate::masks::{Scan, admitted, is_passed};
+use crate::masks::{Scan, admitted, is_passed, may_select};
 use crate::positions::{Part, Positions};
 use crate::writes::{is_selected, make_next, note, refusal_at};
 use hy_bound::{Pred, WriteKind};
@@ -80,16 +80,17 @@ impl Model for Chunk {
     ghost invariant = { λ a. IsWhole a.first (length a.positions.places) (length a.positions.kinds) (length a.seen.row) (length a.next.row) };
 }
 
-/// An UPDATE or a DELETE of a viewer, and where its sweep begins.
+/// An UPDATE or a DELETE of a viewer, and the positions at which its condition may select a row.
 #[derive(Clone, Copy)]
-struct Sweep<'a> {
-    viewer: &'a Viewer,
-    pred: &'a Pred,
-    kind: &'a WriteKind,
-    /// The value that the condition asks of the key, where it asks one.
-    asked: &'a Option<Value>,
-    /// The first position whose row may have that key.
-    first: usize,
+pub struct Sweep<'a> {
+    /// The viewer.
+    pub viewer: &'a Viewer,
+    /// The condition.
+    pub pred: &'a Pred,
+    /// What becomes of a row that it selects.
+    pub kind: &'a WriteKind,
+    /// The positions, ascending.
+    pub places: &'a [u32],
 }
 
 /// A version of so many NULLs. Err is for want of memory.
@@ -584,58 +585,99 @@ impl Chunk {
         Ok(pos)
     }
 
+    /// The positions, ascending, at which a condition may select a row, where the index tells them. Err is for want of
+    /// memory.
+    fn find_by_key(&self, alloc: Global, pred: &Pred) -> Result<Option<Vec<u32>>, AllocError>
+        ensures { IfOk result (λ found. IfSome found (λ places. AreCandidates pred.now self.now.shown.key self.now.shown.places places.items)) }
+    {
+        let Some(key) = self.positions.key() else {
+            return Ok(None);
+        };
+        match value_asked(pred, key) {
+            Some(value) => Ok(Some(self.positions.find_used(alloc, key, &value.to_value())?)),
+            None => Ok(None),
+        }
+    }
+
+    /// The positions, ascending, at which a condition may select a row, as masks tell them. Err is for want of memory.
+    fn find_by_mask(&mut self, alloc: Global, pred: &Pred) -> Result<Vec<u32>, AllocError>
+        ensures found { IfOk result (λ found. AreCandidates pred.now self.old.shown.key self.old.shown.places found.items) }
+        ensures all { self.new ≡ self.old }
+    {
+        let admission = admitted(alloc, &self.positions, pred)?;
+        let mut found = Vec::new(alloc);
+        for place in 0..self.positions.len() {
+            if may_select(&self.positions, place, pred, &admission, &mut self.seen) {
+                found.push(place as u32)?;
+            }
+        }
+        Ok(found)
+    }
+
+    /// The positions, ascending, at which a condition may select a row, whoever looks: those that a write needs room
+    /// for. They are so few as there are records and rows in place that it selects. Err is for want of memory.
+    pub fn find_candidates(&mut self, pred: &Pred) -> Result<Vec<u32>, AllocError>
+        ensures found { IfOk result (λ found. AreCandidates pred.now self.old.shown.key self.old.shown.places found.items) }
+        ensures all { self.new ≡ self.old }
+    {
+        let alloc = self.positions.allocator();
+        match self.find_by_key(alloc, pred)? {
+            Some(places) => Ok(places),
+            None => self.find_by_mask(alloc, pred),
+        }
+    }
+
     /// Why a write is refused, if it is: the first refusal, position by position.
     fn refusal(&mut self, sweep: &Sweep) -> Option<Refusal>
-        requires begins { Begins sweep.now.pred.now self.old.shown.key sweep.now.asked.now self.old.shown.places sweep.now.first }
+        requires { AreCandidates sweep.now.pred.now self.old.shown.key self.old.shown.places sweep.now.places.now }
         ensures refusal { result ≡ refusal_in
             (swept (sets_of sweep.now.kind.now) sweep.now.pred.now sweep.now.viewer.now self.old.shown.first self.old.shown.places) }
         ensures all { self.new ≡ self.old }
     {
-        let end = self.positions.len();
-        let mut place = sweep.first;
-        while place < end {
+        self.positions.keys_stay();
+        for i in 0..sweep.places.len() {
+            let number = number_at(sweep.places, i);
+            let place = number as usize;
             self.positions.see(place, sweep.viewer, &mut self.seen);
             let rival = self.positions.rival(place, sweep.viewer);
-            let pos = self.first + place as u32;
+            let pos = self.first + number;
             if let Some(refusal) = refusal_at(&self.seen, sweep.pred, sweep.kind, rival, pos) {
                 return Some(refusal);
             }
-            place = self.positions.next_wanted(sweep.asked, place + 1);
         }
         None
     }
 
     /// Writes and notes each position that is selected, and answers how many they are.
     fn write_all(&mut self, sweep: &Sweep, label: Label, changes: &mut Changes) -> u32
-        requires begins { Begins sweep.now.pred.now self.old.shown.key sweep.now.asked.now self.old.shown.places sweep.now.first }
+        requires candidates { AreCandidates sweep.now.pred.now self.old.shown.key self.old.shown.places sweep.now.places.now }
         requires ok { refusal_in
             (swept (sets_of sweep.now.kind.now) sweep.now.pred.now sweep.now.viewer.now self.old.shown.first self.old.shown.places) ≡ None }
-        requires room { length self.old.shown.places ≤ self.old.room }
-        requires notes { length self.old.shown.places ≤ changes.old.room }
+        requires room { length sweep.now.places.now ≤ self.old.room }
+        requires notes { length sweep.now.places.now ≤ changes.old.room }
         requires wide { length self.old.kinds ≤ changes.old.width }
         requires fits { FitsWrite self.old.kinds self.old.shown.key sweep.now.kind.now }
         ensures all { self.new ≡ with_places self.old self.new.shown.places self.new.room }
         ensures done { IsDone sweep.now.viewer.now label self.old.shown.table self.old.shown.first
             (swept (sets_of sweep.now.kind.now) sweep.now.pred.now sweep.now.viewer.now self.old.shown.first self.old.shown.places)
             self.old.shown.places self.new.shown.places changes.old.notes changes.new.notes result }
-        ensures room { self.old.room ≤ self.new.room + length self.old.shown.places }
-        ensures notes_room { changes.old.room ≤ changes.new.room + length self.old.shown.places }
+        ensures room { self.old.room ≤ self.new.room + length sweep.now.places.now }
+        ensures notes_room { changes.old.room ≤ changes.new.room + length sweep.now.places.now }
         ensures notes_width { changes.new.width ≡ changes.old.width }
     {
-        let end = self.positions.len();
+        self.positions.keys_stay();
         let mut written = 0;
-        let mut place = sweep.first;
-        while place < end {
-            let here = place;
-            place = self.positions.next_wanted(sweep.asked, here + 1);
-            self.positions.see(here, sweep.viewer, &mut self.seen);
+        for i in 0..sweep.places.len() {
+            let number = number_at(sweep.places, i);
+            let place = number as usize;
+            self.positions.see(place, sweep.viewer, &mut self.seen);
             if !is_selected(&self.seen, sweep.pred) {
                 continue;
             }
             make_next(sweep.kind, &self.seen.row, &mut self.next);
             self.positions
-                .write_at(here, sweep.viewer, label, &self.next);
-            let pos = self.first + here as u32;
+                .write_at(place, sweep.viewer, label, &self.next);
+            let pos = self.first + number;
             note(changes, self.table, pos, &self.seen.row, &self.next);
             written += 1;
         }
@@ -647,38 +689,29 @@ impl Chunk {
     /// changes nothing. It takes no memory.
     pub fn write(
         &mut self,
-        viewer: &Viewer,
+        sweep: &Sweep,
         label: Label,
-        pred: &Pred,
-        kind: &WriteKind,
         changes: &mut Changes,
     ) -> Result<u32, Refusal>
-        requires room { length self.old.shown.places ≤ self.old.room }
-        requires notes { length self.old.shown.places ≤ changes.old.room }
+        requires candidates { AreCandidates sweep.now.pred.now self.old.shown.key self.old.shown.places sweep.now.places.now }
+        requires room { length sweep.now.places.now ≤ self.old.room }
+        requires notes { length sweep.now.places.now ≤ changes.old.room }
         requires wide { length self.old.kinds ≤ changes.old.width }
-        requires fits { FitsWrite self.old.kinds self.old.shown.key kind.now }
+        requires fits { FitsWrite self.old.kinds self.old.shown.key sweep.now.kind.now }
         ensures all { self.new ≡ with_places self.old self.new.shown.places self.new.room }
-        ensures done { IfOk result (λ count. IsDone viewer.now label self.old.shown.table self.old.shown.first
-            (swept (sets_of kind.now) pred.now viewer.now self.old.shown.first self.old.shown.places)
+        ensures done { IfOk result (λ count. IsDone sweep.now.viewer.now label self.old.shown.table self.old.shown.first
+            (swept (sets_of sweep.now.kind.now) sweep.now.pred.now sweep.now.viewer.now self.old.shown.first self.old.shown.places)
             self.old.shown.places self.new.shown.places changes.old.notes changes.new.notes count) }
-        ensures refused { IfErr result (λ refusal. Some refusal
-            ≡ refusal_in (swept (sets_of kind.now) pred.now viewer.now self.old.shown.first self.old.shown.places)) }
+        ensures refused { IfErr result (λ refusal. Some refusal ≡ refusal_in
+            (swept (sets_of sweep.now.kind.now) sweep.now.pred.now sweep.now.viewer.now self.old.shown.first self.old.shown.places)) }
         ensures kept { OnErr result ((self.new ≡ self.old) × (changes.new ≡ changes.old)) }
-        ensures room { self.old.room ≤ self.new.room + length self.old.shown.places }
-        ensures notes_room { changes.old.room ≤ changes.new.room + length self.old.shown.places }
+        ensures room { self.old.room ≤ self.new.room + length sweep.now.places.now }
+        ensures notes_room { changes.old.room ≤ changes.new.room + length sweep.now.places.now }
         ensures notes_width { changes.new.width ≡ changes.old.width }
     {
-        let asked = key_asked(pred, self.positions.key());
-        let sweep = Sweep {
-            viewer,
-            pred,
-            kind,
-            asked: &asked,
-            first: self.positions.next_wanted(&asked, 0),
-        };
-        match self.refusal(&sweep) {
+        match self.refusal(sweep) {
             Some(refusal) => Err(refusal),
-            None => Ok(self.write_all(&sweep, label, changes)),
+            None => Ok(self.write_all(sweep, label, changes)),
         }
     }
 }

@@ -13,7 +13,7 @@ ghost use Rattle.hy_undo.specs.Places.{cell_of};
 ghost use Rattle.hy_value.specs.Columns.{has_column};
 ghost use Rattle.hy_value.specs.Refs.{referred};
 ghost use Rattle.hy_value.specs.declared.Value.{Value};
-ghost use Rattle.hy_chunk.specs.Gathering.{Asks, AsksKey, AsksOneOf, GathersOne, GathersRead, conditions_of, kept_by};
+ghost use Rattle.hy_chunk.specs.Gathering.{Asks, AsksOneOf, GathersOne, GathersRead, conditions_of, kept_by};
 
 use hy_bound::{Pred, Root, SideView, cell, compare, project_row, truth};
 use hy_plan::Gathered;
@@ -148,14 +148,6 @@ pub fn value_asked(pred: &Pred, column: u32) -> Option<ValueRef<'_>>
         Some(value) => Some(value),
         None => value_asked(right, column),
     }
-}
-
-/// The value that a condition asks of the key, where there is one.
-pub fn key_asked(pred: &Pred, key: Option<u32>) -> Option<Value>
-    ensures { AsksKey pred.now key result }
-{
-    let value = value_asked(pred, key?)?;
-    Some(value.to_value())
 }
 
 /// Whether a set has the column of this number.

@@ -11,5 +11,5 @@ mod positions;
 mod rows;
 mod writes;
 
-pub use chunk::{Chunk, NoRoom};
+pub use chunk::{Chunk, NoRoom, Sweep};
 pub use gathering::{Keys, Sought, conditions_gather_rows};

@@ -2,10 +2,11 @@
 //! ranges: Neumann, Mühlbauer, Kemper, "Fast Serializable Multi-Version Concurrency Control for Main-Memory Database
 //! Systems", SIGMOD 2015).
 
-ghost use Rattle.std.specs.Prelude.{◌≡◌, ◌<◌, ◌∷◌, [], true, IfOk, IfSome, length, map, replicate};
+ghost use Rattle.std.specs.Prelude.{◌≡◌, ◌<◌, ◌∷◌, [], true, false, IfOk, IfSome, length, map, replicate};
 ghost use Rattle.hy_bound.specs.Condition.{Compare};
 ghost use Rattle.hy_bound.specs.Records.{conjuncts};
 ghost use Rattle.hy_bound.specs.declared.predicate.Side.{Side};
+ghost use Rattle.hy_chunk.specs.Candidates.{IsPlain};
 ghost use Rattle.hy_chunk.specs.Fields.{nth};
 ghost use Rattle.hy_chunk.specs.Gathering.{conditions_of, kept_by};
 ghost use Rattle.hy_chunk.specs.Masked.{Admits, Confirms};
@@ -15,8 +16,10 @@ ghost use Rattle.hy_value.specs.declared.Value.{Value};
 
 use crate::gathering::Wanted;
 use crate::positions::{Part, Positions};
+use crate::writes::is_selected;
 use hy_bound::{Pred, Root, SideView};
 use hy_kernel::Mask;
+use hy_undo::Version;
 use hy_value::Cmp;
 use std::alloc::{AllocError, Global};
 
@@ -125,4 +128,35 @@ pub fn is_passed(positions: &Positions, place: usize, wanted: &Wanted, mask: &Ma
         (sees viewer (nth positions.now.places place)) ≡ [] }
 {
     !mask.get(place) && !positions.is_versioned(place)
+}
+
+/// Whether a condition may select a row at a position, whoever looks: a record is there, or the row in place is
+/// selected. `version` is a scratch one of as many columns.
+pub fn may_select(
+    positions: &Positions,
+    place: usize,
+    pred: &Pred,
+    found: &Admission,
+    version: &mut Version,
+) -> bool
+    requires within { place < length positions.now.places }
+    requires width { length version.old.row ≡ length positions.now.kinds }
+    requires admits { Admits (conjuncts pred.now) positions.now.places found.now.mask }
+    ensures barred { result ≡ false → IsPlain pred.now (nth positions.now.places place) }
+    ensures width { length version.new.row ≡ length positions.now.kinds }
+{
+    if positions.has_record(place) {
+        return true;
+    }
+    if !positions.is_live(place) {
+        return false;
+    }
+    if !found.mask.get(place) {
+        return false;
+    }
+    if found.is_exact {
+        return true;
+    }
+    positions.read(place, version);
+    is_selected(version, pred)
 }

@@ -17,7 +17,7 @@ ghost use Rattle.hy_undo.specs.Steps.{pruned_place, stamped_place, undone_place}
 ghost use Rattle.hy_chunk.specs.Fields.{blank_place, nth};
 ghost use Rattle.hy_chunk.specs.Parts.{places_set};
 ghost use Rattle.hy_chunk.specs.Ranged.{Covers, NoneOutside};
-ghost use Rattle.hy_chunk.specs.Keyed.{AreFound, NoneBetween, PassesOver, SameKey, is_key_of};
+ghost use Rattle.hy_chunk.specs.Keyed.{AreFound, HaveUsed, KeysStay, SameKey, is_key_of};
 ghost use Rattle.hy_chunk.specs.Sound.{AreBlank, FitsRow, blank_image};
 ghost use Rattle.hy_chunk.specs.Noting.{own_stamp, own_or_blank};
 ghost use Rattle.hy_chunk.specs.Steps.{loaded_place};
@@ -279,6 +279,11 @@ impl Positions {
         })
     }
 
+    /// The allocator of what it allocates.
+    pub fn allocator(&self) -> Global {
+        *self.spare.allocator()
+    }
+
     /// How many positions there are.
     pub fn len(&self) -> usize
         ensures { result ≡ length self.now.places }
@@ -515,6 +520,14 @@ impl Positions {
         is_in(self.versioned, place)
     }
 
+    /// Whether a position has a record: else every viewer sees what is in place.
+    pub fn has_record(&self, place: usize) -> bool
+        requires { place < length self.now.places }
+        ensures { result ≡ false → (nth self.now.places place).chain ≡ [] }
+    {
+        is_in(self.versioned, place) && self.chains.head(place).is_some()
+    }
+
     /// The part that has all positions with records: at the others every viewer sees what is in place.
     pub fn versioned_part(&self) -> Part
         ensures ordered { result.first ≤ result.end }
@@ -534,7 +547,7 @@ impl Positions {
     }
 
     /// Whether a row is in place at a position.
-    fn is_live(&self, place: usize) -> bool
+    pub fn is_live(&self, place: usize) -> bool
         requires { place < length self.now.places }
         ensures { result ≡ (nth self.now.places place).version.live }
     {
@@ -580,38 +593,35 @@ impl Positions {
         requires { is_key_of self.now.key column ≡ true }
         ensures within { AllByRecursion (λ entry. entry.pos < length self.now.places) result.now }
         ensures all { AreFound column value.now self.now.places (map (λ entry. entry.pos) result.now) }
+        ensures used { HaveUsed column value.now self.now.places (map (λ entry. entry.pos) result.now) }
     {
         hy_index::entries_are_a_set();
         self.index.find(value)
     }
 
-    /// The least used position from one on whose row in place has this key, or how many positions there are. No other
-    /// that is passed over has a row with it that is seen.
-    fn next_with(&self, column: u32, value: &Value, from: usize) -> usize
-        requires key { is_key_of self.now.key column ≡ true }
-        requires start { from ≤ length self.now.places }
-        ensures reached { from ≤ result }
-        ensures within { result ≤ length self.now.places }
-        ensures passed { NoneBetween column value.now self.now.places from result }
+    /// A row that is seen at a position has the key in place there, and the position is used.
+    pub fn keys_stay(&self)
+        ensures { KeysStay self.now.key self.now.places }
     {
-        match self.index.find_from(value, from as u32) {
-            Some(pos) => pos as usize,
-            None => self.len(),
-        }
+        let _many = self.live.len();
     }
 
-    /// Where a sweep that looks for a key goes on from a position: positions at which no viewer sees a row with it are
-    /// passed over. Where no key is looked for it goes on there.
-    pub fn next_wanted(&self, asked: &Option<Value>, from: usize) -> usize
-        requires { from ≤ length self.now.places }
-        ensures reached { from ≤ result }
-        ensures within { result ≤ length self.now.places }
-        ensures passed { PassesOver self.now.key asked.now self.now.places from result }
+    /// The used positions, ascending, whose row in place has this key. Err is for want of memory.
+    pub fn find_used(
+        &self,
+        alloc: Global,
+        column: u32,
+        value: &Value,
+    ) -> Result<Vec<u32>, AllocError>
+        requires { is_key_of self.now.key column ≡ true }
+        ensures ascends { IfOk result (λ found. IsStrictlyIncreasing found.items) }
+        ensures within { IfOk result (λ found. (place : ℕ) → Contains found.items place → place < length self.now.places) }
+        ensures all { IfOk result (λ found. HaveUsed column value.now self.now.places found.items) }
     {
-        match (self.key, asked) {
-            (Some(key), Some(value)) => self.next_with(key, value, from),
-            _ => from,
-        }
+        let mut found = Vec::new(alloc);
+        add_places(self.find(column, value), &mut found)?;
+        sort_once(&mut found);
+        Ok(found)
     }
 
     /// The used positions, ascending, whose row in place has one of these keys. No other has a row with one of them

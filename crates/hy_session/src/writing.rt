@@ -52,8 +52,9 @@ fn refusal_ending(table: u32, refusal: Refusal) -> Ending
     }
 }
 
-/// Prunes the chunk, and then writes and notes what is selected: how many rows that are, or the first refusal. Err is
-/// for want of memory, and changes nothing.
+/// Prunes the chunk, and then writes and notes what is selected: how many rows that are, or the first refusal. Room is
+/// made before the pruning, for the positions that pruning leaves the only ones at which a row may be selected: so Err,
+/// which is for want of memory, changes nothing.
 fn write_chunk(
     visitor: &Visitor,
     write: &Write,
@@ -71,15 +72,23 @@ fn write_chunk(
     ensures kinds { chunk.new.kinds ≡ chunk.old.kinds }
 {
     let width = table_shape(visitor.shapes, write.table).width;
-    let count = chunk.len();
-    reserve_writes(chunk, notes, count, width)?;
+    let places = chunk.find_candidates(write.pred)?;
+    reserve_writes(chunk, notes, places.len(), width)?;
     let writer = Writer {
         viewer: visitor.viewer(start),
         label: visitor.label,
         cover,
         prunes: visitor.prunes,
     };
-    Ok(write_visit(chunk, &writer, write.pred, write.kind, notes))
+    let answer = write_visit(
+        chunk,
+        &writer,
+        write.pred,
+        write.kind,
+        places.as_slice(),
+        notes,
+    );
+    Ok(answer)
 }
 
 /// A visit behind which others of the statement are left.

@@ -3,6 +3,7 @@ pub mod Pruned
 pub mod Stamped
 pub mod Noted
 pub mod Shortened
+pub mod KeptCandidates
 pub mod Written
 pub mod Placed
 pub mod Counted

@@ -1,6 +1,7 @@
 //! Visits of an UPDATE, a DELETE or an INSERT.
 
 ghost use Rattle.std.specs.Prelude.{◌≡◌, ◌+◌, ◌<◌, ◌≤◌, true, Some, length};
+ghost use Rattle.hy_chunk.specs.Candidates.{AreCandidates};
 ghost use Rattle.hy_chunk.specs.Sound.{FitsRow};
 ghost use Rattle.hy_chunk.specs.Views.{with_places};
 ghost use Rattle.hy_chunk.specs.Writes.{FitsWrite, sets_of};
@@ -11,7 +12,7 @@ ghost use Rattle.hy_visit.specs.Writing.{WriteDone};
 
 use crate::pruning::prune_first;
 use hy_bound::{Pred, WriteKind, column_value};
-use hy_chunk::Chunk;
+use hy_chunk::{Chunk, Sweep};
 use hy_notes::Changes;
 use hy_prune::Cover;
 use hy_stamp::{Label, Viewer};
@@ -32,28 +33,37 @@ pub struct Writer<'a> {
 }
 
 /// Prunes the chunk, and then does an UPDATE or a DELETE: it writes and notes each position whose row is seen and
-/// selected, and answers how many they are. It fails with the first refusal, and has then pruned alone.
+/// selected, which are among these, and answers how many they are. It fails with the first refusal, and has then
+/// pruned alone.
 pub fn write_visit(
     chunk: &mut Chunk,
     writer: &Writer,
     pred: &Pred,
     kind: &WriteKind,
+    places: &[u32],
     changes: &mut Changes,
 ) -> Result<u32, Refusal>
     requires falls { AllFall chunk.old.shown.places }
-    requires room { length chunk.old.shown.places ≤ chunk.old.room }
-    requires notes { length chunk.old.shown.places ≤ changes.old.room }
+    requires candidates { AreCandidates pred.now chunk.old.shown.key chunk.old.shown.places places.now }
+    requires room { length places.now ≤ chunk.old.room }
+    requires notes { length places.now ≤ changes.old.room }
     requires wide { length chunk.old.kinds ≤ changes.old.width }
     requires fits { FitsWrite chunk.old.kinds chunk.old.shown.key kind.now }
     ensures done { WriteDone writer.now (sets_of kind.now) pred.now chunk.old.shown changes.old.notes result chunk.new.shown changes.new.notes }
     ensures short { writer.now.prunes ≡ true → writer.now.cover.now.next ≤ writer.now.viewer.id → AllShort writer.now.cover.now chunk.new.shown.places }
     ensures all { chunk.new ≡ with_places chunk.old chunk.new.shown.places chunk.new.room }
-    ensures room { chunk.old.room ≤ chunk.new.room + length chunk.old.shown.places }
-    ensures notes_room { changes.old.room ≤ changes.new.room + length chunk.old.shown.places }
+    ensures room { chunk.old.room ≤ chunk.new.room + length places.now }
+    ensures notes_room { changes.old.room ≤ changes.new.room + length places.now }
     ensures notes_width { changes.new.width ≡ changes.old.width }
 {
     prune_first(chunk, writer.cover, writer.prunes);
-    chunk.write(&writer.viewer, writer.label, pred, kind, changes)
+    let sweep = Sweep {
+        viewer: &writer.viewer,
+        pred,
+        kind,
+        places,
+    };
+    chunk.write(&sweep, writer.label, changes)
 }
 
 /// Whether a viewer sees a row of the chunk that has the key of this row.

@@ -2,6 +2,7 @@ use Rattle.std.proofs.Common.{ap, arith}
 use Rattle.hy_chunk.specs.Views.{Whole}
 use Rattle.hy_chunk.specs.Writes.{sets_of}
 use Rattle.hy_event.specs.Writing.{cells_by}
+use Rattle.hy_visit.proofs.KeptCandidates.{candidates_stay}
 use Rattle.hy_visit.proofs.Shortened.{short_becomes}
 use Rattle.hy_visit.proofs.Written.{comes_to, write_done}
 use Rattle.hy_visit.proofs.writing.write_visit.Goals as goal
@@ -28,14 +29,14 @@ returns-clause-short c = λ does late.
     short_becomes writer.cover.now writer.viewer writer.label late (cells_by sets c.args.pred.now writer.viewer between.shown) between.shown new.shown
     (c.prune_first.ensures.short does) here.chunk
 
-pub write-requires-clause-room : goal.write-requires-clause-room
-write-requires-clause-room c = omega (arith, c.prune_first.ensures.many, c.requires.room, c.prune_first.ensures.room)
+pub write-requires-clause-candidates : goal.write-requires-clause-candidates
+write-requires-clause-candidates c =
+    let writer = c.args.writer.now in
+    candidates_stay writer.prunes writer.cover.now c.args.pred.now c.args.chunk.now.shown c.prune_first.new.chunk.shown c.args.places.now
+    c.prune_first.ensures.pruned c.requires.candidates
 
-pub write-requires-clause-notes : goal.write-requires-clause-notes
-write-requires-clause-notes c = omega (arith, c.prune_first.ensures.many, c.requires.notes)
+pub write-requires-clause-room : goal.write-requires-clause-room
+write-requires-clause-room c = omega (arith, c.requires.room, c.prune_first.ensures.room)
 
 pub returns-clause-room : goal.returns-clause-room
-returns-clause-room c = omega (arith, c.prune_first.ensures.many, c.prune_first.ensures.room, c.write.ensures.room)
-
-pub returns-clause-notes_room : goal.returns-clause-notes_room
-returns-clause-notes_room c = omega (arith, c.prune_first.ensures.many, c.write.ensures.notes_room)
+returns-clause-room c = omega (arith, c.prune_first.ensures.room, c.write.ensures.room)

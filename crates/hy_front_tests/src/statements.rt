@@ -36,7 +36,14 @@ fn tokens_are_found(rt: HostRuntime) {
 /// Where a statement ends or what is wrong with it: 0 for its end, 1 for a token that doesn't fit, 2 for a bad
 /// one.
 fn stop_of(alloc: Global, text: &str) -> (u8, usize) {
-    match parse_statement(alloc, text.as_bytes(), 0, &mut Vec::new(alloc)) {
+    let bytes = text.as_bytes();
+    match parse_statement(
+        alloc,
+        bytes,
+        0,
+        hy_token::next(bytes, 0),
+        &mut Vec::new(alloc),
+    ) {
         Ok((_, end)) => (0, end),
         Err(ParseError::Syntax { at }) => (1, at),
         Err(ParseError::BadToken { at }) => (2, at),

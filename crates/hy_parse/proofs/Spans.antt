@@ -1,5 +1,6 @@
 -- Where the pieces of a statement stand, and what follows them.
-use Rattle.std.proofs.Common.{ℕ, zero, suc, ◌<◌, ◌≤◌, List, [], ◌∷◌, ◌++◌, length, Result, Ok, Err, MatchResult, arith}
+use Rattle.std.proofs.Common.{◌≡◌, ℕ, zero, suc, ◌<◌, ◌≤◌, List, [], ◌∷◌, ◌++◌, length, Result, Ok, Err, MatchResult, sym, subst, arith}
+use Rattle.std.specs.Prelude.{IfOk}
 use Rattle.std.specs.List.{AllByRecursion}
 use Rattle.hy_token.specs.Token.{token_at, MovesOn}
 use Rattle.hy_token.specs.declared.Bad.{Bad}
@@ -18,6 +19,19 @@ Outcome len at r = MatchResult r (λ found. MovesOn len at found.0 found.1) (λ 
 -- the law that tokens move on
 abbrev pub TokensMove : Type 0
 TokensMove = (bytes : List ℕ) (at : ℕ) → at ≤ length bytes → Outcome (length bytes) at (token_at bytes at)
+
+token_within : (len at : ℕ) (t : Token) (span : Span) → MovesOn len at t span → span.end ≤ len
+token_within len at token.End span moves = omega (arith, moves.2)
+token_within len at (token.Reserved _) span moves = moves.2
+token_within len at _ span moves = moves.2
+
+found_within : (len at : ℕ) (found : Result (Token × Span) Bad) → Outcome len at found → IfOk found (λ f. f.1.end ≤ len)
+found_within len at (Ok found) moves = token_within len at found.0 found.1 moves
+found_within len at (Err bad) moves = tt
+
+-- the first token from an offset on ends in the script
+pub first_within : (bytes : List ℕ) (at : ℕ) (found : Result (Token × Span) Bad) → found ≡ token_at bytes at → at ≤ length bytes → TokensMove → IfOk found (λ f. f.1.end ≤ length bytes)
+first_within bytes at found is in_range law = found_within (length bytes) at found (subst (Outcome (length bytes) at) (sym is) (law bytes at in_range))
 
 abbrev pub StandsIn : ℕ → ℕ → Piece → Type 0
 StandsIn len at p = (at ≤ p.span.start) × (p.span.start ≤ len)

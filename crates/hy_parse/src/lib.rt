@@ -15,10 +15,11 @@ ghost use Rattle.std.specs.Prelude.{◌≡◌, ◌≤◌, length};
 ghost use Rattle.hy_ast.specs.Trees.{statement_of};
 ghost use Rattle.hy_parse.specs.declared.ParseError.TheVariants.{OutOfMemory};
 ghost use Rattle.hy_parse.specs.Parsing.{Gives, parsed, offset_of, fault_of, error_of};
+ghost use Rattle.hy_token.specs.Token.{token_at};
 
 use cursor::Halt;
 use hy_ast::Statement;
-use hy_token::{Span, Token};
+use hy_token::{Bad, Span, Token};
 pub use laws::{parsing_moves_on, reading_stops_first, scripts_are_parsed, sentences_are_read};
 use std::alloc::{AllocError, Global};
 
@@ -76,19 +77,21 @@ impl From<AllocError> for ParseError {
     }
 }
 
-/// The statement that begins at the first token from `at` on, and the offset right behind its `;`. What
-/// `room` holds doesn't matter: its memory serves for the pieces of one statement after another.
+/// The statement that begins at the first token from `at` on, which is `first`, and the offset right behind its
+/// `;`. What `room` holds doesn't matter: its memory serves for the pieces of one statement after another.
 #[tactic(auto, unfolding(crate::specs::Parsing::parsed))]
 pub fn parse_statement(
     alloc: Global,
     bytes: &[u8],
     at: usize,
+    first: Result<(Token, Span), Bad>,
     room: &mut Vec<Piece>,
 ) -> Result<(Statement, usize), ParseError>
-    requires { at ≤ length bytes.now }
+    requires in_range { at ≤ length bytes.now }
+    requires found { first ≡ token_at bytes.now at }
     ensures { Gives (λ x. (statement_of x.0, x.1)) result (parsed bytes.now at) }
 {
-    let ending = pieces::pieces(bytes, at, room)?;
+    let ending = pieces::pieces(bytes, at, first, room)?;
     match statements::statement(alloc, room) {
         Ok((statement, _)) => Ok((statement, ending.offset())),
         Err(Halt::Stuck(rest)) => Err(ending.fault_of(rest)),

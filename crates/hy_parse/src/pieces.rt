@@ -7,7 +7,7 @@ ghost use Rattle.hy_parse.specs.Pieces.{most_pieces, ended, pieces_of};
 use crate::cursor::is_same;
 use crate::{Ending, Piece};
 use hy_limits::MOST_TOKENS;
-use hy_token::{Bad, Keyword, Sign, Span, Token, next};
+use hy_token::{Bad, Keyword, Sign, Span, Token, next, tokens_move_on};
 use std::alloc::AllocError;
 
 /// The most pieces that a statement may have in a script of this length, by its first token. No script
@@ -32,15 +32,22 @@ fn no_more(found: Result<(Token, Span), Bad>) -> Ending
     }
 }
 
-/// Puts the pieces of the statement that begins at the first token from `at` on in place of those that are
-/// there, and gives what follows them.
-pub fn pieces(bytes: &[u8], at: usize, pieces: &mut Vec<Piece>) -> Result<Ending, AllocError>
-    requires { at ≤ length bytes.now }
+/// Puts the pieces of the statement that begins at the first token from `at` on, which is `first`, in place of
+/// those that are there, and gives what follows them.
+pub fn pieces(
+    bytes: &[u8],
+    at: usize,
+    first: Result<(Token, Span), Bad>,
+    pieces: &mut Vec<Piece>,
+) -> Result<Ending, AllocError>
+    requires in_range { at ≤ length bytes.now }
+    requires found { first ≡ token_at bytes.now at }
     ensures { IfOk result (λ ending. (pieces.new.items ≡ (pieces_of bytes.now at).pieces) × (ending ≡ (pieces_of bytes.now at).ending)) }
 {
+    tokens_move_on();
     pieces.clear();
-    let mut found = next(bytes, at);
-    for _ in 0..most_pieces(bytes.len(), found) {
+    let mut found = first;
+    for _ in 0..most_pieces(bytes.len(), first) {
         let (token, span) = match found {
             Ok(found) => found,
             Err(bad) => return Ok(Ending::Bad { at: bad.at }),

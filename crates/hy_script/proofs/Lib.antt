@@ -1,4 +1,4 @@
-pub mod Ascii
+pub mod Utf8
 pub mod Causes
 pub mod Tables
 pub mod Lines

@@ -1,8 +1,7 @@
 //! Scripts: from bytes to tables, first rows, sessions and a schedule, or to the first refusal.
 #![tactic(auto)]
 
-ghost use Rattle.std.specs.Prelude.{◌≡◌, ℕ, List, Result, nat_lt, MatchBool};
-ghost use Rattle.std.specs.List.{list_all};
+ghost use Rattle.std.specs.Prelude.{◌≡◌, ℕ, List, Result, MatchBool};
 ghost use Rattle.std.specs.Str.{IsUtf8};
 ghost use Rattle.hy_script.specs.declared.Options.{Options};
 ghost use Rattle.hy_script.specs.declared.Script.{Script};
@@ -120,21 +119,11 @@ pub fn read(alloc: Global, bytes: &[u8], options: &Options) -> Result<Script, Re
     statements(alloc, bytes, options)
 }
 
-/// Whether bytes are UTF-8. Most scripts are ASCII, which is sooner told.
+/// Whether bytes are UTF-8.
 fn is_text(bytes: &[u8]) -> bool
     ensures { MatchBool result (IsUtf8 bytes.now) (IsUtf8 bytes.now → ⊥) }
 {
-    if is_ascii(bytes) {
-        return true;
-    }
     str::from_utf8(bytes).is_ok()
-}
-
-/// Whether bytes are ASCII.
-fn is_ascii(bytes: &[u8]) -> bool
-    ensures { result ≡ list_all (λ byte. nat_lt byte 128) bytes.now }
-{
-    bytes.iter().all(|byte| *byte < 128)
 }
 
 /// Reads the statements of a script.

@@ -1,6 +1,6 @@
 //! Reading a script statement by statement, up to END or to the first refusal.
 
-ghost use Rattle.std.specs.Prelude.{◌≡◌, ◌<◌, ◌≤◌, length, count_by, IfOk};
+ghost use Rattle.std.specs.Prelude.{◌≡◌, ◌<◌, ◌≤◌, Ok, length, count_by, IfOk};
 ghost use Rattle.hy_ast.specs.Trees.{statement_of, Insert};
 ghost use Rattle.hy_script.specs.Refusals.{refusal_in, insert_code_at};
 ghost use Rattle.hy_script.specs.Growing.{nothing, after, with_insert, script_of, Takes};
@@ -163,20 +163,22 @@ impl SoFar {
         Ok(Step::GoOn(end))
     }
 
-    /// Reads the statement that begins with the token at an offset.
+    /// Reads the statement that begins with this token.
     fn statement_at(
         &mut self,
         alloc: Global,
         input: &Input,
-        at: usize,
+        first: Piece,
         room: &mut Vec<Piece>,
     ) -> Result<Step, Halt>
-        requires { at ≤ length input.now.script.now }
-        ensures comes { Comes result (judged input.now.script.now input.now.options.now self.old at (parsed input.now.script.now at)) input.now.options.now
-            self.new }
-        ensures goes { IfOk result (λ step. Goes at (length input.now.script.now) step) }
+        requires in_range { first.span.start ≤ length input.now.script.now }
+        requires found { token_at input.now.script.now first.span.start ≡ Ok (first.token, first.span) }
+        ensures comes { Comes result (judged input.now.script.now input.now.options.now self.old first.span.start
+            (parsed input.now.script.now first.span.start)) input.now.options.now self.new }
+        ensures goes { IfOk result (λ step. Goes first.span.start (length input.now.script.now) step) }
     {
-        match parse(alloc, input.script, at, room) {
+        let at = first.span.start;
+        match parse(alloc, input.script, first, room) {
             Ok((ast, end)) => self.accept(alloc, input, &ast, at, end),
             Err(ParseError::Syntax { at }) => Err(Halt::Refused {
                 code: Code::Syntax,
@@ -209,7 +211,8 @@ impl SoFar {
             }),
             Ok((Token::Reserved(word), span)) => {
                 if self.section.may_stand(word) {
-                    self.statement_at(alloc, input, span.start, room)
+                    let token = Token::Reserved(word);
+                    self.statement_at(alloc, input, Piece { token, span }, room)
                 } else {
                     Err(Halt::Refused {
                         code: Code::Syntax,
@@ -229,19 +232,21 @@ impl SoFar {
     }
 }
 
-/// The statement that begins with the token at an offset, and where it ends.
+/// The statement that begins with this token, and where it ends.
 fn parse(
     alloc: Global,
     script: &[u8],
-    at: usize,
+    first: Piece,
     room: &mut Vec<Piece>,
 ) -> Result<(Statement, usize), ParseError>
-    requires { at ≤ length script.now }
-    ensures statement { Gives (λ found. (statement_of found.0, found.1)) result (parsed script.now at) }
-    ensures moves { IfOk result (λ found. (at < found.1) × (found.1 ≤ length script.now)) }
+    requires in_range { first.span.start ≤ length script.now }
+    requires found { token_at script.now first.span.start ≡ Ok (first.token, first.span) }
+    ensures statement { Gives (λ found. (statement_of found.0, found.1)) result (parsed script.now first.span.start) }
+    ensures moves { IfOk result (λ found. (first.span.start < found.1) × (found.1 ≤ length script.now)) }
 {
     parsing_moves_on();
-    parse_statement(alloc, script, at, room)
+    let Piece { token, span } = first;
+    parse_statement(alloc, script, span.start, Ok((token, span)), room)
 }
 
 /// Whether a statement is END.

@@ -17,6 +17,7 @@ pub mod Frees
 pub mod Sweeping
 pub mod Gathers
 pub mod Ranges
+pub mod Vacating
 pub mod Indexing
 pub mod Spared
 pub mod Found

@@ -9,13 +9,15 @@ use Rattle.hy_undo.specs.Images.{Image}
 use Rattle.hy_chunk.specs.Keyed.{IsIndexed, SpareKeys}
 use Rattle.hy_chunk.specs.Ranged.{Covers}
 use Rattle.hy_chunk.specs.Sound.{Sound}
+use Rattle.hy_chunk.specs.Vacant.{ShowsVacant}
 
--- the fields are sound, the positions have numbers of 32 bits, those that have a record are of the range, the index
--- has the keys of the used ones, and no before-image has another key
+-- the fields are sound, the positions have numbers of 32 bits, the bits show those that may take a row, those that have
+-- a record are of the range, the index has the keys of the used ones, and no before-image has another key
 pub record IsHeld (kinds : List Kind) (rows : List (List Value)) (live used : List Bool) (deaths : List ℕ) (chains : List (List (Undo Image)))
-    (spare : List Image) (versioned : Versioned) (key : Option ℕ) (index : Indexed) : Type 0 where
+    (spare : List Image) (vacant : List Bool) (versioned : Versioned) (key : Option ℕ) (index : Indexed) : Type 0 where
   pub sound : Sound kinds rows live used deaths chains spare
   pub numbered : length rows < 2 ^ 32
+  pub vacated : ShowsVacant used live vacant
   pub covered : Covers versioned chains
   pub indexed : IsIndexed key rows used index
   pub spared : SpareKeys key chains

@@ -3,6 +3,7 @@ pub mod Views
 pub mod Sound
 pub mod Ranged
 pub mod Keyed
+pub mod Vacant
 pub mod Held
 pub mod Noting
 pub mod Steps

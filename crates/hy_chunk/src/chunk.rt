@@ -540,12 +540,15 @@ impl Chunk {
         ensures least { result ≡ least_free watermark self.now.shown.places }
         ensures within { result ≤ length self.now.shown.places }
     {
-        for place in 0..self.positions.len() {
+        let end = self.positions.len();
+        let mut place = self.positions.next_vacant(0);
+        while place < end {
             if self.positions.is_free(place, watermark) {
                 return place;
             }
+            place = self.positions.next_vacant(place + 1);
         }
-        self.positions.len()
+        end
     }
 
     /// Puts a new row at the least position that may take it, notes it, and answers the position. It fails only where

@@ -20,7 +20,7 @@ ghost use Rattle.hy_chunk.specs.Ranged.{Covers, NoneOutside};
 ghost use Rattle.hy_chunk.specs.Keyed.{AreFound, HaveUsed, KeysStay, SameKey, is_key_of};
 ghost use Rattle.hy_chunk.specs.Sound.{AreBlank, FitsRow, blank_image};
 ghost use Rattle.hy_chunk.specs.Noting.{own_stamp, own_or_blank};
-ghost use Rattle.hy_chunk.specs.Steps.{loaded_place};
+ghost use Rattle.hy_chunk.specs.Steps.{loaded_place, NoneFree};
 
 use crate::lookup::{keep_key, new_index, put_key};
 use crate::rows::{exchange_row, put_row};
@@ -49,6 +49,8 @@ pub struct Positions {
     chains: Chains<Delta>,
     /// Blank before-images, so that a write needs no memory.
     spare: Vec<Delta>,
+    /// A bit for each position, set where it is unused or no row is in place: no other may take a new row.
+    vacant: Mask,
     /// Where there may be records: elsewhere only the columns are looked at.
     versioned: Versioned,
     /// The column that is the key, if there is one, and the keys in place of the used positions.
@@ -74,7 +76,7 @@ impl Model for Positions {
     } };
 
     ghost invariant = { λ a. IsHeld a.columns.kinds a.columns.rows a.live.items a.used.items a.deaths.items
-        a.chains.chains a.spare.items a.versioned a.key a.index };
+        a.chains.chains a.spare.items a.vacant a.versioned a.key a.index };
 }
 
 /// The positions from `first` up to, and without, `end`.
@@ -94,6 +96,15 @@ impl PlacedRows for Positions {
     fn refer(&self, place: usize, column: usize) -> ValueRef<'_> {
         self.columns.refer(place, column)
     }
+}
+
+/// So many bits, all of them set. Err is for want of memory.
+fn all_set(alloc: Global, bits: usize) -> Result<Mask, AllocError>
+    ensures { IfOk result (λ mask. mask ≡ replicate bits true) }
+{
+    let mut mask = Mask::new(alloc, bits)?;
+    mask.invert();
+    Ok(mask)
 }
 
 /// Puts a flag at a place.
@@ -127,6 +138,13 @@ fn used_after(used: bool, was_live: bool, death: u64) -> bool
     ensures { result ≡ (used && (was_live || negated (death == 0))) }
 {
     used && (was_live || death != 0)
+}
+
+/// Whether a position may take a new row now or later: it is unused, or no row is in place.
+fn is_vacant(used: bool, live: bool) -> bool
+    ensures { result ≡ negated (used && live) }
+{
+    !(used && live)
 }
 
 /// Whether a position may take a new row, by what is known of it.
@@ -266,6 +284,7 @@ impl Positions {
         let deaths = vec![in alloc; 0u64; rows]?;
         let chains = Chains::new(alloc, rows)?;
         let index = new_index(alloc, key, rows)?;
+        let vacant = all_set(alloc, rows)?;
         Ok(Positions {
             columns,
             live,
@@ -273,6 +292,7 @@ impl Positions {
             deaths,
             chains,
             spare: Vec::new(alloc),
+            vacant,
             versioned: Versioned::none(),
             key,
             index,
@@ -387,6 +407,7 @@ impl Positions {
         put_row(&mut self.columns, place, &version.row);
         put_flag(&mut self.live, place, version.live);
         put_flag(&mut self.used, place, used);
+        self.vacant.set(place, is_vacant(used, version.live));
     }
 
     /// Puts a row into an unused position, without a record.
@@ -409,6 +430,7 @@ impl Positions {
         put_row(&mut self.columns, place, row);
         put_flag(&mut self.live, place, true);
         put_flag(&mut self.used, place, true);
+        self.vacant.set(place, false);
     }
 
     /// Puts another version in place of a row that is there, over a record of the writer that says what was there
@@ -430,6 +452,7 @@ impl Positions {
         let mut image = take_image(&mut self.chains, &mut self.spare, place, viewer.id);
         exchange_row(&mut self.columns, place, &version.row, &mut image);
         put_flag(&mut self.live, place, version.live);
+        self.vacant.set(place, !version.live);
         let stamp = stamp_over(newest, label, viewer.id);
         push_covered(&mut self.chains, &mut self.versioned, place, stamp, image);
     }
@@ -461,6 +484,7 @@ impl Positions {
         put_row(&mut self.columns, place, row);
         put_flag(&mut self.live, place, true);
         put_flag(&mut self.used, place, true);
+        self.vacant.set(place, false);
         let stamp = Stamp {
             owner: label,
             mark: viewer.id,
@@ -651,6 +675,17 @@ impl Positions {
         ensures { result ≡ rival viewer.now (nth self.now.places place).chain }
     {
         self.chains.rival(place, viewer)
+    }
+
+    /// Where a search for a position that may take a new row goes on from one: none that is passed over may, whatever the
+    /// watermark is.
+    pub fn next_vacant(&self, from: usize) -> usize
+        requires { from ≤ length self.now.places }
+        ensures reached { from ≤ result }
+        ensures within { result ≤ length self.now.places }
+        ensures passed { NoneFree self.now.places from result }
+    {
+        self.vacant.next_set(from)
     }
 
     /// Whether a position may take a new row: it is unused, or its row is gone for everyone from the watermark on.

@@ -7,6 +7,7 @@ use Rattle.hy_chunk.specs.Sound.{FitsRow}
 use Rattle.hy_chunk.proofs.Places.{Fields, fields, in_rows, in_live, in_used, fits_there}
 use Rattle.hy_chunk.proofs.Ranges.{still_numbered}
 use Rattle.hy_chunk.proofs.LoadAt.{loaded_sound, loaded_places}
+use Rattle.hy_chunk.proofs.Vacating.{in_vacant, shows_put}
 use Rattle.hy_chunk.proofs.positions.Positions.load_at.Goals as goal
 
 pub put_row-requires-clause-within : goal.put_row-requires-clause-within
@@ -41,6 +42,13 @@ put_flag-requires-2 c =
       c.self.inside.used.ok.0,
     )
 
+pub set-requires : goal.set-requires
+set-requires c =
+    let f : Fields = fields c.self.inside in
+    in_vacant c.args.place f.used f.live c.self.inside.vacant c.self.invariant.vacated
+    (in_live f c.self.inside.columns.kinds c.self.inside.spare.items c.args.self.now.places (ap (λ (h : Held). h.places) c.self.view_is)
+    c.self.invariant.sound c.args.place c.requires.within)
+
 pub invariant_of-self : goal.invariant_of-self
 invariant_of-self c =
     let f : Fields = fields c.self.inside in
@@ -50,6 +58,10 @@ invariant_of-self c =
           (subst (λ (ks : List Kind). FitsRow ks c.args.row.now) (sym (ap (λ (h : Held). h.kinds) c.self.view_is)) c.requires.fits)
           c.put_row.new.columns.kinds c.put_row.ensures.kinds c.put_row.new.columns.rows c.put_flag.new.flags.items c.put_flag-2.new.flags.items
           c.put_row.ensures.rows c.put_flag.ensures c.put_flag-2.ensures;
+      vacated = shows_put c.args.place f.used f.live c.self.inside.vacant c.put_flag-2.new.flags.items c.put_flag.new.flags.items c.set.new.self true true
+          (in_live f c.self.inside.columns.kinds c.self.inside.spare.items c.args.self.now.places (ap (λ (h : Held). h.places) c.self.view_is)
+          c.self.invariant.sound c.args.place c.requires.within) (c.self.invariant.sound.uses ∙ sym c.self.invariant.sound.lives)
+          c.self.invariant.vacated c.put_flag-2.ensures c.put_flag.ensures c.set.ensures;
       numbered = still_numbered f.rows c.put_row.new.columns.rows c.args.place c.args.row.now c.put_row.ensures.rows c.self.invariant.numbered;
       indexed = same_fields c.self.inside.key (set f.rows c.args.place c.args.row.now) c.put_row.new.columns.rows (set c.as_slice.result.now c.args.place true)
           c.put_flag-2.new.flags.items c.put_key.new.index c.put_row.ensures.rows

@@ -5,6 +5,7 @@ use Rattle.std.proofs.lemmas.List.{length-replicate}
 use Rattle.hy_column.specs.Cells.{first_value}
 use Rattle.hy_chunk.proofs.Ranges.{covers_blank}
 use Rattle.hy_chunk.proofs.Places.{Fields, all_blank, sound_blank}
+use Rattle.hy_chunk.proofs.Vacating.{shows_blank}
 use Rattle.hy_chunk.proofs.positions.Positions.new.Goals as goal
 
 pub invariant_of-result : goal.invariant_of-result
@@ -21,6 +22,8 @@ invariant_of-result c =
           (c.in_ok-used.ensures.items_if_clones_equal (λ y e. e))
           (c.in_ok-deaths.ensures.items_if_clones_equal (λ y e. e)) c.in_ok-chains.ensures c.in_ok-columns.columns.kinds c.new-3.result.items
           c.in_ok-columns.ensures.kinds c.new-3.ensures.items;
+      vacated = shows_blank c.args.rows f.used f.live c.in_ok-vacant.vacant (c.in_ok-used.ensures.items_if_clones_equal (λ y e. e))
+          (c.in_ok-live.ensures.items_if_clones_equal (λ y e. e)) c.in_ok-vacant.ensures;
       numbered = omega (arith, ap length c.in_ok-columns.ensures.rows, length-replicate c.args.rows (map first_value c.args.kinds.now), c.requires);
       indexed = same_fields c.args.key f.rows f.rows (replicate c.args.rows false) f.used c.in_ok-index.index refl
           (c.in_ok-used.ensures.items_if_clones_equal (λ y e. e)) (c.in_ok-index.ensures f.rows);

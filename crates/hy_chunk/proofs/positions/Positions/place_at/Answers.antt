@@ -11,6 +11,7 @@ use Rattle.hy_chunk.specs.Sound.{FitsRow}
 use Rattle.hy_chunk.proofs.Places.{Fields, fields, in_rows, in_live, in_used, in_chains, fits_there}
 use Rattle.std.proofs.lemmas.List.{length-set}
 use Rattle.hy_chunk.proofs.PlaceAt.{placed_sound, placed_places, placed}
+use Rattle.hy_chunk.proofs.Vacating.{in_vacant, shows_put}
 use Rattle.hy_chunk.proofs.positions.Positions.place_at.Goals as goal
 
 pub clear-requires : goal.clear-requires
@@ -63,6 +64,13 @@ push_covered-requires-clause-within c =
       length-set f.chains c.args.place [],
     )
 
+pub set-requires : goal.set-requires
+set-requires c =
+    let f : Fields = fields c.self.inside in
+    in_vacant c.args.place f.used f.live c.self.inside.vacant c.self.invariant.vacated
+    (in_live f c.self.inside.columns.kinds c.self.inside.spare.items c.args.self.now.places (ap (λ (h : Held). h.places) c.self.view_is)
+    c.self.invariant.sound c.args.place c.requires.within)
+
 pub invariant_of-self : goal.invariant_of-self
 invariant_of-self c =
     let f : Fields = fields c.self.inside in
@@ -76,6 +84,10 @@ invariant_of-self c =
           c.take_spare-image.new.spare.items (c.take_spare-image.ensures.blank (length c.self.inside.columns.kinds) c.self.invariant.sound.blank)
           (c.take_spare-image.ensures.image (length c.self.inside.columns.kinds) c.self.invariant.sound.blank)
           c.put_row.ensures.rows c.put_flag.ensures c.put_flag-2.ensures c.clear.ensures.chains c.push_covered.ensures.chains;
+      vacated = shows_put c.args.place f.used f.live c.self.inside.vacant c.put_flag-2.new.flags.items c.put_flag.new.flags.items c.set.new.self true true
+          (in_live f c.self.inside.columns.kinds c.self.inside.spare.items c.args.self.now.places (ap (λ (h : Held). h.places) c.self.view_is)
+          c.self.invariant.sound c.args.place c.requires.within) (c.self.invariant.sound.uses ∙ sym c.self.invariant.sound.lives)
+          c.self.invariant.vacated c.put_flag-2.ensures c.put_flag.ensures c.set.ensures;
       numbered = still_numbered f.rows c.put_row.new.columns.rows c.args.place c.args.row.now c.put_row.ensures.rows c.self.invariant.numbered;
       indexed = same_fields c.self.inside.key (set f.rows c.args.place c.args.row.now) c.put_row.new.columns.rows (set c.as_slice.result.now c.args.place true)
           c.put_flag-2.new.flags.items c.put_key.new.index c.put_row.ensures.rows

@@ -20,6 +20,7 @@ invariant_of-self c =
     record {
       sound = pruned_sound f c.self.inside.columns.kinds c.self.inside.spare.items c.args.self.now.places (ap (λ (h : Held). h.places) c.self.view_is)
           c.self.invariant.sound c.args.place c.requires c.args.cover.now c.prune.new.self.chains c.prune.ensures.chains;
+      vacated = c.self.invariant.vacated;
       numbered = c.self.invariant.numbered;
       indexed = c.self.invariant.indexed;
       spared = spare_changed c.self.inside.key f.chains c.prune.new.self.chains c.args.place (pruned both c.args.cover.now (get_or f.chains c.args.place []))

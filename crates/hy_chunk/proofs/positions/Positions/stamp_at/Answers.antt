@@ -65,6 +65,7 @@ invariant_of-self c =
           c.put_time.new.times.items c.stamp_own.new.self.chains
           c.head-newest.result c.index.result.now c.index-2.result.now c.death_after-death.result c.head-newest.ensures live old
           c.death_after-death.ensures c.put_time.ensures c.stamp_own.ensures.chains;
+      vacated = c.self.invariant.vacated;
       numbered = c.self.invariant.numbered;
       indexed = c.self.invariant.indexed;
       spared = spare_changed c.self.inside.key f.chains c.stamp_own.new.self.chains c.args.place

@@ -12,8 +12,9 @@ use Rattle.std.proofs.Common.{Bool, false, List, [], get_or, length, refl, sym, 
 use Rattle.std.proofs.lemmas.List.{get_or_read}
 use Rattle.hy_chunk.specs.Views.{Held}
 use Rattle.hy_chunk.proofs.Over.{fits_length}
-use Rattle.hy_chunk.proofs.Places.{Fields, fields, in_rows, in_used, in_deaths, in_chains, fits_there}
-use Rattle.hy_chunk.proofs.UndoAt.{left_places, version_fits, undone_sound, undone_places}
+use Rattle.hy_chunk.proofs.Places.{Fields, fields, in_rows, in_live, in_used, in_deaths, in_chains, fits_there}
+use Rattle.hy_chunk.proofs.UndoAt.{left_places, left_sound, version_fits, undone_sound, undone_places}
+use Rattle.hy_chunk.proofs.Vacating.{in_vacant, shows_put}
 use Rattle.hy_chunk.proofs.positions.Positions.undo_at.Goals as goal
 
 pub pop_own-requires : goal.pop_own-requires
@@ -36,6 +37,29 @@ put_row-requires-clause-new c =
     c.self.invariant.sound c.args.place c.requires.within c.args.id c.pop_own.new.self.chains c.pop_own.ensures.chains c.in-Some.image
     c.in-Some.ensures.image c.read.new.row c.args.version.now.live c.apply.new.base c.read.ensures c.apply.ensures
 
+pub invariant_of-self : goal.invariant_of-self
+invariant_of-self c =
+    let f : Fields = fields c.self.inside in
+    record {
+      sound = left_sound f c.self.inside.columns.kinds c.self.inside.spare.items c.args.self.now.places (ap (λ (h : Held). h.places) c.self.view_is)
+          c.self.invariant.sound c.args.place c.requires.within c.args.id c.pop_own.new.self.chains c.pop_own.ensures.chains
+          (sym c.pop_own.ensures.image ∙ c.in_default.is);
+      vacated = c.self.invariant.vacated;
+      numbered = c.self.invariant.numbered;
+      indexed = c.self.invariant.indexed;
+      spared = spare_changed c.self.inside.key f.chains c.pop_own.new.self.chains c.args.place (without_own c.args.id (get_or f.chains c.args.place []))
+          c.pop_own.ensures.chains c.self.invariant.spared (λ k e s. without_spares k c.args.id (get_or f.chains c.args.place []) s);
+      covered = covers_less c.self.inside.versioned f.chains c.pop_own.new.self.chains c.args.place (without_own c.args.id (get_or f.chains c.args.place []))
+          c.self.invariant.covered c.pop_own.ensures.chains (without_none c.args.id (get_or f.chains c.args.place []));
+    }
+
+pub set-requires : goal.set-requires
+set-requires c =
+    let f : Fields = fields c.self.inside in
+    in_vacant c.args.place f.used f.live c.self.inside.vacant c.self.invariant.vacated
+    (in_live f c.self.inside.columns.kinds c.self.inside.spare.items c.args.self.now.places (ap (λ (h : Held). h.places) c.self.view_is)
+    c.self.invariant.sound c.args.place c.requires.within)
+
 pub invariant_of-self-2 : goal.invariant_of-self-2
 invariant_of-self-2 c =
     let f : Fields = fields c.self.inside in
@@ -53,6 +77,12 @@ invariant_of-self-2 c =
           c.put_row.new.columns.kinds c.put_row.ensures.kinds c.put_row.new.columns.rows c.put_flag.new.flags.items c.put_flag-2.new.flags.items
           c.index.result.now c.used_after-used.result c.index-2.result.now c.put_row.ensures.rows c.put_flag.ensures used death
           c.used_after-used.ensures c.put_flag-2.ensures;
+      vacated = shows_put c.args.place f.used f.live c.self.inside.vacant c.put_flag-2.new.flags.items c.put_flag.new.flags.items c.set.new.self
+          c.used_after-used.result c.apply.new.base.live
+          (in_live f c.self.inside.columns.kinds c.self.inside.spare.items c.args.self.now.places (ap (λ (h : Held). h.places) c.self.view_is)
+          c.self.invariant.sound c.args.place c.requires.within) (c.self.invariant.sound.uses ∙ sym c.self.invariant.sound.lives)
+          c.self.invariant.vacated c.put_flag-2.ensures c.put_flag.ensures
+          (c.set.ensures ∙ ap (λ (b : Bool). set c.self.inside.vacant c.args.place b) c.is_vacant.ensures);
       numbered = still_numbered f.rows c.put_row.new.columns.rows c.args.place c.apply.new.base.row c.put_row.ensures.rows c.self.invariant.numbered;
       indexed = same_key c.self.inside.key f.rows c.put_row.new.columns.rows c.put_flag-2.new.flags.items c.keep_key.new.index c.args.place c.apply.new.base.row
           (in_rows f c.self.inside.columns.kinds c.self.inside.spare.items c.args.self.now.places (ap (λ (h : Held). h.places) c.self.view_is)

@@ -4,16 +4,19 @@ use Rattle.hy_chunk.proofs.Spared.{spare_changed, spares_at, same_at, taken_spar
 use Rattle.hy_chunk.specs.Keyed.{SameKey}
 use Rattle.hy_undo.specs.Places.{Place}
 use Rattle.hy_value.specs.declared.Value.{Value}
-use Rattle.std.proofs.Common.{ℕ, List, [], ◌∷◌, length, get_or, Option, None, sym, ap, ◌∙◌, subst, arith}
+use Rattle.std.proofs.Common.{◌≡◌, ℕ, Bool, true, false, List, [], ◌∷◌, length, get_or, Option, None, sym, ap, ◌∙◌, subst, arith}
+use Rattle.std.specs.Prelude.{◌&&◌, not}
+use Rattle.std.proofs.Math.ListN.{set}
 use Rattle.hy_value.specs.declared.Kind.{Kind}
 use Rattle.hy_chain.specs.Chains.{Undo, without_own}
 use Rattle.hy_undo.specs.Images.{Image}
 use Rattle.hy_chunk.specs.Views.{Held}
 use Rattle.hy_chunk.specs.Sound.{FitsRow}
-use Rattle.hy_chunk.proofs.Places.{Fields, fields, nth_is, in_rows, in_live, in_chains, fits_there}
+use Rattle.hy_chunk.proofs.Places.{Fields, fields, at, nth_is, in_rows, in_live, in_chains, fits_there}
 use Rattle.hy_chunk.specs.Noting.{own_stamp}
-use Rattle.std.proofs.lemmas.List.{length-set}
+use Rattle.std.proofs.lemmas.List.{length-set, set-get_or}
 use Rattle.hy_chunk.proofs.WriteAt.{taken_fits, written_sound, written_places, written}
+use Rattle.hy_chunk.proofs.Vacating.{in_vacant, shows_put, used_where_live}
 use Rattle.hy_chunk.proofs.positions.Positions.write_at.Goals as goal
 
 pub head-newest-requires : goal.head-newest-requires
@@ -71,6 +74,13 @@ push_covered-requires-clause-within c =
           (without_own c.args.viewer.now.id (get_or f.chains c.args.place [])),
     )
 
+pub set-requires : goal.set-requires
+set-requires c =
+    let f : Fields = fields c.self.inside in
+    in_vacant c.args.place f.used f.live c.self.inside.vacant c.self.invariant.vacated
+    (in_live f c.self.inside.columns.kinds c.self.inside.spare.items c.args.self.now.places (ap (λ (h : Held). h.places) c.self.view_is)
+    c.self.invariant.sound c.args.place c.requires.within)
+
 pub invariant_of-self : goal.invariant_of-self
 invariant_of-self c =
     let f : Fields = fields c.self.inside in
@@ -81,6 +91,10 @@ invariant_of-self c =
     subst (λ (key : Option ℕ). SameKey key c.args.version.now.row (get_or f.rows c.args.place [])) (sym (ap (λ (h : Held). h.key) c.self.view_is))
     (subst (λ (p : Place). SameKey c.args.self.now.key c.args.version.now.row p.version.row)
     (nth_is f c.args.self.now.places c.args.place view c.requires.within) c.requires.same_key) in
+    let there = nth_is f c.args.self.now.places c.args.place view c.requires.within in
+    let used : get_or f.used c.args.place false ≡ true = used_where_live (at f c.args.place)
+    (fits_there f c.self.inside.columns.kinds c.self.inside.spare.items c.args.self.now.places view c.self.invariant.sound c.args.place
+    c.requires.within).unused.row (ap (λ (p : Place). p.version.live) (sym there) ∙ c.requires.live) in
     record {
       sound = written_sound f c.self.inside.columns.kinds c.self.inside.spare.items c.args.self.now.places
           (ap (λ (h : Held). h.places) c.self.view_is) c.self.invariant.sound c.args.place c.requires.within c.args.viewer.now c.args.label
@@ -94,6 +108,12 @@ invariant_of-self c =
           c.exchange_row.ensures.rows c.put_flag.ensures c.exchange_row.ensures.values c.exchange_row.ensures.live
           (c.stamp_over-stamp.ensures ∙ ap (own_stamp c.args.label c.args.viewer.now.id) c.head-newest.ensures) c.take_image-image.ensures.chains
           c.push_covered.ensures.chains;
+      vacated = shows_put c.args.place f.used f.live c.self.inside.vacant f.used c.put_flag.new.flags.items c.set.new.self
+          (get_or f.used c.args.place false) c.args.version.now.live
+          (in_live f c.self.inside.columns.kinds c.self.inside.spare.items c.args.self.now.places view c.self.invariant.sound c.args.place c.requires.within)
+          (c.self.invariant.sound.uses ∙ sym c.self.invariant.sound.lives) c.self.invariant.vacated (sym (set-get_or f.used c.args.place false))
+          c.put_flag.ensures
+          (c.set.ensures ∙ ap (λ (b : Bool). set c.self.inside.vacant c.args.place (not (b && c.args.version.now.live))) (sym used));
       numbered = still_numbered f.rows c.exchange_row.new.columns.rows c.args.place c.args.version.now.row c.exchange_row.ensures.rows
           c.self.invariant.numbered;
       indexed = same_key c.self.inside.key f.rows c.exchange_row.new.columns.rows f.used c.self.inside.index c.args.place c.args.version.now.row inside

@@ -1,5 +1,5 @@
 -- The bits of the positions that may take a new row, when one position changes.
-use Rattle.std.proofs.Common.{◌≡◌, ℕ, zero, suc, ◌<◌, ◌≤◌, Bool, true, false, List, ◌∷◌, map, length, get_or, replicate, refl, sym, ap, ◌∙◌, subst, arith, inl, inr}
+use Rattle.std.proofs.Common.{◌≡◌, ℕ, ◌<◌, ◌≤◌, Bool, true, false, List, length, get_or, replicate, refl, sym, ap, ◌∙◌, subst, arith, inl, inr}
 use Rattle.std.specs.Prelude.{◌&&◌, ◌||◌, not, nat_lt}
 use Rattle.std.proofs.Math.ListN.{set}
 use Rattle.std.proofs.lemmas.Bool.{cases_Bool, cases_eq, and_parts}
@@ -53,13 +53,6 @@ shows_blank n used live vacant u l v = record {
       ∙ (get_or-replicate n k true false within
       ∙ sym ((λ i. not (get_or (u i) k false && get_or live k false)) ∙ ap (λ (b : Bool). not (b && get_or live k false)) (get_or-replicate n k false false within)));
 }
-
-turned : (n : ℕ) → map not (replicate n false) ≡ replicate n true
-turned zero = refl
-turned (suc n) = ap (λ (bits : List Bool). true ∷ bits) (turned n)
-
-pub all_turned : (n : ℕ) (bits : List Bool) → bits ≡ replicate n false → map not bits ≡ replicate n true
-all_turned n bits e = ap (map not) e ∙ turned n
 
 -- a row is only in place at a used position
 pub used_where_live : (place : Place) → (place.used ≡ false → place.version.live ≡ false) → place.version.live ≡ true → place.used ≡ true

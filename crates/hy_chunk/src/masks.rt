@@ -79,7 +79,7 @@ fn admitted_by_one(
 }
 
 /// So many bits, all of them set. Err is for want of memory.
-fn all_set(alloc: Global, bits: usize) -> Result<Mask, AllocError>
+pub fn all_set(alloc: Global, bits: usize) -> Result<Mask, AllocError>
     ensures { IfOk result (λ mask. mask ≡ replicate bits true) }
 {
     let mut mask = Mask::new(alloc, bits)?;

@@ -23,6 +23,7 @@ ghost use Rattle.hy_chunk.specs.Noting.{own_stamp, own_or_blank};
 ghost use Rattle.hy_chunk.specs.Steps.{loaded_place, NoneFree};
 
 use crate::lookup::{keep_key, new_index, put_key};
+use crate::masks::all_set;
 use crate::rows::{exchange_row, put_row};
 use hy_chain::{Chains, Image};
 use hy_column::Columns;
@@ -96,15 +97,6 @@ impl PlacedRows for Positions {
     fn refer(&self, place: usize, column: usize) -> ValueRef<'_> {
         self.columns.refer(place, column)
     }
-}
-
-/// So many bits, all of them set. Err is for want of memory.
-fn all_set(alloc: Global, bits: usize) -> Result<Mask, AllocError>
-    ensures { IfOk result (λ mask. mask ≡ replicate bits true) }
-{
-    let mut mask = Mask::new(alloc, bits)?;
-    mask.invert();
-    Ok(mask)
 }
 
 /// Puts a flag at a place.

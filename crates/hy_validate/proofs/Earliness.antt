@@ -60,7 +60,8 @@ first_of_hit same before after was is changes f g t = ((and_parts same ((was || 
     by : (before ≡ true) ⊎ (before ≡ false) → (after ≡ true) ⊎ (after ≡ false) → (before ≡ true) ⊎ (after ≡ true)
     by (inl b) _ = inl b
     by (inr _) (inl a) = inr a
-    by (inr b) (inr a) = absurd (both_ways (was || is) (or_from was is (f b) (g a)) (and_parts (was || is) changes (and_parts same ((was || is) && changes) t).1).0)
+    by (inr b) (inr a) =
+        absurd (both_ways (was || is) (or_from was is (f b) (g a)) (and_parts (was || is) changes (and_parts same ((was || is) && changes) t).1).0)
 
 -- a change that hits a record is of its table, and makes the record's first condition true before or after it
 pub record MeetsFirst (table : ℕ) (first : Condition) (change : Change) : Type 0 where
@@ -103,8 +104,8 @@ group_missed records upto group change filed not_asked =
     (elim meets.either [ inl b ↦ or_left _ _ b | inr a ↦ or_right _ _ a ])))
 
 -- one more group: the earlier of what it has and of what those before it have
-pub one_group_more : (groups : List Group) (i : ℕ) (group : Group) (is_hit : ℕ → Bool) (first found : Option ℕ) → i < length groups → get_or groups i group ≡ group
-    → Finds is_hit (InFirst groups i) first → Finds is_hit (Contains group.numbers.items) found
+pub one_group_more : (groups : List Group) (i : ℕ) (group : Group) (is_hit : ℕ → Bool) (first found : Option ℕ)
+    → i < length groups → get_or groups i group ≡ group → Finds is_hit (InFirst groups i) first → Finds is_hit (Contains group.numbers.items) found
     → Finds is_hit (InFirst groups (i + 1)) (earlier_of first found)
 one_group_more groups i group is_hit first found within is a b =
     finds_both is_hit (InFirst groups i) (Contains group.numbers.items) (InFirst groups (i + 1)) first found a b (λ n c t. split n c (cases_lt c.at i))

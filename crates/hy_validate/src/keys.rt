@@ -163,6 +163,9 @@ impl<'a> KeyedRecords<'a> {
         requires sorted { IsSorted keyed_cmp self.now.places.items }
         ensures { Finds (is_hit_number records.now change.now) (HasNumber self.now.places.items) result }
     {
+        if self.places.is_empty() {
+            return None;
+        }
         let before = first_in_row(records, self, change, change.before.as_ref());
         let after = first_in_row(records, self, change, change.after.as_ref());
         earlier(before, after)

@@ -1,10 +1,17 @@
-use Rattle.std.proofs.Common.{rules, ◌≡◌, List, Option, sym, subst}
+use Rattle.std.proofs.Common.{rules, ◌≡◌, List, Option, length, sym, arith, subst}
 use Rattle.std.specs.Option.{option_copied}
 use Rattle.hy_value.specs.declared.Value.{Value}
 use Rattle.hy_validate.specs.Keys.{HasNumber, HasTrue}
 use Rattle.hy_validate.specs.TreeHits.{is_hit_number, Finds, earlier_of}
+use Rattle.hy_validate.proofs.Least.{finds_none}
 use Rattle.hy_validate.proofs.Sought.{in_either_row}
 use Rattle.hy_validate.proofs.keys.KeyedRecords.first_hit.Goals as goal
+
+pub returns-then-is_empty : goal.returns-then-is_empty
+returns-then-is_empty c =
+    let places = c.args.self.now.places.items in
+    let none : length places ≡ 0 = search rules in
+    finds_none (is_hit_number c.args.records.now c.args.change.now) (HasNumber places) (λ n a t. let l = a.2 in absurd (omega arith))
 
 pub returns : goal.returns
 returns c =

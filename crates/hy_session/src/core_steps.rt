@@ -72,8 +72,12 @@ fn validate(alloc: Global, core: &Core, now: &OpenTransaction) -> Result<CoreSte
     ensures stays { IfOk result (λ step. leaves step ≡ false) }
 {
     let records = now.records.records();
-    let tree = Tree::build(alloc, records)?;
     let since = elements_behind(core.since(0), now.prefix as usize);
+    // Most often nobody committed meanwhile, and nothing is looked for.
+    if since.is_empty() {
+        return Ok(CoreStep::Enter);
+    }
+    let tree = Tree::build(alloc, records)?;
     match validate_with(&tree, since) {
         Ok(()) => Ok(CoreStep::Enter),
         Err(invalid) => Ok(CoreStep::Refuse(refusal(records, invalid))),

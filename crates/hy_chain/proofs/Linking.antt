@@ -1,5 +1,5 @@
 -- Chains in a slab, one of them changed.
-use Rattle.std.proofs.Common.{◌≡◌, ◌≢◌, ℕ, zero, suc, ◌+◌, ◌-◌, ◌<◌, ◌≤◌, Bool, true, false, List, [], ◌∷◌, length, map, replicate, get_or, None, Some, refl, sym, ap, ◌∙◌, cond, inl, inr, arith, subst}
+use Rattle.std.proofs.Common.{◌≡◌, ◌≢◌, ℕ, zero, suc, ◌+◌, ◌-◌, ◌<◌, ◌≤◌, Bool, true, false, List, [], ◌∷◌, length, map, replicate, get_or, Option, None, Some, refl, sym, ap, ◌∙◌, cond, inl, inr, arith, subst}
 use Rattle.std.specs.Prelude.{◌==◌, sum_by}
 use Rattle.std.proofs.Math.ListN.{set}
 use Rattle.std.proofs.lemmas.Bool.{cases_eq, eq-eqb, ne_eqb}
@@ -157,6 +157,15 @@ module _ {D : Type 0} where
   pub own_lies : (nodes : Slab (Node D)) (heads : List Head) (sound : Sound nodes heads) (pos : ℕ) (head : Head) → pos < length heads → head ≡ get_or heads pos head
       → Lies nodes head.len head.key (sound.keys pos)
   own_lies nodes heads sound pos head l e = subst (λ (h : Head). Lies nodes h.len h.key (sound.keys pos)) (sym (head_at heads pos head l e)) (sound.lies pos l)
+
+  -- a chain has as many records as its head says
+  pub walk_length : (nodes : Slab (Node D)) (len key : ℕ) (keys : List ℕ) → Lies nodes len key keys → length (walk nodes len key) ≡ len
+  walk_length nodes zero key keys lies = refl
+  walk_length nodes (suc len) key [] lies = absurd lies
+  walk_length nodes (suc len) key (k ∷ keys) lies =
+      let node = lies.1.0 in
+      let here : get nodes key ≡ Some node = ap (get nodes) lies.0 ∙ lies.1.1 in
+      ap (λ (found : Option (Node D)). length (in_front (walk nodes len) found)) here ∙ ap suc (walk_length nodes len node.older keys lies.1.2)
 
   -- a vacant key is in no chain
   pub fresh : (nodes : Slab (Node D)) (len at : ℕ) (keys : List ℕ) (key : ℕ) → get nodes key ≡ None → Lies nodes len at keys → Has key keys → ⊥

@@ -69,6 +69,14 @@ impl<D: Image> Chains<D> {
         self.lists.head(pos)
     }
 
+    /// How many records a position has.
+    pub fn count(&self, pos: usize) -> usize
+        requires { pos < length self.now.chains }
+        ensures { result ≡ length (slice_index_or self.now.chains pos []) }
+    {
+        self.lists.count(pos)
+    }
+
     /// Whom a write by a viewer at a position would be in conflict with: the owner of the newest record, where
     /// the viewer's view goes past it.
     pub fn rival(&self, pos: usize, viewer: &Viewer) -> Option<Label>

@@ -101,6 +101,15 @@ impl<D: Image> Lists<D> {
         }
     }
 
+    /// How many records a list has.
+    pub fn count(&self, list: usize) -> usize
+        requires { list < length self.now.chains }
+        ensures { result ≡ length (slice_index_or self.now.chains list []) }
+    {
+        let head = self.heads[list];
+        head.len
+    }
+
     /// Puts a record in front of a list, where there is room. It takes no memory, and no more room than that.
     pub fn push_reserved(&mut self, list: usize, stamp: Stamp, image: D)
         requires within { list < length self.old.chains }

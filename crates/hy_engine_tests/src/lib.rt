@@ -11,6 +11,8 @@ mod columns;
 #[cfg(test)]
 mod cores;
 #[cfg(test)]
+mod notes;
+#[cfg(test)]
 mod plain;
 #[cfg(test)]
 mod predicate_tree;

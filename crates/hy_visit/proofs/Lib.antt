@@ -12,3 +12,4 @@ pub mod JoinedColumns
 pub mod Alike
 mod OnePart
 mod Plans
+pub mod Wide

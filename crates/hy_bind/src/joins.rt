@@ -49,7 +49,7 @@ fn join_fault(scope: &Scope, join: &Join) -> Option<BindFault>
 pub fn ons(alloc: Global, scope: &Scope, joins: &[Join]) -> Result<Ons, AllocError>
     ensures { IfOk result (λ all. all ≡ ons_bound (scope_of scope.now) 2 joins.now) }
 {
-    let mut all = Vec::new(alloc);
+    let mut all = Vec::with_capacity(alloc, joins.len())?;
     for (i, join) in joins.iter().enumerate() {
         all.push(on(&visible(scope, i + 2), join)?)?;
     }

@@ -41,7 +41,7 @@ pub fn bind(
     ensures accepts { OnOk result (bind_fault script.now catalog.now (statement_of ast.now) ≡ None) }
     ensures refuses { IfErr result (λ error. Fails error (bind_fault script.now catalog.now (statement_of ast.now))) }
 {
-    let Some(table) = tables::only(ast) else {
+    let (table, []) = tables::table_and_joins(ast) else {
         return joined(alloc, script, catalog, ast);
     };
     let Some(number) = catalog.find(text_in(script, table)) else {
@@ -65,7 +65,8 @@ fn joined(
     requires { NamesTables (statement_of ast.now) }
     ensures { Binds result (bind_fault script.now catalog.now (statement_of ast.now)) (bound_of script.now catalog.now (statement_of ast.now)) }
 {
-    let tables = tables::tables(alloc, ast)?;
+    let (table, joins) = tables::table_and_joins(ast);
+    let tables = tables::joined_tables(alloc, table, joins)?;
     match tables::numbers(alloc, script, catalog, tables.as_slice())? {
         Some(numbers) => {
             let scope = Scope {

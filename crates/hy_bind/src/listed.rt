@@ -73,7 +73,7 @@ fn all_columns(alloc: Global, scope: &Scope) -> Result<Numbers, AllocError>
     ensures { IfOk result (λ numbers. numbers ≡ range_with_len 0 (total_width scope.now.catalog.now scope.now.tables.now)) }
 {
     let width = u32::try_from(joined_width(scope)).map_err(|_| AllocError)?;
-    let mut numbers = Vec::new(alloc);
+    let mut numbers = Vec::with_capacity(alloc, width as usize)?;
     for number in 0..width {
         numbers.push(number)?;
     }
@@ -95,7 +95,7 @@ fn joined_width(scope: &Scope) -> u128
 fn columns(alloc: Global, scope: &Scope, references: &[ColumnRef]) -> Result<Numbers, AllocError>
     ensures { IfOk result (λ numbers. numbers ≡ map (column_of (scope_of scope.now)) references.now) }
 {
-    let mut numbers = Vec::new(alloc);
+    let mut numbers = Vec::with_capacity(alloc, references.len())?;
     for reference in references {
         numbers.push(column(scope, reference)?)?;
     }

@@ -117,7 +117,7 @@ fn is_null(literal: Option<&Literal>) -> bool
 fn row(alloc: Global, script: &[u8], literals: &[Literal]) -> Result<Row, AllocError>
     ensures { IfOk result (λ row. row ≡ map (literal_value script.now) literals.now) }
 {
-    let mut values = Vec::new(alloc);
+    let mut values = Vec::with_capacity(alloc, literals.len())?;
     for literal in literals {
         values.push(value(alloc, script, literal)?)?;
     }
@@ -164,7 +164,7 @@ pub fn delete(alloc: Global, scope: &Scope, condition: Option<&Test>) -> Result<
 fn columns_set(alloc: Global, sets: &[SetClause]) -> Result<Vec<Span>, AllocError>
     ensures { IfOk result (λ spans. spans.items ≡ map (λ set. set.column) (map set_clause_of sets.now)) }
 {
-    let mut spans = Vec::new(alloc);
+    let mut spans = Vec::with_capacity(alloc, sets.len())?;
     for set in sets {
         spans.push(set.column)?;
     }
@@ -218,7 +218,7 @@ fn assignments(
     ensures sets { IfOk result (λ found. found.1 ≡ map (set_bound (scope_of scope.now)) (map set_clause_of sets.now)) }
 {
     let mut fault = None;
-    let mut all = Vec::new(alloc);
+    let mut all = Vec::with_capacity(alloc, sets.len())?;
     for set in sets {
         let (unfit, assign) = assignment(alloc, scope, set)?;
         fault = first_of(fault, unfit);

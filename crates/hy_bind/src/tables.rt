@@ -1,10 +1,10 @@
 //! The tables that a statement names.
 
-ghost use Rattle.std.specs.Prelude.{◌≡◌, [], ◌∷◌, Some, None, map, IfOk, IfSome};
+ghost use Rattle.std.specs.Prelude.{◌≡◌, ◌∷◌, Some, None, map, IfOk};
 ghost use Rattle.std.specs.Option.{option_map};
 ghost use Rattle.hy_ast.specs.Trees.{statement_of, selection_of};
 ghost use Rattle.hy_bind.specs.Literals.{text_of_span};
-ghost use Rattle.hy_bind.specs.Statements.{repeats, numbers_of, tables_of};
+ghost use Rattle.hy_bind.specs.Statements.{NamesTables, repeats, numbers_of, tables_of};
 ghost use Rattle.hy_ast.specs.Trees as tree;
 
 use crate::literals::text_in;
@@ -13,54 +13,27 @@ use hy_schema::{Catalog, Names};
 use hy_token::Span;
 use std::alloc::{AllocError, Global};
 
-/// The span of the table of a statement that names no other, as most do.
-pub fn only(ast: &Statement) -> Option<Span>
-    ensures { IfSome result (λ table. tables_of (statement_of ast.now) ≡ table ∷ []) }
+/// The span of the first table that a statement names, and the joins of others to it.
+pub fn table_and_joins(ast: &Statement) -> (Span, &[Join])
+    requires { NamesTables (statement_of ast.now) }
+    ensures { tables_of (statement_of ast.now) ≡ result.0 ∷ map (λ join. join.table) result.1.now }
 {
     match ast {
         Statement::Insert { table, .. }
         | Statement::Update { table, .. }
-        | Statement::Delete { table, .. } => Some(*table),
-        Statement::Select(query) => only_of(query),
-        _ => None,
+        | Statement::Delete { table, .. } => (*table, &[]),
+        Statement::Select(query) => from_clause(query),
+        _ => unreachable!(),
     }
 }
 
-/// The span of the table of a SELECT that names no other.
-fn only_of(query: &Selection) -> Option<Span>
-    ensures { IfSome result (λ table. tables_of (tree.Select (selection_of query.now)) ≡ table ∷ []) }
+/// The span of the first table of a SELECT, and the joins of others to it.
+fn from_clause(query: &Selection) -> (Span, &[Join])
+    ensures { tables_of (tree.Select (selection_of query.now)) ≡ result.0 ∷ map (λ join. join.table) result.1.now }
 {
     match query {
-        Selection::Rows { table, joins, .. } => match joins.as_slice() {
-            [] => Some(*table),
-            _ => None,
-        },
-        Selection::Count { table, .. } | Selection::Groups { table, .. } => Some(*table),
-    }
-}
-
-/// The spans of the tables that a statement names, in order.
-pub fn tables(alloc: Global, ast: &Statement) -> Result<Vec<Span>, AllocError>
-    ensures { IfOk result (λ tables. tables.items ≡ tables_of (statement_of ast.now)) }
-{
-    match ast {
-        Statement::Insert { table, .. }
-        | Statement::Update { table, .. }
-        | Statement::Delete { table, .. } => { Vec::from_slice(alloc, &[*table]) }
-        Statement::Select(query) => query_tables(alloc, query),
-        _ => Ok(Vec::new(alloc)),
-    }
-}
-
-/// The spans of the tables of a SELECT, in FROM order.
-fn query_tables(alloc: Global, query: &Selection) -> Result<Vec<Span>, AllocError>
-    ensures { IfOk result (λ tables. tables.items ≡ tables_of (tree.Select (selection_of query.now))) }
-{
-    match query {
-        Selection::Rows { table, joins, .. } => joined_tables(alloc, *table, joins.as_slice()),
-        Selection::Count { table, .. } | Selection::Groups { table, .. } => {
-            Vec::from_slice(alloc, &[*table])
-        }
+        Selection::Rows { table, joins, .. } => (*table, joins.as_slice()),
+        Selection::Count { table, .. } | Selection::Groups { table, .. } => (*table, &[]),
     }
 }
 
@@ -85,7 +58,7 @@ pub fn numbers(
 ) -> Result<Option<Vec<u32>>, AllocError>
     ensures { IfOk result (λ found. option_map (λ numbers. numbers.items) found ≡ numbers_of script.now catalog.now tables.now) }
 {
-    let mut numbers = Vec::new(alloc);
+    let mut numbers = Vec::with_capacity(alloc, tables.len())?;
     for table in tables {
         let Some(number) = catalog.find(text_in(script, *table)) else {
             return Ok(None);

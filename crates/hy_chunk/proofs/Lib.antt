@@ -18,6 +18,8 @@ pub mod Sweeping
 pub mod Gathers
 pub mod Ranges
 pub mod Vacating
+pub mod Settling
+pub mod Walking
 pub mod Indexing
 pub mod Spared
 pub mod Found

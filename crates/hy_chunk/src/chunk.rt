@@ -20,10 +20,12 @@ ghost use Rattle.hy_chunk.specs.Keyed.{is_key_of};
 ghost use Rattle.hy_chunk.specs.Masked.{Admits, Confirms};
 ghost use Rattle.hy_chunk.specs.Parts.{part_of};
 ghost use Rattle.hy_bound.specs.Records.{conjuncts};
+ghost use Rattle.hy_chunk.specs.Settled.{Settles};
 ghost use Rattle.hy_chunk.specs.Sound.{FitsRow};
 ghost use Rattle.hy_chunk.specs.Steps.{loaded_place, least_free, IsPut};
 ghost use Rattle.hy_chunk.specs.Views.{with_places};
 ghost use Rattle.hy_chunk.specs.Writes.{FitsWrite, IsDone, refusal_in, sets_of};
+ghost use Rattle.hy_undo.specs.Steps.{pruned_place};
 ghost use Rattle.hy_undo.specs.Sweeps.{swept};
 ghost use Rattle.hy_stamp.specs.declared.Viewer.{Viewer};
 ghost use Rattle.hy_value.specs.declared.Value.{Value};
@@ -35,6 +37,7 @@ use crate::gathering::{
 };
 use crate::masks::{Scan, admitted, is_passed, may_select};
 use crate::positions::{Part, Positions};
+use crate::settled::Settled;
 use crate::writes::{is_selected, make_next, note, refusal_at};
 use hy_bound::{Pred, WriteKind};
 use hy_kernel::Mask;
@@ -57,6 +60,8 @@ pub struct Chunk {
     table: u32,
     first: u32,
     positions: Positions,
+    /// Where a stamp, an undo or a prune has something to do.
+    settled: Settled,
     /// Versions to work on, so that neither looking nor writing needs memory.
     seen: Version,
     next: Version,
@@ -77,7 +82,8 @@ impl Model for Chunk {
       room = a.positions.room;
     } };
 
-    ghost invariant = { λ a. IsWhole a.first (length a.positions.places) (length a.positions.kinds) (length a.seen.row) (length a.next.row) };
+    ghost invariant = { λ a. IsWhole a.first (length a.positions.places) (length a.positions.kinds) (length a.seen.row) (length a.next.row)
+        a.settled a.positions.places };
 }
 
 /// An UPDATE or a DELETE of a viewer, and the positions at which its condition may select a row.
@@ -146,6 +152,33 @@ fn find_in(
     false
 }
 
+/// Prunes the chain of a position that has to be looked at, and answers whether it is empty then.
+fn prune_at(positions: &mut Positions, settled: &mut Settled, place: usize, cover: &Cover) -> bool
+    requires within { place < length positions.old.places }
+    requires settles { Settles settled.old positions.old.places }
+    requires fresh { slice_index_or settled.old.fresh place false ≡ true }
+    ensures kinds { positions.new.kinds ≡ positions.old.kinds }
+    ensures key { positions.new.key ≡ positions.old.key }
+    ensures places { positions.new.places ≡ slice_set positions.old.places place (pruned_place cover.now (nth positions.old.places place)) }
+    ensures room { positions.old.room ≤ positions.new.room }
+    ensures settles { Settles settled.new positions.new.places }
+    ensures after { watermark_of cover.now ≤ settled.old.after → watermark_of cover.now ≤ settled.new.after }
+{
+    positions.prune_at(place, cover);
+    let left = positions.count(place);
+    settled.settle(place, left, positions.newest(place), cover);
+    left == 0
+}
+
+/// Makes the range of the positions that may have records smaller, where some were emptied.
+fn narrow_where(positions: &mut Positions, emptied: bool)
+    ensures { positions.new ≡ positions.old }
+{
+    if emptied {
+        positions.narrow();
+    }
+}
+
 impl Chunk {
     /// So many unused positions from `first` on of a table whose columns have these types; one of them may be its key.
     /// Err is for want of memory.
@@ -163,12 +196,14 @@ impl Chunk {
         ensures kinds { IfOk result (λ chunk. chunk.kinds ≡ kinds.now) }
     {
         let positions = Positions::new(alloc, kinds, rows, key)?;
+        let settled = Settled::new(alloc, rows)?;
         let seen = blank_version(alloc, kinds.len())?;
         let next = blank_version(alloc, kinds.len())?;
         Ok(Chunk {
             table,
             first,
             positions,
+            settled,
             seen,
             next,
         })
@@ -199,8 +234,12 @@ impl Chunk {
     {
         hy_undo::places_step();
         let part = self.positions.versioned_part();
-        for place in part.first..part.end {
+        self.settled.look_for(id, part);
+        let end = self.positions.len();
+        let mut place = self.settled.next(0);
+        while place < end {
             self.positions.stamp_at(place, id, time);
+            place = self.settled.next(place + 1);
         }
     }
 
@@ -212,8 +251,12 @@ impl Chunk {
     {
         hy_undo::places_step();
         let part = self.positions.versioned_part();
-        for place in part.first..part.end {
+        self.settled.look_for(id, part);
+        let end = self.positions.len();
+        let mut place = self.settled.next(0);
+        while place < end {
             self.positions.undo_at(place, id, &mut self.seen);
+            place = self.settled.next(place + 1);
         }
     }
 
@@ -226,10 +269,15 @@ impl Chunk {
     {
         hy_undo::places_step();
         let part = self.positions.versioned_part();
-        for place in part.first..part.end {
-            self.positions.prune_at(place, cover);
+        self.settled.look_below(watermark(cover), part);
+        let end = self.positions.len();
+        let mut emptied = false;
+        let mut place = self.settled.next(0);
+        while place < end {
+            emptied |= prune_at(&mut self.positions, &mut self.settled, place, cover);
+            place = self.settled.next(place + 1);
         }
-        self.positions.narrow();
+        narrow_where(&mut self.positions, emptied);
     }
 
     /// Puts a first row into an unused position.
@@ -583,6 +631,7 @@ impl Chunk {
             return Err(NoRoom);
         }
         self.positions.place_at(place, viewer, label, row);
+        self.settled.touch(place);
         let pos = self.first + place as u32;
         changes.note_reserved(self.table, pos, None, Some(row));
         Ok(pos)
@@ -680,6 +729,7 @@ impl Chunk {
             make_next(sweep.kind, &self.seen.row, &mut self.next);
             self.positions
                 .write_at(place, sweep.viewer, label, &self.next);
+            self.settled.touch(place);
             let pos = self.first + number;
             note(changes, self.table, pos, &self.seen.row, &self.next);
             written += 1;

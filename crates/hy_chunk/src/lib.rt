@@ -9,6 +9,7 @@ mod lookup;
 mod masks;
 mod positions;
 mod rows;
+mod settled;
 mod writes;
 
 pub use chunk::{Chunk, NoRoom, Sweep};

@@ -9,7 +9,7 @@ ghost use Rattle.hy_value.specs.declared.Kind.{Kind};
 ghost use Rattle.std.specs.List.{AllByRecursion};
 ghost use Rattle.std.specs.List.Sorted.{IsStrictlyIncreasing};
 ghost use Rattle.hy_value.specs.declared.Value.{Value};
-ghost use Rattle.hy_chain.specs.Chains.{rival, seen as seen_through, without_own};
+ghost use Rattle.hy_chain.specs.Chains.{newest as newest_of, rival, seen as seen_through, without_own};
 ghost use Rattle.hy_undo.specs.Images.{before};
 ghost use Rattle.hy_undo.specs.Places.{cell_of, is_free, is_older};
 ghost use Rattle.hy_undo.specs.Chunks.{is_own, Placed, Written};
@@ -542,6 +542,22 @@ impl Positions {
         ensures { result ≡ false → (nth self.now.places place).chain ≡ [] }
     {
         is_in(self.versioned, place) && self.chains.head(place).is_some()
+    }
+
+    /// The stamp of the newest record of a position, if it has one.
+    pub fn newest(&self, place: usize) -> Option<Stamp>
+        requires { place < length self.now.places }
+        ensures { result ≡ newest_of (nth self.now.places place).chain }
+    {
+        self.chains.head(place)
+    }
+
+    /// How many records a position has.
+    pub fn count(&self, place: usize) -> usize
+        requires { place < length self.now.places }
+        ensures { result ≡ length (nth self.now.places place).chain }
+    {
+        self.chains.count(place)
     }
 
     /// The part that has all positions with records: at the others every viewer sees what is in place.

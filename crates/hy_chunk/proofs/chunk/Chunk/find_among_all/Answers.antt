@@ -23,7 +23,7 @@ invariant_of-self-then-has_value c =
     (length c.see.new.version.row) (length c.loop-place.self-inside.next.row)
     c.self.invariant v.first (ap (λ (h : Held). length h.places) v.positions) (ap (λ (h : Held). length h.kinds) v.positions)
     (fits_length c.loop-place.self-inside.positions.kinds c.see.new.version.row c.see.ensures.fits
-    ∙ ap (λ (h : Held). length h.kinds) c.loop-place.invariant.positions) v.next
+    ∙ ap (λ (h : Held). length h.kinds) c.loop-place.invariant.positions) v.next v.settles
 
 pub returns-then-has_value-clause-found : goal.returns-then-has_value-clause-found
 returns-then-has_value-clause-found c =
@@ -49,6 +49,7 @@ loop-place-preserved c =
       first = v.first;
       key = v.key;
       positions = v.positions;
+      settles = v.settles;
       next = v.next;
       wide = fits_length c.loop-place.self-inside.positions.kinds c.see.new.version.row c.see.ensures.fits
           ∙ ap (λ (h : Held). length h.kinds) c.loop-place.invariant.positions;

@@ -5,6 +5,7 @@ use Rattle.hy_bound.specs.Predicate.{truth_at}
 use Rattle.hy_bound.specs.declared.predicate.Side.TheVariants.{Literal}
 use Rattle.hy_undo.specs.Places.{sees}
 use Rattle.hy_chunk.specs.Fields.{nth}
+use Rattle.hy_chunk.specs.Settled.{Settles}
 use Rattle.hy_chunk.proofs.chunk.Chunk.find_among_all.Given as goal
 
 abbrev pub invariant-loop-place : goal.invariant-loop-place
@@ -15,5 +16,6 @@ invariant-loop-place l = record {
   positions : l.self-inside.positions ≡ l.initial.self-inside.positions;
   next : length l.self-inside.next.row ≡ length l.initial.self-inside.positions.kinds;
   wide : length l.self-inside.seen.row ≡ length l.initial.self-inside.positions.kinds;
+  settles : Settles l.self-inside.settled l.self-inside.positions.places;
   none : (k : ℕ) → k < l.place → truth_at (Compare l.column Eq (Literal l.value)) (sees l.viewer (nth l.initial.self-inside.positions.places k)) ≡ false;
 }

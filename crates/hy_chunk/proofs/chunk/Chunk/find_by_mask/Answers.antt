@@ -13,6 +13,7 @@ loop-place-init c = record {
   positions = refl;
   next = c.self.invariant.next_wide;
   wide = c.self.invariant.wide;
+  settles = c.self.invariant.settles;
   most = omega arith;
   found = to_none c.args.pred.now c.self.inside.positions.places c.new-found.result.items c.new-found.ensures.items;
 }
@@ -36,6 +37,7 @@ loop-place-preserved c =
       positions = v.positions;
       next = v.next;
       wide = c.may_select.ensures.width ∙ ap (λ (h : Held). length h.kinds) v.positions;
+      settles = v.settles;
       most = omega (arith, c.loop-place-test.true, c.len-place-end.ensures);
       found = more;
     }

@@ -28,7 +28,7 @@ invariant_of-self-in_err-keep c =
     still_whole old.first (length old.positions.places) (length old.positions.kinds) (length old.seen.row) (length old.next.row)
     now.first (length now.positions.places) (length now.positions.kinds) (length c.see.new.version.row) (length now.next.row)
     c.self.invariant v.first (ap (λ (h : Held). length h.places) v.positions) (ap (λ (h : Held). length h.kinds) v.positions)
-    (fits_length now.positions.kinds c.see.new.version.row c.see.ensures.fits ∙ ap (λ (h : Held). length h.kinds) v.positions) v.next
+    (fits_length now.positions.kinds c.see.new.version.row c.see.ensures.fits ∙ ap (λ (h : Held). length h.kinds) v.positions) v.next v.settles
 
 pub loop-i-preserved : goal.loop-i-preserved
 loop-i-preserved c =
@@ -43,6 +43,7 @@ loop-i-preserved c =
       table = v.table;
       first = v.first;
       positions = v.positions;
+      settles = v.settles;
       next = v.next;
       wide = fits_length c.loop-i.self-inside.positions.kinds c.see.new.version.row c.see.ensures.fits ∙ ap (λ (h : Held). length h.kinds) v.positions;
       rows = c.in_ok-keep.ensures.rows

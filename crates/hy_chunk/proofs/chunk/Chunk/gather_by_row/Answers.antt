@@ -19,7 +19,7 @@ invariant_of-self-in_err-keep c =
     (length c.see.new.version.row) (length c.loop-place.self-inside.next.row)
     c.self.invariant v.first (ap (λ (h : Held). length h.places) v.positions) (ap (λ (h : Held). length h.kinds) v.positions)
     (fits_length c.loop-place.self-inside.positions.kinds c.see.new.version.row c.see.ensures.fits
-    ∙ ap (λ (h : Held). length h.kinds) c.loop-place.invariant.positions) v.next
+    ∙ ap (λ (h : Held). length h.kinds) c.loop-place.invariant.positions) v.next v.settles
 
 pub loop-place-preserved : goal.loop-place-preserved
 loop-place-preserved c =
@@ -36,6 +36,7 @@ loop-place-preserved c =
       first = v.first;
       key = v.key;
       positions = v.positions;
+      settles = v.settles;
       next = v.next;
       wide = fits_length c.loop-place.self-inside.positions.kinds c.see.new.version.row c.see.ensures.fits
           ∙ ap (λ (h : Held). length h.kinds) c.loop-place.invariant.positions;
@@ -61,6 +62,7 @@ loop-place-preserved-then-is_passed c =
       first = v.first;
       key = v.key;
       positions = v.positions;
+      settles = v.settles;
       next = v.next;
       wide = v.wide;
       least = omega (arith, v.least);

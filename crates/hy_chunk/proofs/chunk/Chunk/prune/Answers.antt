@@ -1,19 +1,34 @@
-use Rattle.std.proofs.Common.{List, length, refl, sym, ap, ◌∙◌, subst, arith}
+use Rattle.std.proofs.Common.{◌≤◌, List, length, refl, sym, ap, ◌∙◌, subst, arith}
 use Rattle.std.specs.List.{AllByRecursion}
+use Rattle.std.proofs.lemmas.List.{length-set}
 use Rattle.hy_chain.specs.Chains.{Falls}
+use Rattle.hy_prune.specs.declared.Cover.{Cover}
+use Rattle.hy_prune.specs.Fates.{watermark_of}
 use Rattle.hy_undo.specs.Places.{Place}
 use Rattle.hy_undo.specs.Chunks.{Everywhere, Pruned}
 use Rattle.hy_undo.specs.Steps.{pruned_place}
 use Rattle.hy_value.specs.declared.Kind.{Kind}
+use Rattle.hy_chunk.specs.declared.settled.Settled.{Settled}
 use Rattle.hy_chunk.specs.Fields.{nth}
+use Rattle.hy_chunk.specs.Settled.{Settles}
 use Rattle.hy_chunk.specs.Views.{Held, Whole, with_places}
-use Rattle.hy_chunk.proofs.Mapped.{all_at, range_begun, range_done, unpruned}
+use Rattle.hy_chunk.proofs.Mapped.{all_at}
+use Rattle.hy_chunk.proofs.Settling.{rest_unpruned}
+use Rattle.hy_chunk.proofs.Walking.{LeavesAtRest, walk_begins, walk_goes_on, walk_ends}
 use Rattle.hy_chunk.proofs.Wholes.{whole_of, still_whole}
 use Rattle.hy_chunk.proofs.chunk.Chunk.prune.Goals as goal
 
+-- what is at rest stays as it is
+leaves : (cover : Cover) (settled : Settled) → watermark_of cover ≤ settled.after → LeavesAtRest (pruned_place cover) settled
+leaves cover settled late p rest = rest_unpruned cover settled.after settled.before p late rest
+
 pub loop-place-init : goal.loop-place-init
 loop-place-init c =
-    let range = c.versioned_part-part.ensures in
+    let old = c.self.inside.positions.places in
+    let cover = c.args.cover.now in
+    let settled = c.look_below.new.self in
+    let found = c.look_below.ensures in
+    let late : watermark_of cover ≤ settled.after = omega (arith, c.watermark.ensures, found.after) in
     record {
       table = refl;
       first = refl;
@@ -21,9 +36,40 @@ loop-place-init c =
       kinds = refl;
       next = c.self.invariant.next_wide;
       wide = c.self.invariant.wide;
-      places = range_begun (pruned_place c.args.cover.now) c.self.inside.positions.places c.versioned_part-part.result.first c.versioned_part-part.result.end range.others
-          (unpruned c.args.cover.now);
+      walked = walk_begins (pruned_place cover) settled old c.next-place.result (leaves cover settled late)
+          (found.settles old c.versioned_part-part.ensures.others c.self.invariant.settles) c.next-place.ensures;
+      after = late;
       room = omega arith;
+    }
+
+pub next-place-requires-in-loop-place : goal.next-place-requires-in-loop-place
+next-place-requires-in-loop-place c =
+    let done = c.prune_at-emptied.ensures in
+    let now = c.loop-place.self-inside.positions.places in
+    let place = c.loop-place.place in
+    let size = ap (λ (ps : List Place). length ps) done.places ∙ length-set now place (pruned_place c.args.cover.now (nth now place)) in
+    omega (arith, done.settles.size, size, c.loop-place.invariant.walked.done.size, c.loop-place-test.true, c.len-end.ensures)
+
+pub loop-place-preserved : goal.loop-place-preserved
+loop-place-preserved c =
+    let v = c.loop-place.invariant in
+    let cover = c.args.cover.now in
+    let settled = c.prune_at-emptied.new.settled in
+    let done = c.prune_at-emptied.ensures in
+    let late : watermark_of cover ≤ settled.after = done.after v.after in
+    record {
+      table = v.table;
+      first = v.first;
+      key = done.key ∙ v.key;
+      kinds = done.kinds ∙ v.kinds;
+      next = v.next;
+      wide = v.wide;
+      walked = walk_goes_on (pruned_place cover) c.loop-place.self-inside.settled settled c.self.inside.positions.places
+          c.loop-place.self-inside.positions.places c.prune_at-emptied.new.positions.places c.loop-place.place c.next-place-in-loop-place.result
+          (leaves cover settled late) v.walked
+          (omega (arith, v.walked.done.size, c.loop-place-test.true, c.len-end.ensures)) done.places done.settles c.next-place-in-loop-place.ensures;
+      after = late;
+      room = omega (arith, v.room, done.room);
     }
 
 pub invariant_of-self : goal.invariant_of-self
@@ -31,31 +77,32 @@ invariant_of-self c =
     let v = c.loop-place.invariant in
     let old = c.self.inside in
     let now = c.loop-place.self-inside in
-    let new = c.narrow.new.self in
+    let new = c.narrow_where.new.positions in
     still_whole old.first (length old.positions.places) (length old.positions.kinds) (length old.seen.row) (length old.next.row)
     now.first (length new.places) (length new.kinds) (length now.seen.row) (length now.next.row)
-    c.self.invariant v.first (ap (λ (h : Held). length h.places) c.narrow.ensures ∙ v.places.size)
-    (ap (λ (h : Held). length h.kinds) c.narrow.ensures ∙ ap (λ (kinds : List Kind). length kinds) v.kinds) v.wide v.next
+    c.self.invariant v.first (ap (λ (h : Held). length h.places) c.narrow_where.ensures ∙ v.walked.done.size)
+    (ap (λ (h : Held). length h.kinds) c.narrow_where.ensures ∙ ap (λ (kinds : List Kind). length kinds) v.kinds) v.wide v.next
+    (subst (λ (h : Held). Settles now.settled h.places) (sym c.narrow_where.ensures) v.walked.settles)
 
 pub returns-clause-all : goal.returns-clause-all
 returns-clause-all c =
     let v = c.loop-place.invariant in
-    let now = c.narrow.new.self in
-    let kinds = ap (λ (h : Held). h.kinds) c.narrow.ensures ∙ v.kinds in
-    let key = ap (λ (h : Held). h.key) c.narrow.ensures ∙ v.key in
+    let now = c.narrow_where.new.positions in
+    let kinds = ap (λ (h : Held). h.kinds) c.narrow_where.ensures ∙ v.kinds in
+    let key = ap (λ (h : Held). h.key) c.narrow_where.ensures ∙ v.key in
     (λ i. whole_of (v.table i) (v.first i) (key i) (kinds i) now.places now.room) ∙ ap (λ (w : Whole). with_places w now.places now.room) c.self.view_is
 
 pub returns-clause-places : goal.returns-clause-places
 returns-clause-places c =
     let old = c.self.inside.positions.places in
     let now = c.loop-place.self-inside.positions.places in
-    let new = c.narrow.new.self.places in
-    let range = c.versioned_part-part.ensures in
+    let new = c.narrow_where.new.positions.places in
+    let cover = c.args.cover.now in
     let was = ap (λ (w : Whole). w.shown.places) c.self.view_is in
     let falls = subst (AllByRecursion (λ (p : Place). Falls p.chain)) (sym was) c.requires in
-    let done : Everywhere (Pruned c.args.cover.now) old now =
-    range_done (Pruned c.args.cover.now) (pruned_place c.args.cover.now) old now c.versioned_part-part.result.first c.versioned_part-part.result.end c.loop-place.place
-    range.others (unpruned c.args.cover.now) c.loop-place.invariant.places (omega (arith, c.loop-place-test.false))
-    (λ k l. c.places_step.ensures.prunes c.args.cover.now (nth old k) (all_at (λ (p : Place). Falls p.chain) old k falls l)) in
-    subst (λ (places : List Place). Everywhere (Pruned c.args.cover.now) places new) was
-    (subst (λ (h : Held). Everywhere (Pruned c.args.cover.now) old h.places) (sym c.narrow.ensures) done)
+    let done : Everywhere (Pruned cover) old now =
+    walk_ends (Pruned cover) (pruned_place cover) c.loop-place.self-inside.settled old now c.loop-place.place
+    c.loop-place.invariant.walked (omega (arith, c.loop-place-test.false, c.len-end.ensures))
+    (λ k l. c.places_step.ensures.prunes cover (nth old k) (all_at (λ (p : Place). Falls p.chain) old k falls l)) in
+    subst (λ (places : List Place). Everywhere (Pruned cover) places new) was
+    (subst (λ (h : Held). Everywhere (Pruned cover) old h.places) (sym c.narrow_where.ensures) done)

@@ -23,6 +23,7 @@ invariant_of-self-in-Some c =
     now.first (length now.positions.places) (length now.positions.kinds) (length c.see.new.version.row) (length now.next.row)
     c.self.invariant v.first (ap (λ (h : Held). length h.places) v.positions) (ap (λ (h : Held). length h.kinds) v.positions)
     (fits_length now.positions.kinds c.see.new.version.row c.see.ensures.fits ∙ ap (λ (h : Held). length h.kinds) v.positions) v.next
+    v.settles
 
 pub see-requires-clause-within : goal.see-requires-clause-within
 see-requires-clause-within c =
@@ -98,6 +99,7 @@ loop-i-init c =
       first = refl;
       key = refl;
       positions = refl;
+      settles = c.self.invariant.settles;
       next = c.self.invariant.next_wide;
       wide = c.self.invariant.wide;
       rest = refused_past sets pred viewer first olds 0 (reach found olds 0) (omega arith) (reach_within pred key olds found candidates 0)
@@ -137,6 +139,7 @@ loop-i-preserved c =
       first = v.first;
       key = v.key;
       positions = v.positions;
+      settles = v.settles;
       next = v.next;
       wide = fits_length c.loop-i.self-inside.positions.kinds c.see.new.version.row c.see.ensures.fits ∙ ap (λ (h : Held). length h.kinds) v.positions;
       rest = refused_past sets pred viewer first olds (place + 1) (reach found olds (i + 1)) (reach_rises pred key olds found candidates i inside)

@@ -1,6 +1,6 @@
-use Rattle.std.proofs.Common.{◌≡◌, ◌≤◌, length}
+use Rattle.std.proofs.Common.{◌≡◌, ◌-◌, ◌≤◌, length}
 use Rattle.hy_undo.specs.Steps.{undone_place}
-use Rattle.hy_chunk.proofs.Mapped.{DoneUpTo}
+use Rattle.hy_chunk.proofs.Walking.{WalkedTo}
 use Rattle.hy_chunk.proofs.chunk.Chunk.undo.Given as goal
 
 -- the positions so far are done
@@ -10,8 +10,12 @@ invariant-loop-place l = record {
   first : l.self-inside.first ≡ l.initial.self-inside.first;
   key : l.self-inside.positions.key ≡ l.initial.self-inside.positions.key;
   kinds : l.self-inside.positions.kinds ≡ l.initial.self-inside.positions.kinds;
-  places : DoneUpTo (undone_place l.id) l.initial.self-inside.positions.places l.self-inside.positions.places l.place;
-  room : l.initial.self-inside.positions.room ≤ l.self-inside.positions.room;
   next : length l.self-inside.next.row ≡ length l.initial.self-inside.positions.kinds;
   wide : length l.self-inside.seen.row ≡ length l.initial.self-inside.positions.kinds;
+  walked : WalkedTo (undone_place l.id) l.self-inside.settled l.initial.self-inside.positions.places l.self-inside.positions.places l.place;
+  before : l.self-inside.settled.before ≤ l.id;
+  room : l.initial.self-inside.positions.room ≤ l.self-inside.positions.room;
 }
+
+abbrev pub decreases-loop-place : goal.decreases-loop-place
+decreases-loop-place l = l.end - l.place

@@ -17,6 +17,7 @@ use Rattle.hy_chunk.proofs.Candidates.{reach, at_reach, inside_at, reach_past, r
 use Rattle.hy_chunk.proofs.Over.{fits_length}
 use Rattle.hy_chunk.proofs.Sweeping.{unselected, is_live, new_judged, without_rival, is_in_range, is_in_place, here_ok, sets_within}
 use Rattle.hy_chunk.proofs.SweepSteps.{SweptTo, swept_none, swept_past, swept_one, swept_all}
+use Rattle.hy_chunk.specs.Settled.{Settles}
 use Rattle.hy_chunk.proofs.chunk.Chunk.write_all.Goals as goal
 
 pub see-requires-clause-within : goal.see-requires-clause-within
@@ -241,6 +242,7 @@ loop-i-init c =
       first = refl;
       key = refl;
       kinds = refl;
+      settles = c.self.invariant.settles;
       next = c.self.invariant.next_wide;
       wide = c.self.invariant.wide;
       sweep = swept_past sets pred viewer c.args.label table first olds notes olds notes 0 0 (reach found olds 0) (omega arith)
@@ -291,6 +293,7 @@ loop-i-preserved-then-not-is_selected c =
       first = v.first;
       key = v.key;
       kinds = v.kinds;
+      settles = v.settles;
       next = v.next;
       wide = fits_length c.loop-i.self-inside.positions.kinds c.see.new.version.row c.see.ensures.fits ∙ ap (λ (kinds : List Kind). length kinds) v.kinds;
       sweep = swept_past sets pred viewer c.args.label c.self.inside.table first olds notes news c.loop-i.changes.notes c.loop-i.written k
@@ -347,6 +350,8 @@ loop-i-preserved c =
       first = v.first;
       key = c.write_at.ensures.key ∙ v.key;
       kinds = c.write_at.ensures.kinds ∙ v.kinds;
+      settles = subst (Settles c.touch.new.self) (sym c.write_at.ensures.places)
+          (c.touch.ensures c.loop-i.self-inside.positions.places (nth after k) v.settles);
       next = c.make_next.ensures.size ∙ wide;
       wide = wide;
       sweep = swept_past sets pred viewer c.args.label table first olds notes after c.note.new.changes.notes (c.loop-i.written + 1) (k + 1)
@@ -356,6 +361,25 @@ loop-i-preserved c =
       notes_room = omega (arith, v.notes_room, c.note.ensures.room);
       notes_width = c.note.ensures.width ∙ v.notes_width;
     }
+
+pub touch-requires : goal.touch-requires
+touch-requires c =
+    let sets = sets_of c.args.sweep.now.kind.now in
+    let pred = c.args.sweep.now.pred.now in
+    let viewer = c.args.sweep.now.viewer.now in
+    let olds = c.self.inside.positions.places in
+    let first : ℕ = c.self.inside.first in
+    let key = c.self.inside.positions.key in
+    let found = c.args.sweep.now.places.now in
+    let candidates : AreCandidates pred key olds found =
+    subst (λ (w : Whole). AreCandidates pred w.shown.key w.shown.places found) (sym c.self.view_is) c.requires.candidates in
+    let v = c.loop-i.invariant in
+    let i = c.loop-i.i in
+    let inside : i < length found = omega (arith, c.loop-i-test.true) in
+    let k = c.number_at-number.result in
+    let is_k : k ≡ reach found olds i = at_reach pred key olds found candidates i k inside c.number_at-number.ensures in
+    let l : k < length olds = inside_at pred key olds found candidates i k inside c.number_at-number.ensures in
+    omega (arith, l, v.settles.size, v.sweep.size)
 
 pub returns-clause-done : goal.returns-clause-done
 returns-clause-done c =

@@ -2,6 +2,7 @@ use Rattle.std.proofs.Common.{◌≡◌, ◌+◌, ◌≤◌, length}
 use Rattle.hy_chunk.specs.Writes.{sets_of}
 use Rattle.hy_chunk.proofs.Candidates.{reach}
 use Rattle.hy_chunk.proofs.SweepSteps.{SweptTo}
+use Rattle.hy_chunk.specs.Settled.{Settles}
 use Rattle.hy_chunk.proofs.chunk.Chunk.write_all.Given as goal
 
 -- the positions up to the next candidate are written as they were judged, and the others are as they were
@@ -13,6 +14,7 @@ invariant-loop-i l = record {
   kinds : l.self-inside.positions.kinds ≡ l.initial.self-inside.positions.kinds;
   next : length l.self-inside.next.row ≡ length l.initial.self-inside.positions.kinds;
   wide : length l.self-inside.seen.row ≡ length l.initial.self-inside.positions.kinds;
+  settles : Settles l.self-inside.settled l.self-inside.positions.places;
   sweep : SweptTo (sets_of l.sweep.kind.now) l.sweep.pred.now l.sweep.viewer.now l.label l.initial.self-inside.table l.initial.self-inside.first
       l.initial.self-inside.positions.places l.initial.changes.notes l.self-inside.positions.places l.changes.notes l.written
       (reach l.sweep.places.now l.initial.self-inside.positions.places l.i);

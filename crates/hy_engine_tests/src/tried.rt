@@ -6,7 +6,7 @@ ghost use Rattle.hy_engine_tests.specs.Ready.{AreUnused, IsReady, two_numbers};
 ghost use Rattle.hy_stamp.specs.Times.{IsLabel};
 
 use hy_bound::{Assign, Pred, SetExpr, WriteKind};
-use hy_chunk::{Chunk, Keys, NoRoom, Sought};
+use hy_chunk::{Chunk, Keys, NoRoom, Sought, Sweep};
 use hy_given::{equal, pair};
 use hy_notes::Changes;
 use hy_plan::Gathered;
@@ -90,13 +90,13 @@ fn write_of(alloc: Global, bal: Option<i64>) -> Result<WriteKind, AllocError>
     Ok(WriteKind::Set(sets))
 }
 
-/// Room to note a write of each position.
-fn notes(alloc: Global) -> Result<Changes, AllocError>
-    ensures room { IfOk result (λ changes. 64 ≤ changes.room) }
+/// Room to note so many writes.
+fn notes(alloc: Global, many: usize) -> Result<Changes, AllocError>
+    ensures room { IfOk result (λ changes. many ≤ changes.room) }
     ensures width { IfOk result (λ changes. 2 ≤ changes.width) }
 {
     let mut changes = Changes::new(alloc);
-    changes.reserve(POSITIONS, 2)?;
+    changes.reserve(many, 2)?;
     Ok(changes)
 }
 
@@ -252,12 +252,16 @@ impl Tried {
         check_times(self.next, viewer)?;
         let pred = equal(alloc, 0, id)?;
         let kind = write_of(alloc, bal)?;
-        let mut changes = notes(alloc)?;
-        self.chunk.reserve(POSITIONS)?;
-        Ok(
-            self.chunk
-                .write(viewer, open.label, &pred, &kind, &mut changes),
-        )
+        let places = self.chunk.find_candidates(&pred)?;
+        let mut changes = notes(alloc, places.len())?;
+        self.chunk.reserve(places.len())?;
+        let sweep = Sweep {
+            viewer,
+            pred: &pred,
+            kind: &kind,
+            places: places.as_slice(),
+        };
+        Ok(self.chunk.write(&sweep, open.label, &mut changes))
     }
 
     /// INSERT of a row.
@@ -269,8 +273,8 @@ impl Tried {
         bal: i64,
     ) -> Result<Result<u32, NoRoom>, AllocError> {
         let row = pair(alloc, id, bal)?;
-        let mut changes = notes(alloc)?;
-        self.chunk.reserve(POSITIONS)?;
+        let mut changes = notes(alloc, 1)?;
+        self.chunk.reserve(1)?;
         Ok(
             self.chunk
                 .place(&open.viewer, open.label, &open.cover, &row, &mut changes),

@@ -20,7 +20,7 @@ use std::process::ExitCode;
 use std::rt::Env;
 use std::sync::Wait;
 use std::thread::Threads;
-use std::{env, io};
+use std::{env, io, mem};
 
 /// The status where the words themselves found no memory.
 const NO_MEMORY: u8 = 5;
@@ -84,7 +84,11 @@ fn exit_code_of<T: Threads + Wait + Sync, R: Source, W: Sink, D: Disk>(
     ensures kept { exit_status result ≡ 7 → D.held disk.new ≡ D.held disk.old }
     ensures statuses { exit_status result ≤ 7 }
 {
-    ExitCode::from(hy_top::run(rt, alloc, words, source, sink, &OpenGate, disk).status)
+    let report = hy_top::run(rt, alloc, words, source, sink, &OpenGate, disk);
+    let status = report.status;
+    // The process ends here, and with it the outcome's memory: no need to give it back row by row.
+    mem::forget(report);
+    ExitCode::from(status)
 }
 
 /// The process's words, the program's name first. Words that are no text are as good as none: they are

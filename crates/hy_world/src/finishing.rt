@@ -71,9 +71,9 @@ fn gather_chunks(
 fn rows_of(alloc: Global, gathered: &Gathered, width: u32) -> Result<Vec<Row>, AllocError>
     ensures { IfOk result (λ rows. rows.items ≡ map (spread every_column width) gathered.now.rows) }
 {
-    let mut rows = Vec::new(alloc);
+    let mut rows = Vec::with_capacity(alloc, gathered.len())?;
     for index in 0..gathered.len() {
-        let mut row = Seq::new(alloc);
+        let mut row = Seq::from_vec(Vec::with_capacity(alloc, width as usize)?);
         gathered.push_spread(index, all_columns(), width, &mut row)?;
         rows.push(row)?;
     }

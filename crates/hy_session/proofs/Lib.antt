@@ -14,3 +14,6 @@ mod Results
 mod Dispatch
 mod ShortChains
 mod OpenVisits
+mod OrderedPlaces
+mod OrderedNotes
+mod NextChunks

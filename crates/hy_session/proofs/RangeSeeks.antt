@@ -1,5 +1,5 @@
 -- Numbers of a range that pass a test, looked for one by one.
-use Rattle.std.proofs.Common.{◌≡◌, ℕ, ◌+◌, ◌-◌, ◌<◌, List, ◌∷◌, ◌++◌, refl, ap, ◌∙◌, sym, arith, suc, Bool, true, false, map, Some, Option}
+use Rattle.std.proofs.Common.{◌≡◌, ℕ, zero, ◌+◌, ◌-◌, ◌<◌, ◌≤◌, List, ◌∷◌, ◌++◌, refl, ap, ◌∙◌, sym, arith, suc, Bool, true, false, map, Some, Option, subst}
 use Rattle.std.specs.List.{filter, range_with_len, slice_get}
 
 -- a range from one number on
@@ -44,3 +44,28 @@ pub is_later : {A : Type 0} (p : ℕ → Bool) (g : ℕ → A) (from end left : 
     → slice_get (map g (filter p (range_with_len from (end - from))) ++ others) left ≡ all
     → slice_get (map g (filter p (range_with_len (from + 1) (end - (from + 1)))) ++ others) left ≡ all
 is_later {A = A} p g from end left others all h t before = ap (λ (xs : List A). slice_get (xs ++ others) left) (sym (passes_later p g from end h t)) ∙ before
+
+-- where none of some passes, as many behind those
+until : {A : Type 0} (p : ℕ → Bool) (g : ℕ → A) (gap from next end left : ℕ) (others : List A) (all : Option A) → from + gap ≡ next → next ≤ end
+    → ((k : ℕ) → from ≤ k → k < next → p k ≡ false) → slice_get (map g (filter p (range_with_len from (end - from))) ++ others) left ≡ all
+    → slice_get (map g (filter p (range_with_len next (end - next))) ++ others) left ≡ all
+until p g zero from next end left others all e within none before =
+    let same : from ≡ next = omega arith in
+    subst (λ (n : ℕ). slice_get (map g (filter p (range_with_len n (end - n))) ++ others) left ≡ all) same before
+until p g (suc gap) from next end left others all e within none before =
+    until p g gap (from + 1) next end left others all (omega arith) within (λ k l m. none k (omega (arith, l)) m)
+    (is_later p g from end left others all (omega arith) (none from (omega arith) (omega arith)) before)
+
+pub is_until : {A : Type 0} (p : ℕ → Bool) (g : ℕ → A) (from next end left : ℕ) (others : List A) (all : Option A) → from ≤ next → next ≤ end
+    → ((k : ℕ) → from ≤ k → k < next → p k ≡ false) → slice_get (map g (filter p (range_with_len from (end - from))) ++ others) left ≡ all
+    → slice_get (map g (filter p (range_with_len next (end - next))) ++ others) left ≡ all
+is_until p g from next end left others all on within none before = until p g (next - from) from next end left others all (omega arith) within none before
+
+-- where none passes, what is so many behind is among the others
+pub is_among_others : {A : Type 0} (p : ℕ → Bool) (g : ℕ → A) (from end left : ℕ) (others : List A) (all : Option A) → from ≤ end
+    → ((k : ℕ) → from ≤ k → k < end → p k ≡ false) → slice_get (map g (filter p (range_with_len from (end - from))) ++ others) left ≡ all
+    → all ≡ slice_get others left
+is_among_others {A = A} p g from end left others all on none before =
+    let past : end - end ≡ 0 = omega arith in
+    sym (is_until p g from end end left others all on (omega arith) none before)
+    ∙ ap (λ (n : ℕ). slice_get (map g (filter p (range_with_len end n)) ++ others) left) past

@@ -9,10 +9,11 @@ ghost use Rattle.hy_event.specs.Sessions.{place_noted, txn_at, written};
 ghost use Rattle.hy_event.specs.Turns.{with_ended};
 ghost use Rattle.hy_session.specs.Entered.{is_stamping};
 
+use crate::seeking::place_of;
 use crate::{OpenTransaction, Session};
 use hy_bound::{Bound, Ending};
 use hy_protocol::Phase;
-use hy_render::{Place, Places, TxnOutcome};
+use hy_render::{Places, TxnOutcome};
 use hy_value::{Change, Seq};
 use std::alloc::{AllocError, Global};
 use std::mem;
@@ -68,10 +69,7 @@ fn places_of(alloc: Global, notes: &[Change]) -> Result<Places, AllocError>
 {
     let mut places = Vec::with_capacity(alloc, notes.len())?;
     for note in notes {
-        places.push(Place {
-            table: note.table,
-            pos: note.pos,
-        })?;
+        places.push(place_of(note))?;
     }
     Ok(Seq::from_vec(places))
 }

@@ -96,7 +96,7 @@ impl Model for Session {
     ghost use Rattle.std.specs.Prelude.{length, vec_len, vec_capacity};
     ghost use Rattle.hy_event.specs.declared.SessionData.{SessionData};
     ghost use Rattle.hy_event.specs.contracts.SessionData as session_data;
-    ghost use Rattle.hy_session.specs.Limits.{IsLimited, HasRoomFor};
+    ghost use Rattle.hy_session.specs.Limits.{IsLimited, HasOrder, HasRoomFor};
 
     ghost Value = { SessionData };
 
@@ -114,7 +114,8 @@ impl Model for Session {
     } };
 
     ghost invariant = { λ a. IsLimited a.chunks a.shapes a.program (length a.done.items) a.spare.notes a.prepared
-        × HasRoomFor a.now (length a.shapes) (vec_len a.done) (vec_capacity a.done) a.counts.items (vec_capacity a.counts) };
+        × HasRoomFor a.now (length a.shapes) (vec_len a.done) (vec_capacity a.done) a.counts.items (vec_capacity a.counts)
+        × HasOrder a.now };
 }
 
 /// How the tables of a script lie in chunks.

@@ -3,6 +3,8 @@
 ghost use Rattle.std.specs.Prelude.{◌≡◌, slice_index_or};
 ghost use Rattle.hy_bound.specs.Records.{shape_of};
 ghost use Rattle.hy_event.specs.Needs.{checks_of, insert_need, statement_need, phase_need};
+ghost use Rattle.hy_event.specs.Sessions.{written};
+ghost use Rattle.hy_session.specs.Seeking.{Rises};
 ghost use Rattle.hy_session.specs.Standing.{needed_number};
 
 use crate::{OpenTransaction, Session};
@@ -64,6 +66,7 @@ impl Session {
 
     /// What its open transaction needs, by where it stands.
     pub(crate) fn needed_by(&self, txn: &Txn, now: &OpenTransaction) -> Need
+        requires { Rises (written now.now) }
         ensures { result ≡ phase_need self.entry.now txn.now now.now now.now.phase }
     {
         match now.phase {

@@ -1,10 +1,11 @@
 //! The chunks that an open transaction wrote.
+//!
+//! The positions that it wrote are in order, so that each chunk is found by binary search behind the one before.
 
-ghost use Rattle.std.specs.Prelude.{◌≡◌, ◌++◌, ℕ, List, map, slice_get};
-ghost use Rattle.std.specs.List.{list_any};
-ghost use Rattle.hy_event.specs.Sessions.{place_noted, written, lies_in, chunks_in_table};
+ghost use Rattle.std.specs.Prelude.{◌≡◌, ◌<◌, ◌++◌, ℕ, List, Some, length, map, slice_get};
+ghost use Rattle.hy_event.specs.Sessions.{place_noted, written, chunks_in_table};
 ghost use Rattle.hy_event.specs.Needs.{written_need};
-ghost use Rattle.hy_session.specs.Seeking.{sought};
+ghost use Rattle.hy_session.specs.Seeking.{IsNextChunk, Rises, comes_before, first_from, of_table, sought};
 
 use crate::{OpenTransaction, Session};
 use hy_event::Need;
@@ -12,66 +13,94 @@ use hy_protocol::Phase;
 use hy_render::Place;
 use hy_value::Change;
 
+/// The position of a note.
+pub fn place_of(note: &Change) -> Place
+    ensures { result ≡ place_noted note.now }
+{
+    Place {
+        table: note.table,
+        pos: note.pos,
+    }
+}
+
+/// Whether a position comes before this one, by table and then position.
+fn is_before(place: Place, table: u32, pos: u64) -> bool
+    ensures { result ≡ comes_before table pos place }
+{
+    place.table < table || place.table == table && u64::from(place.pos) < pos
+}
+
+/// Its position in this table, if it is one of it.
+fn position_in(place: Place, table: u32) -> Option<u32>
+    ensures { result ≡ of_table table (Some place) }
+{
+    if place.table == table {
+        Some(place.pos)
+    } else {
+        None
+    }
+}
+
+/// The first of these positions that is one of a table from this one on.
+fn first_place(places: &[Place], table: u32, from: u64) -> Option<u32>
+    requires { Rises places.now }
+    ensures { result ≡ first_from table from places.now }
+{
+    let at = places.partition_point(|place| is_before(*place, table, from));
+    position_in(*places.get(at)?, table)
+}
+
+/// The first position of these notes that is one of a table from this one on.
+fn first_noted(notes: &[Change], table: u32, from: u64) -> Option<u32>
+    requires { Rises (map place_noted notes.now) }
+    ensures { result ≡ first_from table from (map place_noted notes.now) }
+{
+    let at = notes.partition_point(|note| is_before(place_of(note), table, from));
+    position_in(place_of(notes.get(at)?), table)
+}
+
+/// The first position of a table from this one on that an open transaction wrote.
+fn first_written(now: &OpenTransaction, table: u32, from: u64) -> Option<u32>
+    requires { Rises (written now.now) }
+    ensures { result ≡ first_from table from (written now.now) }
+{
+    match now.phase {
+        Phase::Stamping { .. } => first_place(now.wrote.as_slice(), table, from),
+        Phase::Working { .. } | Phase::Undoing { .. } => {
+            first_noted(now.notes.notes(), table, from)
+        }
+    }
+}
+
 impl Session {
-    /// Whether a position of a table is one of a chunk.
-    fn has_position(&self, table: u32, chunk: u32, of: Place) -> bool
-        ensures { result ≡ lies_in self.entry.now table chunk of }
+    /// The first chunk of a table from this one on in which an open transaction wrote.
+    fn next_written(&self, now: &OpenTransaction, table: u32, from: u32) -> Option<u32>
+        requires { Rises (written now.now) }
+        ensures { IsNextChunk self.entry.now (written now.now) table from result }
     {
-        let first = u64::from(chunk) * u64::from(self.rows);
-        let pos = u64::from(of.pos);
-        of.table == table && first <= pos && pos < first + u64::from(self.rows)
-    }
-
-    /// Whether one of these positions lies in a chunk.
-    fn has_place(&self, table: u32, chunk: u32, places: &[Place]) -> bool
-        ensures { result ≡ list_any (lies_in self.entry.now table chunk) places.now }
-    {
-        places
-            .iter()
-            .any(|place| self.has_position(table, chunk, *place))
-    }
-
-    /// Whether one of these notes is of a position in a chunk.
-    fn has_note(&self, table: u32, chunk: u32, notes: &[Change]) -> bool
-        ensures { result ≡ list_any (lies_in self.entry.now table chunk) (map place_noted notes.now) }
-    {
-        for note in notes {
-            let place = Place {
-                table: note.table,
-                pos: note.pos,
-            };
-            if self.has_position(table, chunk, place) {
-                return true;
-            }
-        }
-        false
-    }
-
-    /// Whether an open transaction wrote in a chunk.
-    fn is_written(&self, now: &OpenTransaction, table: u32, chunk: u32) -> bool
-        ensures { result ≡ list_any (lies_in self.entry.now table chunk) (written now.now) }
-    {
-        match now.phase {
-            Phase::Stamping { .. } => self.has_place(table, chunk, now.wrote.as_slice()),
-            Phase::Working { .. } | Phase::Undoing { .. } => {
-                self.has_note(table, chunk, now.notes.notes())
-            }
-        }
+        let first = u64::from(from) * u64::from(self.rows);
+        let pos = first_written(now, table, first)?;
+        let chunk = pos.checked_div(self.rows)?;
+        (chunk < self.chunks).then_some(chunk)
     }
 
     /// The chunk of a table that is so many behind the first one in which an open transaction wrote; Err is for how
     /// many it is behind all of the table's.
     fn seek_in_table(&self, now: &OpenTransaction, table: u32, behind: u32) -> Result<u32, u32>
+        requires order { Rises (written now.now) }
+        requires within { table < length self.now.shapes }
         ensures { (others : List (ℕ × ℕ)) → slice_get (chunks_in_table self.entry.now (written now.now) table ++ others) behind ≡ sought table result others }
     {
+        // The limits of a session make the number behind its last chunk one of 32 bits.
+        let _ = &self.chunks;
         let mut left = behind;
-        for chunk in 0..self.chunks {
-            if self.is_written(now, table, chunk) {
-                if left == 0 {
-                    return Ok(chunk);
-                }
-                left -= 1;
+        let mut chunk = 0;
+        while let Some(next) = self.next_written(now, table, chunk) {
+            if left == 0 {
+                return Ok(next);
             }
+            left -= 1;
+            chunk = next + 1;
         }
         Err(left)
     }
@@ -79,6 +108,7 @@ impl Session {
     /// What an open transaction needs that has visited so many of the chunks that it wrote: the next of them, or the
     /// core behind the last one.
     pub(crate) fn left_of_written(&self, now: &OpenTransaction, visited: u32) -> Need
+        requires { Rises (written now.now) }
         ensures { result ≡ written_need self.entry.now now.now visited }
     {
         let mut left = visited;

@@ -17,6 +17,7 @@ use crate::writing::{Write, write_rows};
 use crate::{OpenTransaction, Session};
 use hy_bound::{Bound, Ending, WriteKind};
 use hy_chunk::Chunk;
+use hy_notes::notes_tell;
 use hy_protocol::{Phase, Progress};
 use hy_render::TxnOutcome;
 use hy_value::Seq;
@@ -134,6 +135,8 @@ impl Session {
         let Some(now) = &mut self.now else {
             unreachable!();
         };
+        // Notes stay in order where more are made.
+        notes_tell();
         match now.phase {
             Phase::Working { visited, count } => {
                 match txn.statements.as_slice().get(now.replies.len()) {

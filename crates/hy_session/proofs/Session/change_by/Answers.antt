@@ -9,10 +9,12 @@ use Rattle.hy_event.specs.Sessions.{txn_at}
 use Rattle.hy_event.specs.Turns.{with_open}
 use Rattle.hy_session.specs.contracts.Session.{the_view}
 use Rattle.hy_session.specs.declared.Session.TheInside.{Inside}
-use Rattle.hy_session.specs.Limits.{IsLimited, HasRoomFor}
+use Rattle.hy_session.specs.Limits.{IsLimited, HasOrder, HasRoomFor}
 use Rattle.hy_session.specs.declared.visitors.Visitor.{Visitor}
 use Rattle.hy_session.specs.Short.{LeavesShort, visit_prunes}
 use Rattle.hy_session.specs.Visitors.{IsVisitor, ShortAt}
+use Rattle.hy_bound.specs.declared.Ending.TheVariants.{RolledBack}
+use Rattle.hy_session.proofs.OrderedNotes.{stamped_in_order, undone_in_order, worked_in_order}
 use Rattle.hy_session.proofs.VisitNumbers.{room_stays, stamp_fits, undo_fits}
 use Rattle.hy_session.proofs.OpenVisits.{closed, event_moves, stamped, undone, worked}
 use Rattle.hy_session.proofs.Dispatch.{close_prunes_nothing}
@@ -164,13 +166,43 @@ abbrev Holds : Inside → Type 0
 Holds s =
     IsLimited s.chunks s.shapes s.program (length s.done.items) s.spare.notes s.prepared
     × HasRoomFor s.now (length s.shapes) (vec_len s.done) (vec_capacity s.done) s.counts.items (vec_capacity s.counts)
+    × HasOrder s.now
 
 pub invariant_of-self : goal.invariant_of-self
 invariant_of-self c =
-    let room = room_stays c.self.inside.now c.in-Some-now.now c.in-Some-now.is c.self.invariant.1 in
+    let session = c.args.self.now in
+    let now = c.in-Some-now.now in
+    let chunk = c.args.chunk.now.shown in
+    let tell = c.notes_tell.ensures.more in
+    let room = room_stays c.self.inside.now now c.in-Some-now.is c.self.invariant.1 in
+    let order : HasOrder session.now = subst (λ (s : SessionData). HasOrder s.now) c.self.view_is c.self.invariant.2 in
     elim c.match-now.branch [
-      | in-Working+in-Some-get w ↦ subst Holds (sym w.self-inside-is) (c.self.invariant.0, room w.visit_statement.new.now)
-      | in-Working+in-None w ↦ subst Holds (sym w.self-inside-is) (c.self.invariant.0, room w.undo.new.now)
-      | in-Stamping w ↦ subst Holds (sym w.self-inside-is) (c.self.invariant.0, room w.stamp.new.now)
-      | in-Undoing w ↦ subst Holds (sym w.self-inside-is) (c.self.invariant.0, room w.undo-in-Undoing.new.now)
+      | in-Working+in-Some-get w ↦
+          subst Holds (sym w.self-inside-is) (
+            c.self.invariant.0,
+            room w.visit_statement.new.now,
+            worked_in_order tell session (visitor_at c) now w.visit_statement.new.now chunk w.visit_statement.new.chunk.shown (visitor_is c) (open_is c) order
+                w.in-Working.visited w.in-Working.count w.in-Some-get.statement.now w.visit_statement.result w.visit_statement.ensures.event w.visit_statement.ensures.kept,
+          )
+      | in-Working+in-None w ↦
+          subst Holds (sym w.self-inside-is) (
+            c.self.invariant.0,
+            room w.undo.new.now,
+            undone_in_order tell session (visitor_at c) now w.undo.new.now chunk w.undo.new.chunk.shown (visitor_is c) (open_is c) order
+                0 RolledBack w.undo.result w.undo.ensures.event,
+          )
+      | in-Stamping w ↦
+          subst Holds (sym w.self-inside-is) (
+            c.self.invariant.0,
+            room w.stamp.new.now,
+            stamped_in_order tell session (visitor_at c) now w.stamp.new.now chunk w.stamp.new.chunk.shown (visitor_is c) (open_is c) order
+                w.in-Stamping.visited w.stamp.result w.stamp.ensures.event,
+          )
+      | in-Undoing w ↦
+          subst Holds (sym w.self-inside-is) (
+            c.self.invariant.0,
+            room w.undo-in-Undoing.new.now,
+            undone_in_order tell session (visitor_at c) now w.undo-in-Undoing.new.now chunk w.undo-in-Undoing.new.chunk.shown
+                (visitor_is c) (open_is c) order w.in-Undoing.visited w.in-Undoing.cause w.undo-in-Undoing.result w.undo-in-Undoing.ensures.event,
+          )
     ]

@@ -24,3 +24,8 @@ loop-table-preserved c =
     (drop (c.loop-table.table + 1) c.args.self.now.shapes)))
     ∙ (ap (λ (chunks : List (ℕ × ℕ)). slice_get chunks c.loop-table.left)
     (sym (tables_more c.args.self.now (written c.args.now.now) c.loop-table.table c.args.self.now.shapes within)) ∙ c.loop-table.invariant)
+
+pub seek_in_table-requires-clause-within : goal.seek_in_table-requires-clause-within
+seek_in_table-requires-clause-within c =
+    let tables : length c.self.inside.shapes ≡ length c.args.self.now.shapes = ap (λ (session : SessionData). length session.shapes) c.self.view_is in
+    omega (arith, tables, c.len-table-end.ensures, c.loop-table-test.true)

@@ -1,8 +1,0 @@
-use Rattle.std.proofs.Common.{◌≡◌, ◌++◌, drop}
-use Rattle.std.specs.List.{flat_map}
-use Rattle.hy_plan.specs.Reads.{recorded, records_of}
-use Rattle.hy_plan.proofs.reading.records.Given as goal
-
--- the records so far and those of the other reads are all
-abbrev pub invariant-loop-read : goal.invariant-loop-read
-invariant-loop-read l = l.all ++ flat_map (recorded l.number) (drop l.read-index l.read-items) ≡ records_of l.shapes l.number l.statement l.gathered

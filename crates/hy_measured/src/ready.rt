@@ -8,7 +8,7 @@ ghost use Rattle.hy_stamp.specs.Times.{IsLabel};
 ghost use Rattle.hy_value.specs.declared.Value.{Value};
 
 use hy_bound::{Assign, Pred, SetExpr, Side, WriteKind};
-use hy_chunk::Chunk;
+use hy_chunk::{Chunk, Sweep};
 use hy_notes::Changes;
 use hy_plan::Gathered;
 use hy_prune::{Cover, Starts};
@@ -224,11 +224,16 @@ impl Ready {
         let viewer = &writer.viewer;
         check_times(self.next, viewer)?;
         let kind = write_of(alloc, bal)?;
-        let mut changes = notes(alloc, self.positions)?;
-        self.chunk.reserve(self.positions)?;
-        let _count = self
-            .chunk
-            .write(viewer, writer.label, pred, &kind, &mut changes);
+        let places = self.chunk.find_candidates(pred)?;
+        let mut changes = notes(alloc, places.len())?;
+        self.chunk.reserve(places.len())?;
+        let sweep = Sweep {
+            viewer,
+            pred,
+            kind: &kind,
+            places: places.as_slice(),
+        };
+        let _count = self.chunk.write(&sweep, writer.label, &mut changes);
         Ok(())
     }
 

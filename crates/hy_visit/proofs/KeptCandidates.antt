@@ -1,6 +1,5 @@
 -- The positions at which a condition may select a row are the only ones still after pruning.
 use Rattle.std.proofs.Common.{◌≡◌, ℕ, zero, suc, ◌<◌, Bool, true, false, List, [], ◌∷◌, length, map, Option, refl, sym, ap, ◌∙◌, subst, arith, inl, inr}
-use Rattle.std.specs.Prelude.{Contains}
 use Rattle.hy_prune.specs.declared.Cover.{Cover}
 use Rattle.hy_bound.specs.Condition.{Condition}
 use Rattle.hy_bound.specs.Predicate.{column_of, truth_at}

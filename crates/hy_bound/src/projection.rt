@@ -11,7 +11,7 @@ use std::alloc::{AllocError, Global};
 pub fn mask_row(alloc: Global, columns: ColMask, row: &Row) -> Result<Row, AllocError>
     ensures { IfOk result (λ kept. kept ≡ masked columns row.now) }
 {
-    let mut kept = Vec::new(alloc);
+    let mut kept = Vec::with_capacity(alloc, row.len())?;
     for (column, value) in row.as_slice().iter().enumerate() {
         let value = if has(columns, column) {
             value.copy()
@@ -27,7 +27,8 @@ pub fn mask_row(alloc: Global, columns: ColMask, row: &Row) -> Result<Row, Alloc
 pub fn project_row(alloc: Global, columns: ColMask, row: &Row) -> Result<Row, AllocError>
     ensures { IfOk result (λ kept. kept ≡ projected columns row.now) }
 {
-    let mut kept = Vec::new(alloc);
+    let most = row.len().min(columns.0.count_ones() as usize);
+    let mut kept = Vec::with_capacity(alloc, most)?;
     for (column, value) in row.as_slice().iter().enumerate() {
         if has(columns, column) {
             kept.push(value.copy())?;

@@ -51,7 +51,7 @@ impl Gathered {
     pub fn new(alloc: Global, width: usize) -> Result<Gathered, AllocError>
         ensures { IfOk result (λ gathered. gathered ≡ record { width = width; rows = [] }) }
     {
-        let mut columns = Vec::new(alloc);
+        let mut columns = Vec::with_capacity(alloc, width)?;
         for _column in 0..width {
             columns.push(Column::new(alloc))?;
         }

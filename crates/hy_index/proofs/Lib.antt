@@ -2,4 +2,3 @@ pub mod Orders
 pub mod Prefixes
 pub mod Edits
 pub mod Membership
-pub mod Nexts

@@ -1,4 +1,3 @@
 pub mod Entries
 pub mod Indexed
 pub mod Members
-pub mod Nexts

@@ -1,11 +1,10 @@
 //! The positions that have a key.
 #![tactic(auto)]
 
-ghost use Rattle.std.specs.Prelude.{◌≡◌, ◌+◌, ◌<◌, ◌≤◌, [], IfOk, Some, Contains, filter, length};
+ghost use Rattle.std.specs.Prelude.{◌≡◌, ◌+◌, ◌<◌, ◌≤◌, [], IfOk, Contains, filter, length};
 ghost use Rattle.std.specs.List.{prefix_len};
 ghost use Rattle.hy_index.specs.Entries.{entry, order_of, Ascends, below_key, up_to_key, below_entry};
 ghost use Rattle.hy_index.specs.Members.{AddsOne, TakesOne, FindsKeys};
-ghost use Rattle.hy_index.specs.Nexts.{IsNext, pos_by};
 
 use hy_value::Value;
 use std::alloc::{AllocError, Global};
@@ -76,17 +75,6 @@ fn count_up_to_key(entries: &[IndexEntry], key: &Value) -> usize
     entries.partition_point(|entry| !entry.key.cmp(key).is_gt())
 }
 
-/// The position of an entry, if it is one of this key.
-fn pos_of(entry: &IndexEntry, key: &Value) -> Option<u32>
-    ensures { result ≡ pos_by key.now (Some entry.now) }
-{
-    if entry.key.cmp(key).is_eq() {
-        Some(entry.pos)
-    } else {
-        None
-    }
-}
-
 impl KeyIndex {
     ghost use Rattle.hy_index.specs.Entries.{has_key, with_entry, without_entry};
 
@@ -129,17 +117,6 @@ impl KeyIndex {
         let (_lower, others) = entries.split_at(count_below_key(entries, key));
         let (found, _higher) = others.split_at(count_up_to_key(others, key));
         found
-    }
-
-    /// The least position from one on that has this key, if any has. It takes no memory.
-    pub fn find_from(&self, key: &Value, from: u32) -> Option<u32>
-        ensures { IsNext self.now.entries key.now from result }
-    {
-        let entries = self.entries.as_slice();
-        match entries.get(count_below(entries, key, from)) {
-            Some(entry) => pos_of(entry, key),
-            None => None,
-        }
     }
 }
 

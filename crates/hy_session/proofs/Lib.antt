@@ -15,5 +15,6 @@ mod Dispatch
 mod ShortChains
 mod OpenVisits
 mod OrderedPlaces
+mod NotedSeeks
 mod OrderedNotes
 mod NextChunks

@@ -27,6 +27,9 @@ is_before table pos place (inr r) =
     or_right (nat_lt place.table table) (place.table == table && nat_lt place.pos pos)
     (and_from (place.table == table) (nat_lt place.pos pos) (eq-eqb place.table table r.0) (lt-ltb place.pos pos r.1))
 
+pub not_before : (table pos : ℕ) (place : Place) → (Before table pos place → ⊥) → comes_before table pos place ≡ false
+not_before table pos place never = false_from_ne_true (comes_before table pos place) (λ k. never (before_is table pos place k))
+
 -- what is before one that is before another is before that one too
 earlier : (table pos : ℕ) (place later : Place) → Before later.table later.pos place → Before table pos later → Before table pos place
 earlier table pos place later (inl h) (inl k) = inl (omega arith)
@@ -79,7 +82,7 @@ is_from_on table from place same le =
     and_from (place.table == table) (nat_le from place.pos) (eq-eqb place.table table same) (le-leb from place.pos le)
 
 -- it isn't among positions before it
-passed : (table from : ℕ) (place : Place) (places : List Place) → comes_before table from place ≡ true
+pub passed : (table from : ℕ) (place : Place) (places : List Place) → comes_before table from place ≡ true
     → first_from table from (place ∷ places) ≡ first_from table from places
 passed table from place places h =
     ap (λ b. cond b (Some place.pos) (first_from table from places))
@@ -97,7 +100,7 @@ none_higher table from place (later ∷ places) l all =
     ⊎_elim (λ m. omega (arith, m, l, parts.0)) (λ r. omega (arith, r.0, l, parts.0)) (before_is later.table later.pos place all.0)))
     ∙ none_higher table from place places l all.1
 
-found_by : (table from : ℕ) (place : Place) (places : List Place) (b : Bool) → (place.table == table) ≡ b → comes_before table from place ≡ false
+pub found_by : (table from : ℕ) (place : Place) (places : List Place) (b : Bool) → (place.table == table) ≡ b → comes_before table from place ≡ false
     → AllByRecursion (λ later. comes_before later.table later.pos place ≡ true) places
     → first_from table from (place ∷ places) ≡ of_table table (Some place)
 found_by table from place places true is h all =
@@ -132,12 +135,6 @@ found_place table from places i found up le at is =
     let same = map-id places in
     ap (of_table table) (sym (option_map_id (slice_get places i) ∙ is))
     ∙ (sym (found_at (λ (p : Place). p) table from places i (subst Rises (sym same) up) le at) ∙ ap (first_from table from) same)
-
-pub found_noted : {X : Type 0} (f : X → Place) (table from : ℕ) (xs : List X) (i : ℕ) (found : Option X) → Rises (map f xs) → i ≤ length xs
-    → IsPartitionPoint (λ y. comes_before table from (f y) ≡ true) (λ y. comes_before table from (f y) ≡ false) xs i → slice_get xs i ≡ found
-    → of_table table (option_map f found) ≡ first_from table from (map f xs)
-found_noted {X = X} f table from xs i found up le at is =
-    ap (λ (o : Option X). of_table table (option_map f o)) (sym is) ∙ sym (found_at f table from xs i up le at)
 
 -- ---- what it says of the others
 

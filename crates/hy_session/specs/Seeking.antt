@@ -2,10 +2,15 @@
 use Rattle.std.specs.Prelude.{◌≡◌, ℕ, ◌<◌, ◌≤◌, List, [], ◌∷◌, Bool, true, false, ◌&&◌, ◌||◌, ◌==◌, nat_le, nat_lt, Option, None, Some, Result, Ok, Err, slice_get, if◌then◌else◌}
 use Rattle.std.specs.List.{AllByRecursion, list_any}
 use Rattle.hy_render.specs.declared.Place.{Place}
+use Rattle.hy_notes.specs.declared.NotedPlace.{NotedPlace}
 use Rattle.hy_event.specs.declared.SessionData.{SessionData}
 use Rattle.hy_event.specs.Sessions.{lies_in}
 
 -- ---- positions in order
+
+-- a noted position, as one that is written
+abbrev pub written_place : NotedPlace → Place
+written_place noted = record { table = noted.table; pos = noted.pos }
 
 -- whether a position comes before this one, by table and then position
 abbrev pub comes_before : ℕ → ℕ → Place → Bool

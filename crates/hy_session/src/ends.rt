@@ -5,16 +5,18 @@ ghost use Rattle.std.specs.List.{range_with_len};
 ghost use Rattle.std.specs.Option.{option_map};
 ghost use Rattle.hy_event.specs.declared.Open.{Open};
 ghost use Rattle.hy_event.specs.Ended.{inserts_into, placed_in, statements_in};
-ghost use Rattle.hy_event.specs.Sessions.{place_noted, txn_at, written};
+ghost use Rattle.hy_event.specs.Sessions.{txn_at, written};
+ghost use Rattle.hy_session.specs.Seeking.{written_place};
 ghost use Rattle.hy_event.specs.Turns.{with_ended};
 ghost use Rattle.hy_session.specs.Entered.{is_stamping};
 
 use crate::seeking::place_of;
 use crate::{OpenTransaction, Session};
 use hy_bound::{Bound, Ending};
+use hy_notes::NotedPlace;
 use hy_protocol::Phase;
 use hy_render::{Places, TxnOutcome};
-use hy_value::{Change, Seq};
+use hy_value::Seq;
 use std::alloc::{AllocError, Global};
 use std::mem;
 
@@ -63,13 +65,13 @@ fn count_placed_each(
     Seq::from_vec(counts)
 }
 
-/// The positions of notes.
-fn places_of(alloc: Global, notes: &[Change]) -> Result<Places, AllocError>
-    ensures { IfOk result (λ places. places ≡ map place_noted notes.now) }
+/// Noted positions, as those that are written.
+fn places_of(alloc: Global, noted: &[NotedPlace]) -> Result<Places, AllocError>
+    ensures { IfOk result (λ places. places ≡ map written_place noted.now) }
 {
-    let mut places = Vec::with_capacity(alloc, notes.len())?;
-    for note in notes {
-        places.push(place_of(note))?;
+    let mut places = Vec::with_capacity(alloc, noted.len())?;
+    for place in noted {
+        places.push(place_of(*place))?;
     }
     Ok(Seq::from_vec(places))
 }
@@ -80,7 +82,10 @@ pub fn written_places(alloc: Global, now: &OpenTransaction) -> Result<Places, Al
 {
     match now.phase {
         Phase::Stamping { .. } => Seq::from_slice(alloc, now.wrote.as_slice()),
-        Phase::Working { .. } | Phase::Undoing { .. } => places_of(alloc, now.notes.notes()),
+        Phase::Working { .. } | Phase::Undoing { .. } => {
+            let noted = now.notes.places()?;
+            places_of(alloc, noted.as_slice())
+        }
     }
 }
 

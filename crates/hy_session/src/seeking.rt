@@ -5,21 +5,21 @@
 ghost use Rattle.std.specs.Prelude.{◌≡◌, ◌<◌, ◌++◌, ℕ, List, Some, length, map, slice_get};
 ghost use Rattle.hy_event.specs.Sessions.{place_noted, written, chunks_in_table};
 ghost use Rattle.hy_event.specs.Needs.{written_need};
-ghost use Rattle.hy_session.specs.Seeking.{IsNextChunk, Rises, comes_before, first_from, of_table, sought};
+ghost use Rattle.hy_session.specs.Seeking.{IsNextChunk, Rises, comes_before, first_from, of_table, sought, written_place};
 
 use crate::{OpenTransaction, Session};
 use hy_event::Need;
+use hy_notes::{Changes, NotedPlace};
 use hy_protocol::Phase;
 use hy_render::Place;
-use hy_value::Change;
 
-/// The position of a note.
-pub fn place_of(note: &Change) -> Place
-    ensures { result ≡ place_noted note.now }
+/// A noted position, as one that is written.
+pub fn place_of(noted: NotedPlace) -> Place
+    ensures { result ≡ written_place noted }
 {
     Place {
-        table: note.table,
-        pos: note.pos,
+        table: noted.table,
+        pos: noted.pos,
     }
 }
 
@@ -50,13 +50,13 @@ fn first_place(places: &[Place], table: u32, from: u64) -> Option<u32>
     position_in(*places.get(at)?, table)
 }
 
-/// The first position of these notes that is one of a table from this one on.
-fn first_noted(notes: &[Change], table: u32, from: u64) -> Option<u32>
-    requires { Rises (map place_noted notes.now) }
-    ensures { result ≡ first_from table from (map place_noted notes.now) }
+/// The first position of a table from this one on that is noted.
+fn first_noted(notes: &Changes, table: u32, from: u64) -> Option<u32>
+    requires { Rises (map place_noted notes.now.notes) }
+    ensures { result ≡ first_from table from (map place_noted notes.now.notes) }
 {
-    let at = notes.partition_point(|note| is_before(place_of(note), table, from));
-    position_in(place_of(notes.get(at)?), table)
+    let noted = notes.first_from(table, from)?;
+    position_in(place_of(noted), table)
 }
 
 /// The first position of a table from this one on that an open transaction wrote.
@@ -66,9 +66,7 @@ fn first_written(now: &OpenTransaction, table: u32, from: u64) -> Option<u32>
 {
     match now.phase {
         Phase::Stamping { .. } => first_place(now.wrote.as_slice(), table, from),
-        Phase::Working { .. } | Phase::Undoing { .. } => {
-            first_noted(now.notes.notes(), table, from)
-        }
+        Phase::Working { .. } | Phase::Undoing { .. } => first_noted(&now.notes, table, from),
     }
 }
 

@@ -667,7 +667,7 @@ impl Chunk {
     }
 
     /// The positions, ascending, at which a condition may select a row, whoever looks: those that a write needs room
-    /// for. They are so few as there are records and rows in place that it selects. Err is for want of memory.
+    /// for. How few they are no clause says. Err is for want of memory.
     pub fn find_candidates(&mut self, pred: &Pred) -> Result<Vec<u32>, AllocError>
         ensures found { IfOk result (λ found. AreCandidates pred.now self.old.shown.key self.old.shown.places found.items) }
         ensures all { self.new ≡ self.old }

@@ -11,7 +11,7 @@ ghost use Rattle.hy_value.specs.declared.Value.{Value};
 mod random;
 
 use hy_bound::{Pred, Rows, Side};
-use hy_value::{Cmp, Row, Seq, Value};
+use hy_value::{Cmp, Row, Seq, StoredRow, Value};
 pub use random::Random;
 use std::alloc::{AllocError, Global};
 
@@ -44,6 +44,13 @@ pub fn pair(alloc: Global, first: i64, second: i64) -> Result<Row, AllocError>
     values.push(Value::Int(first))?;
     values.push(Value::Int(second))?;
     Ok(values)
+}
+
+/// A row of two numbers as it is kept. Err is for want of memory.
+pub fn stored_pair(alloc: Global, first: i64, second: i64) -> Result<StoredRow, AllocError>
+    ensures { IfOk result (λ row. row ≡ Value.Int first ∷ Value.Int second ∷ []) }
+{
+    StoredRow::from_values(alloc, &[Value::Int(first), Value::Int(second)])
 }
 
 /// Rows of two cells. Err is for want of memory.

@@ -1,6 +1,6 @@
 //! What a transaction changed, position by position.
 
-use crate::{Row, Seq};
+use crate::{Seq, StoredRow};
 
 /// The change of a transaction at a position of a table: the row before it and the row after it, each
 /// there or absent.
@@ -11,9 +11,9 @@ pub struct Change {
     /// The position in the table.
     pub pos: u32,
     /// The row before, if there was one.
-    pub before: Option<Row>,
+    pub before: Option<StoredRow>,
     /// The row after, if there is one.
-    pub after: Option<Row>,
+    pub after: Option<StoredRow>,
 }
 
 /// The changes of a transaction, by table and then position.

@@ -8,7 +8,9 @@ ghost use Rattle.hy_bind.specs.Scope.{scope_of, column_of, operand_side};
 ghost use Rattle.hy_bind.specs.Conditions.{compare_fault, test_fault, test_bound, where_fault, where_bound, null_bound};
 
 use crate::refusals::{BindFault, agree, fault_if, first_of};
-use crate::scope::{Scope, column, column_fault, column_kind, operand_fault, operand_kind, side};
+use crate::scope::{
+    Scope, column, column_fault, column_kind, compared, operand_fault, operand_kind,
+};
 use hy_ast::{ColumnRef, Operand, Test};
 use hy_bound::Pred;
 use hy_value::Cmp;
@@ -102,7 +104,7 @@ fn comparison(
     ensures { IfOk result (λ p. p ≡ Compare (column_of (scope_of scope.now) left.now) op (operand_side (scope_of scope.now) right.now)) }
 {
     let left = column(scope, left)?;
-    Pred::compare(alloc, left, op, side(alloc, scope, right)?)
+    compared(alloc, scope, left, op, right)
 }
 
 /// IS NULL, or IS NOT NULL.

@@ -8,7 +8,7 @@ ghost use Rattle.hy_bind.specs.Refusals.{fault_if, first_of};
 ghost use Rattle.hy_bind.specs.Scope.{scope_of, operand_fault, operand_kind};
 ghost use Rattle.hy_bind.specs.Expressions.{formula_kind, formula_fault, formula_bound, operand_bound, binary_bound, is_number};
 
-use crate::literals::{kind_of, literal_fault, value};
+use crate::literals::{kind_of, literal_expression, literal_fault};
 use crate::refusals::{BindFault, agree, fault_if, first_of};
 use crate::scope::{Found, Scope, number, resolve};
 use hy_ast::{Formula, Operand, Operator};
@@ -62,7 +62,7 @@ fn plain(alloc: Global, scope: &Scope, operand: &Operand) -> Result<Judged, Allo
         Operand::Literal(literal) => Ok(Judged {
             fault: literal_fault(scope.script, literal),
             kind: kind_of(literal),
-            value: SetExpr::literal(alloc, value(alloc, scope.script, literal)?)?,
+            value: literal_expression(alloc, scope.script, literal)?,
         }),
     }
 }

@@ -4,9 +4,13 @@ ghost use Rattle.std.specs.Prelude.{◌≡◌, ◌<◌, ◌≤◌, ◌∷◌, []
 ghost use Rattle.hy_value.specs.TextBytes.{text_of};
 ghost use Rattle.hy_bind.specs.Literals.{text_of_span, number_of, in_reach, integer_of, unquoted, unquoted_rest, literal_kind, literal_fault};
 ghost use Rattle.hy_bind.specs.Literals.{literal_value, integer_value};
+ghost use Rattle.hy_bound.specs.Expression.{Expression};
+ghost use Rattle.hy_bound.specs.PredView.{viewed_side};
+ghost use Rattle.hy_bound.specs.declared.predicate.Side.{Side};
 
 use crate::refusals::{BindFault, fault_if};
 use hy_ast::Literal;
+use hy_bound::{SetExpr, SideView};
 use hy_token::Span;
 use hy_value::{Kind, Text, Value};
 use std::alloc::{AllocError, Global};
@@ -157,5 +161,43 @@ pub fn value(alloc: Global, script: &[u8], literal: &Literal) -> Result<Value, A
             let bytes = unquote(alloc, text_in(script, *span))?;
             Ok(Value::Text(text(alloc, bytes.as_slice())))
         }
+    }
+}
+
+/// A literal that is no text, as a side of a comparison; one that is refused, as any.
+pub fn plain_side(script: &[u8], literal: &Literal) -> Option<SideView<'static>>
+    ensures { IfSome result (λ side. viewed_side side ≡ Side.Literal (literal_value script.now literal.now)) }
+{
+    match literal {
+        Literal::Null(_) => Some(SideView::Null),
+        Literal::Integer { minus, digits } => {
+            let digits = text_in(script, *digits);
+            Some(integer_side(integer(minus.is_some(), digits)))
+        }
+        Literal::Text(_) => None,
+    }
+}
+
+/// An integer as a side of a comparison; one that is outside 64 bits, as any.
+fn integer_side(integer: Option<i64>) -> SideView<'static>
+    ensures { viewed_side result ≡ Side.Literal (integer_value integer) }
+{
+    match integer {
+        Some(integer) => SideView::Int(integer),
+        None => SideView::Null,
+    }
+}
+
+/// A literal as an expression; one that is refused, as any.
+pub fn literal_expression(
+    alloc: Global,
+    script: &[u8],
+    literal: &Literal,
+) -> Result<SetExpr, AllocError>
+    ensures { IfOk result (λ made. made ≡ Expression.Literal (literal_value script.now literal.now)) }
+{
+    match plain_side(script, literal) {
+        Some(SideView::Int(number)) => Ok(SetExpr::number(number)),
+        _ => SetExpr::literal(alloc, value(alloc, script, literal)?),
     }
 }

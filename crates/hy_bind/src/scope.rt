@@ -5,14 +5,16 @@ ghost use Rattle.std.specs.Option.{option_and_then, option_map_or};
 ghost use Rattle.hy_schema.specs.Names.{column_number, table_at};
 ghost use Rattle.hy_bind.specs.Scope.{scope_of, width_at, may_mean, found_in, and_found, only, resolved, column_of, column_fault, column_kind};
 ghost use Rattle.hy_bind.specs.Scope.{operand_fault, operand_kind, operand_side};
+ghost use Rattle.hy_bind.specs.Literals.{literal_value};
+ghost use Rattle.hy_bound.specs.Condition.{Compare};
 
-use crate::literals::{kind_of, literal_fault, text_in, value};
+use crate::literals::{kind_of, literal_fault, plain_side, text_in, value};
 use crate::refusals::{BindFault, fault_if};
-use hy_ast::{ColumnRef, Operand};
-use hy_bound::Side;
+use hy_ast::{ColumnRef, Literal, Operand};
+use hy_bound::{Pred, Side, SideView};
 use hy_schema::{Catalog, Column, TableDef};
 use hy_token::Span;
-use hy_value::Kind;
+use hy_value::{Cmp, Kind};
 use std::alloc::{AllocError, Global};
 
 /// A script and its tables, and the tables of a statement in FROM order, by number.
@@ -197,12 +199,36 @@ pub fn operand_kind(scope: &Scope, operand: &Operand) -> Option<Kind>
     }
 }
 
-/// An operand as the right side of a comparison.
-pub fn side(alloc: Global, scope: &Scope, operand: &Operand) -> Result<Side, AllocError>
-    ensures { IfOk result (λ side. side ≡ operand_side (scope_of scope.now) operand.now) }
+/// A comparison of a column with an operand.
+pub fn compared(
+    alloc: Global,
+    scope: &Scope,
+    left: u32,
+    op: Cmp,
+    right: &Operand,
+) -> Result<Pred, AllocError>
+    ensures { IfOk result (λ p. p ≡ Compare left op (operand_side (scope_of scope.now) right.now)) }
 {
-    match operand {
-        Operand::Column(reference) => Ok(Side::Column(column(scope, reference)?)),
-        Operand::Literal(literal) => Ok(Side::Literal(value(alloc, scope.script, literal)?)),
+    match right {
+        Operand::Column(reference) => {
+            Pred::compare_view(alloc, left, op, SideView::Column(column(scope, reference)?))
+        }
+        Operand::Literal(literal) => compared_literal(alloc, scope.script, left, op, literal),
+    }
+}
+
+/// A comparison of a column with a literal; one that is refused, as any.
+fn compared_literal(
+    alloc: Global,
+    script: &[u8],
+    left: u32,
+    op: Cmp,
+    right: &Literal,
+) -> Result<Pred, AllocError>
+    ensures { IfOk result (λ p. p ≡ Compare left op (Side.Literal (literal_value script.now right.now))) }
+{
+    match plain_side(script, right) {
+        Some(side) => Pred::compare_view(alloc, left, op, side),
+        None => Pred::compare(alloc, left, op, Side::Literal(value(alloc, script, right)?)),
     }
 }

@@ -14,3 +14,4 @@ pub mod Fits
 pub mod Truths
 pub mod Masks
 pub mod Schedules
+pub mod ValueRefs

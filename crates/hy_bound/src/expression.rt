@@ -5,10 +5,12 @@ ghost use Rattle.hy_bound.specs.Predicate.{column_of};
 ghost use Rattle.hy_bound.specs.Expression.{Literal, Column, Add, Sub, Mul};
 ghost use Rattle.hy_bound.specs.Assignment.{value_of, exact, number_of, number_in, combined_numbers, assigned};
 ghost use Rattle.hy_bound.specs.ExprView.{rooted};
+ghost use Rattle.hy_bound.specs.ValueRefs.{value_referred};
+ghost use Rattle.hy_value.specs.declared.Value.{Value};
 
-use crate::predicate::{cell, column_value};
+use crate::predicate::{cell, column_ref};
 use crate::{Range, Sets};
-use hy_value::{Row, Seq, Text, Value, copy_values};
+use hy_value::{Row, Seq, Text, Value, ValueRef, copy_values};
 use std::alloc::{AllocError, Global};
 use std::marker::Model;
 
@@ -61,6 +63,15 @@ impl SetExpr {
             Value::Text(text) => ExprNode::Text(Box::new(alloc, text)?),
         };
         Ok(SetExpr { node })
+    }
+
+    /// A number.
+    pub fn number(number: i64) -> SetExpr
+        ensures { result ≡ Literal (Value.Int number) }
+    {
+        SetExpr {
+            node: ExprNode::Int(number),
+        }
     }
 
     /// A column.
@@ -152,12 +163,19 @@ enum Operator {
 pub fn value(expression: &SetExpr, row: &Row) -> Result<Value, Range>
     ensures { result ≡ value_of expression.now row.now }
 {
+    Ok(value_ref(expression, row)?.to_value())
+}
+
+/// What a right side of SET is in a row, where it stands, unless a number leaves 64 bits.
+pub fn value_ref<'a>(expression: &'a SetExpr, row: &'a Row) -> Result<ValueRef<'a>, Range>
+    ensures { value_referred result ≡ value_of expression.now row.now }
+{
     match &expression.node {
-        ExprNode::Text(text) => Ok(Value::Text(text.copy())),
-        ExprNode::Column(column) => Ok(column_value(row, *column)),
+        ExprNode::Text(text) => Ok(ValueRef::Text(text)),
+        ExprNode::Column(column) => Ok(column_ref(row, *column)),
         _ => match number(expression, row)? {
-            Some(number) => Ok(Value::Int(number)),
-            None => Ok(Value::Null),
+            Some(number) => Ok(ValueRef::Int(number)),
+            None => Ok(ValueRef::Null),
         },
     }
 }

@@ -5,6 +5,7 @@
 ghost use Rattle.std.specs.Prelude.{◌≡◌, IfOk};
 ghost use Rattle.hy_bound.specs.Records.{shape_of};
 
+mod cells;
 mod conjuncts;
 mod expression;
 mod laws;
@@ -14,11 +15,14 @@ mod records;
 mod schedule;
 
 pub use conjuncts::conditions;
-pub use expression::{ExprRoot, SetExpr, set_row, value};
+pub use expression::{ExprRoot, SetExpr, set_row, value, value_ref};
 use hy_stamp::Label;
-use hy_value::{ColMask, Row, Seq, Value};
+use hy_value::{ColMask, Row, Seq, StoredRow, Value};
 pub use laws::{only_named_columns_matter, projections_are_spread};
-pub use predicate::{Pred, Root, Side, SideView, cell, column_value, compare, is_null, truth};
+pub use predicate::{
+    Pred, Root, Side, SideView, cell, column_ref, column_value, compare, is_null, stored_truth,
+    truth,
+};
 pub use projection::{mask_row, project_row};
 pub use records::hits;
 pub use schedule::{Item, Schedule};
@@ -224,8 +228,11 @@ pub struct Record {
 /// The records of a transaction.
 pub type Records = Seq<Record>;
 
-/// Rows of a reply or of a table.
+/// Rows of a table, as a script gives them or as they are gathered.
 pub type Rows = Seq<Row>;
+
+/// Rows of a reply, or of a table at the end of a run.
+pub type StoredRows = Seq<StoredRow>;
 
 /// A group of a reply.
 #[derive(Drop)]
@@ -243,7 +250,7 @@ pub type Groups = Seq<Grouped>;
 #[derive(Drop)]
 pub enum Reply {
     /// The rows that a SELECT shows, ascending.
-    Rows(Rows),
+    Rows(StoredRows),
     /// The sum or the number of rows that a SELECT shows.
     Value(i128),
     /// The groups that a SELECT shows, by their values.

@@ -4,11 +4,14 @@ ghost use Rattle.std.specs.Prelude.{◌≡◌, ◌++◌, map, IfOk, OnOk, IfSome
 ghost use Rattle.hy_bound.specs.Condition.{True, Compare, IsNull, Not, And, Or};
 ghost use Rattle.hy_bound.specs.Predicate.{truth_of, sense_of, opposite_of, both_of, either_of, compared, side_of, column_of, is_null_value};
 ghost use Rattle.hy_bound.specs.Records.{conjuncts, conjoined};
-ghost use Rattle.hy_bound.specs.PredView.{operand_side, rooted};
+ghost use Rattle.hy_bound.specs.PredView.{operand_side, rooted, viewed_side};
+ghost use Rattle.hy_bound.specs.declared.predicate.Side.TheVariants.{Literal};
+ghost use Rattle.hy_value.specs.Refs.{referred};
 ghost use Rattle.hy_value.specs.declared.Value.{Value};
 ghost use Rattle.hy_value.specs.declared.Value.TheVariants.{Null, Int};
 
-use hy_value::{Cmp, Row, Text, Value};
+use crate::cells::Cells;
+use hy_value::{Cmp, Row, StoredRow, Text, Value, ValueRef};
 use std::alloc::{AllocError, Global};
 use std::cmp::Ordering;
 use std::marker::Model;
@@ -63,6 +66,19 @@ pub enum SideView<'a> {
     Int(i64),
     /// A text.
     Text(&'a Text),
+}
+
+impl<'a> SideView<'a> {
+    /// A value.
+    pub fn literal(value: ValueRef<'a>) -> SideView<'a>
+        ensures { viewed_side result ≡ Literal (referred value.entry) }
+    {
+        match value {
+            ValueRef::Null => SideView::Null,
+            ValueRef::Int(number) => SideView::Int(number),
+            ValueRef::Text(text) => SideView::Text(text),
+        }
+    }
 }
 
 /// What a condition is at its root, with the conditions that it is made of.
@@ -134,16 +150,23 @@ impl Operand {
         }
     }
 
+    /// The right side of a comparison, as it is kept: a copy where it is a text.
+    fn of_view(alloc: Global, side: SideView<'_>) -> Result<Operand, AllocError>
+        ensures { IfOk result (λ operand. operand_side operand ≡ viewed_side side.entry) }
+    {
+        match side {
+            SideView::Column(column) => Ok(Operand::Column(column)),
+            SideView::Null => Ok(Operand::Null),
+            SideView::Int(number) => Ok(Operand::Int(number)),
+            SideView::Text(text) => Ok(Operand::Text(Box::new(alloc, text.copy())?)),
+        }
+    }
+
     /// A copy.
     fn copy(&self, alloc: Global) -> Result<Operand, AllocError>
         ensures { IfOk result (λ operand. operand_side operand ≡ operand_side self.now) }
     {
-        match self {
-            Operand::Column(column) => Ok(Operand::Column(*column)),
-            Operand::Null => Ok(Operand::Null),
-            Operand::Int(number) => Ok(Operand::Int(*number)),
-            Operand::Text(text) => Ok(Operand::Text(Box::new(alloc, text.copy())?)),
-        }
+        Operand::of_view(alloc, self.view())
     }
 }
 
@@ -162,6 +185,21 @@ impl Pred {
         ensures { IfOk result (λ p. p ≡ Compare column op side) }
     {
         let side = Operand::new(alloc, side)?;
+        Ok(Pred {
+            node: PredNode::Compare { column, op, side },
+        })
+    }
+
+    /// A comparison of a column with a side that is looked at where it stands.
+    pub fn compare_view(
+        alloc: Global,
+        column: u32,
+        op: Cmp,
+        side: SideView<'_>,
+    ) -> Result<Pred, AllocError>
+        ensures { IfOk result (λ p. p ≡ Compare column op (viewed_side side.entry)) }
+    {
+        let side = Operand::of_view(alloc, side)?;
         Ok(Pred {
             node: PredNode::Compare { column, op, side },
         })
@@ -288,9 +326,16 @@ pub fn truth(pred: &Pred, row: &Row) -> bool
     matches!(sense(pred, row), Some(true))
 }
 
+/// Whether a condition is true of a row that is kept.
+pub fn stored_truth(pred: &Pred, row: &StoredRow) -> bool
+    ensures { result ≡ truth_of pred.now row.now }
+{
+    matches!(sense(pred, row), Some(true))
+}
+
 /// Whether a condition is true or false of a row, or unknown.
-fn sense(pred: &Pred, row: &Row) -> Option<bool>
-    ensures { result ≡ sense_of pred.now row.now }
+fn sense<R: Cells>(pred: &Pred, row: &R) -> Option<bool>
+    ensures { result ≡ sense_of pred.now (R.values row.now) }
 {
     match &pred.node {
         PredNode::True => Some(true),
@@ -314,30 +359,37 @@ pub fn cell(row: &Row, column: u32) -> Option<&Value>
 pub fn column_value(row: &Row, column: u32) -> Value
     ensures { result ≡ column_of row.now column }
 {
+    column_ref(row, column).to_value()
+}
+
+/// A row's value in a column, NULL beyond its last, where it stands.
+pub fn column_ref(row: &Row, column: u32) -> ValueRef<'_>
+    ensures { referred result ≡ column_of row.now column }
+{
     match cell(row, column) {
-        Some(value) => value.copy(),
-        None => Value::Null,
+        Some(value) => value.refer(),
+        None => ValueRef::Null,
     }
 }
 
 /// Whether a row has NULL in a column, as it has beyond its last.
-fn is_null_at(row: &Row, column: u32) -> bool
-    ensures { result ≡ is_null_value (column_of row.now column) }
+fn is_null_at<R: Cells>(row: &R, column: u32) -> bool
+    ensures { result ≡ is_null_value (column_of (R.values row.now) column) }
 {
-    match cell(row, column) {
-        Some(value) => is_null(value),
-        None => true,
-    }
+    !matches!(
+        row.cell_at(column),
+        Some(ValueRef::Int(_) | ValueRef::Text(_))
+    )
 }
 
 /// What a comparison says of a row.
 #[inline(never)]
-fn compare_cell(row: &Row, column: u32, op: Cmp, side: &Operand) -> Option<bool>
-    ensures { result ≡ compared op (column_of row.now column) (side_of (operand_side side.now) row.now) }
+fn compare_cell<R: Cells>(row: &R, column: u32, op: Cmp, side: &Operand) -> Option<bool>
+    ensures { result ≡ compared op (column_of (R.values row.now) column) (side_of (operand_side side.now) (R.values row.now)) }
 {
-    let left = cell(row, column)?;
+    let left = row.cell_at(column)?;
     match side {
-        Operand::Column(column) => compare(op, left, cell(row, *column)?),
+        Operand::Column(column) => compare_values(op, left, row.cell_at(*column)?),
         Operand::Null => None,
         Operand::Int(number) => compare_number(op, left, *number),
         Operand::Text(text) => compare_text(op, left, text),
@@ -348,32 +400,39 @@ fn compare_cell(row: &Row, column: u32, op: Cmp, side: &Operand) -> Option<bool>
 pub fn compare(op: Cmp, left: &Value, right: &Value) -> Option<bool>
     ensures { result ≡ compared op left.now right.now }
 {
+    compare_values(op, left.refer(), right.refer())
+}
+
+/// What a comparison says of two values, both where they stand.
+fn compare_values(op: Cmp, left: ValueRef<'_>, right: ValueRef<'_>) -> Option<bool>
+    ensures { result ≡ compared op (referred left.entry) (referred right.entry) }
+{
     match right {
-        Value::Null => None,
-        Value::Int(number) => compare_number(op, left, *number),
-        Value::Text(text) => compare_text(op, left, text),
+        ValueRef::Null => None,
+        ValueRef::Int(number) => compare_number(op, left, number),
+        ValueRef::Text(text) => compare_text(op, left, text),
     }
 }
 
 /// What a comparison says of a value and a number.
-fn compare_number(op: Cmp, left: &Value, right: i64) -> Option<bool>
-    ensures { result ≡ compared op left.now (Int right) }
+fn compare_number(op: Cmp, left: ValueRef<'_>, right: i64) -> Option<bool>
+    ensures { result ≡ compared op (referred left.entry) (Int right) }
 {
     match left {
-        Value::Null => None,
-        Value::Int(left) => Some(op.holds(left.cmp(&right))),
-        Value::Text(_) => Some(op.holds(Ordering::Greater)),
+        ValueRef::Null => None,
+        ValueRef::Int(left) => Some(op.holds(left.cmp(&right))),
+        ValueRef::Text(_) => Some(op.holds(Ordering::Greater)),
     }
 }
 
 /// What a comparison says of a value and a text.
-fn compare_text(op: Cmp, left: &Value, right: &Text) -> Option<bool>
-    ensures { result ≡ compared op left.now (Value.Text right.now) }
+fn compare_text(op: Cmp, left: ValueRef<'_>, right: &Text) -> Option<bool>
+    ensures { result ≡ compared op (referred left.entry) (Value.Text right.now) }
 {
     match left {
-        Value::Null => None,
-        Value::Int(_) => Some(op.holds(Ordering::Less)),
-        Value::Text(left) => Some(op.holds(left.as_bytes().cmp(right.as_bytes()))),
+        ValueRef::Null => None,
+        ValueRef::Int(_) => Some(op.holds(Ordering::Less)),
+        ValueRef::Text(left) => Some(op.holds(left.as_bytes().cmp(right.as_bytes()))),
     }
 }
 

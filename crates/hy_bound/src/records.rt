@@ -4,17 +4,18 @@ ghost use Rattle.std.specs.Prelude.{◌≡◌, ◌&&◌, not};
 ghost use Rattle.std.specs.Option.{option_copied};
 ghost use Rattle.std.specs.Ordering.{is_eq};
 ghost use Rattle.hy_value.specs.Order.{value_cmp};
+ghost use Rattle.hy_value.specs.Refs.{referred};
 ghost use Rattle.hy_value.specs.Columns.{has_column};
 ghost use Rattle.hy_bound.specs.Predicate.{truth_at, differ_from, changes_on};
 ghost use Rattle.hy_bound.specs.Records.{is_hit};
 
 use crate::Record;
-use crate::predicate::{Pred, truth};
-use hy_value::{ColMask, Row, Value};
+use crate::predicate::{Pred, stored_truth};
+use hy_value::{ColMask, StoredRow, ValueRef, compare_refs};
 
 /// Whether a change of a row hits a record: the record's predicate is true of the row before or after,
 /// and the row comes, goes or changes on a column of the record.
-pub fn hits(logged: &Record, before: Option<&Row>, after: Option<&Row>) -> bool
+pub fn hits(logged: &Record, before: Option<&StoredRow>, after: Option<&StoredRow>) -> bool
     ensures { result ≡ is_hit logged.now (option_copied before.entry) (option_copied after.entry) }
 {
     let seen = selects(&logged.pred, before) || selects(&logged.pred, after);
@@ -22,34 +23,34 @@ pub fn hits(logged: &Record, before: Option<&Row>, after: Option<&Row>) -> bool
 }
 
 /// Whether a predicate is true of a row that is there or not.
-fn selects(pred: &Pred, row: Option<&Row>) -> bool
+fn selects(pred: &Pred, row: Option<&StoredRow>) -> bool
     ensures { result ≡ truth_at pred.now (option_copied row.entry) }
 {
     match row {
-        Some(row) => truth(pred, row),
+        Some(row) => stored_truth(pred, row),
         None => false,
     }
 }
 
 /// Whether a row comes, goes or changes on a column of the set.
-fn changes(columns: ColMask, before: Option<&Row>, after: Option<&Row>) -> bool
+fn changes(columns: ColMask, before: Option<&StoredRow>, after: Option<&StoredRow>) -> bool
     ensures { result ≡ changes_on columns (option_copied before.entry) (option_copied after.entry) }
 {
     match (before, after) {
-        (Some(before), Some(after)) => differ(columns, before.as_slice(), after.as_slice()),
+        (Some(before), Some(after)) => differ(columns, before, after),
         _ => true,
     }
 }
 
 /// Whether two rows differ on a column of the set.
-fn differ(columns: ColMask, before: &[Value], after: &[Value]) -> bool
+fn differ(columns: ColMask, before: &StoredRow, after: &StoredRow) -> bool
     ensures { result ≡ differ_from columns 0 before.now after.now }
 {
-    for (i, old) in before.iter().enumerate() {
-        let Some(new) = after.get(i) else {
+    for column in 0..before.len() {
+        if column >= after.len() {
             return false;
-        };
-        if differ_at(columns, i, old, new) {
+        }
+        if differ_at(columns, column, before.refer(column), after.refer(column)) {
             return true;
         }
     }
@@ -57,8 +58,8 @@ fn differ(columns: ColMask, before: &[Value], after: &[Value]) -> bool
 }
 
 /// Whether the column of this number is of the set and its value differs.
-fn differ_at(columns: ColMask, column: usize, old: &Value, new: &Value) -> bool
-    ensures { result ≡ (has_column columns column && not (is_eq (value_cmp old.now new.now))) }
+fn differ_at(columns: ColMask, column: usize, old: ValueRef<'_>, new: ValueRef<'_>) -> bool
+    ensures { result ≡ (has_column columns column && not (is_eq (value_cmp (referred old.entry) (referred new.entry)))) }
 {
-    column < 32 && columns.has(column as u32) && old.cmp(new).is_ne()
+    column < 32 && columns.has(column as u32) && compare_refs(old, new).is_ne()
 }

@@ -52,13 +52,17 @@ impl Pieces {
         self.len
     }
 
-    /// Puts the rows of a piece behind the others. Err is for want of memory, and changes nothing.
+    /// Puts the rows of a piece behind the others; one without rows is let go. Err is for want of memory, and changes nothing.
     #[tactic(auto, using(crate::proofs::Piled::pieces_more))]
     pub fn add(&mut self, piece: Gathered) -> Result<(), AllocError>
         ensures ok { OnOk result (self.new ≡ self.old ++ piece.rows) }
         ensures err { OnErr result (self.new ≡ self.old) }
     {
-        let len = self.len.checked_add(piece.len()).ok_or(AllocError)?;
+        let rows = piece.len();
+        if rows == 0 {
+            return Ok(());
+        }
+        let len = self.len.checked_add(rows).ok_or(AllocError)?;
         self.pieces.push(piece)?;
         self.len = len;
         Ok(())

@@ -10,3 +10,5 @@ pub mod Cells
 pub mod Firsts
 pub mod Picked
 pub mod Results
+pub mod Conjoined
+pub mod Projections

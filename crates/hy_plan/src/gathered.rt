@@ -1,10 +1,11 @@
 //! Rows gathered of a table, kept by column.
 
 ghost use Rattle.std.specs.Prelude.{◌≡◌, ℕ, ◌<◌, ◌++◌, [], ◌∷◌, All, IfOk, OnOk, OnErr, length, map, slice_index_or, take};
+ghost use Rattle.hy_value.specs.Columns.{has_column};
 ghost use Rattle.hy_value.specs.Refs.{referred};
 ghost use Rattle.hy_plan.specs.Placed.{row_picked, values_picked};
 ghost use Rattle.hy_bound.specs.Predicate.{column_of};
-ghost use Rattle.hy_bound.specs.Projection.{spread};
+ghost use Rattle.hy_bound.specs.Projection.{projected, spread};
 ghost use Rattle.hy_plan.specs.Cells.{ReachTo, with_values, cells_of, firsts};
 
 use crate::column::Column;
@@ -80,6 +81,18 @@ impl Gathered {
     {
         let len = self.len.checked_add(1).ok_or(AllocError)?;
         put_row(&mut self.columns, self.len, row)?;
+        self.len = len;
+        Ok(())
+    }
+
+    /// Adds of a row the values in a set of columns. Without memory nothing changes.
+    pub fn push_projected(&mut self, columns: ColMask, row: &[Value]) -> Result<(), AllocError>
+        requires { length (projected columns row.now) ≡ self.old.width }
+        ensures ok { OnOk result (self.new ≡ record { width = self.old.width; rows = self.old.rows ++ projected columns row.now ∷ [] }) }
+        ensures err { OnErr result (self.new ≡ self.old) }
+    {
+        let len = self.len.checked_add(1).ok_or(AllocError)?;
+        put_projected(&mut self.columns, self.len, columns, row)?;
         self.len = len;
         Ok(())
     }
@@ -163,6 +176,36 @@ fn put_row(columns: &mut Vec<Column>, len: usize, row: &[Value]) -> Result<(), A
         columns[index].put(len, value.refer())?;
     }
     Ok(())
+}
+
+/// Puts the values of a row in a set of columns behind the first ones of each column. Without memory only these stay for
+/// certain.
+fn put_projected(
+    columns: &mut Vec<Column>,
+    len: usize,
+    mask: ColMask,
+    row: &[Value],
+) -> Result<(), AllocError>
+    requires width { length (projected mask row.now) ≡ length columns.old.items }
+    requires reach { ReachTo len columns.old.items }
+    ensures ok { OnOk result (columns.new.items ≡ with_values len (cells_of (projected mask row.now)) columns.old.items) }
+    ensures err { OnErr result (firsts len columns.new.items ≡ firsts len columns.old.items) }
+{
+    let mut used = 0;
+    for (index, value) in row.iter().enumerate() {
+        if is_of_set(mask, index) {
+            columns[used].put(len, value.refer())?;
+            used += 1;
+        }
+    }
+    Ok(())
+}
+
+/// Whether a set has the column of this number.
+fn is_of_set(columns: ColMask, column: usize) -> bool
+    ensures { result ≡ has_column columns column }
+{
+    column < 32 && columns.has(column as u32)
 }
 
 /// Puts the values in some columns of the rows at some places behind the first ones of each column. Without memory only

@@ -1,7 +1,7 @@
 use Rattle.std.proofs.Common.{◌≡◌, ◌++◌, drop}
 use Rattle.std.specs.List.{flat_map}
 use Rattle.hy_plan.specs.Reads.{recorded, select_reads_of}
-use Rattle.hy_plan.proofs.reading.select_records.Given as goal
+use Rattle.hy_plan.proofs.reading.joined_records.Given as goal
 
 -- the records so far and those of the other reads are all
 abbrev pub invariant-loop-read : goal.invariant-loop-read

@@ -7,8 +7,7 @@ use Rattle.std.specs.declared.cmp.Ordering.{Ordering}
 use Rattle.std.specs.declared.cmp.Ordering.TheVariants.{Less, Equal, Greater}
 use Rattle.std.specs.Cmp.{tied_itself}
 use Rattle.std.proofs.lemmas.Bool.{cases_Bool, true≢false}
-use Rattle.hy_index.specs.declared.IndexEntry.{IndexEntry}
-use Rattle.hy_index.specs.Entries.{entry_cmp, Ascends, below_entry, with_entry, without_entry}
+use Rattle.hy_index.specs.Entries.{IndexEntry, entry_cmp, Ascends, below_entry, with_entry, without_entry}
 use Rattle.hy_index.proofs.Orders.{entries_total, all_at, entry_ties}
 use Rattle.hy_index.proofs.Prefixes.{passes, fails, kept, left_out}
 
@@ -58,7 +57,7 @@ pub ascends_with : (e : IndexEntry) (xs : List IndexEntry) → Ascends xs → (C
 ascends_with e [] up absent = (tt, tt)
 ascends_with e (x ∷ xs) up absent = with_by e x xs (entry_cmp x e) refl up absent (ascends_with e xs up.1 (not_behind e x xs absent))
 
-all_filter : (P : IndexEntry → Type 0) (p : IndexEntry → Bool) (xs : List IndexEntry) → AllByRecursion P xs → AllByRecursion P (filter p xs)
+pub all_filter : (P : IndexEntry → Type 0) (p : IndexEntry → Bool) (xs : List IndexEntry) → AllByRecursion P xs → AllByRecursion P (filter p xs)
 all_filter P p [] all = tt
 all_filter P p (x ∷ xs) all =
     elim (p x) as (λ (b : Bool). AllByRecursion P (cond b (x ∷ filter p xs) (filter p xs))) [ true ↦ (all.0, all_filter P p xs all.1) | false ↦ all_filter P p xs all.1 ]

@@ -9,8 +9,7 @@ use Rattle.std.proofs.lemmas.Bool.{true≢false}
 use Rattle.hy_value.specs.declared.Value.{Value}
 use Rattle.hy_value.specs.Order.{value_cmp}
 use Rattle.hy_value.specs.TotalOrder.{values_total, values_tie}
-use Rattle.hy_index.specs.declared.IndexEntry.{IndexEntry}
-use Rattle.hy_index.specs.Entries.{entry_cmp, with_entry, has_key}
+use Rattle.hy_index.specs.Entries.{IndexEntry, entry_cmp, with_entry, has_key}
 use Rattle.hy_index.specs.Members.{AddsOne, TakesOne, FindsKeys}
 use Rattle.hy_index.proofs.Orders.{entries_total, entry_ties}
 

@@ -12,8 +12,7 @@ use Rattle.std.proofs.lemmas.Cmp.{nat_cmp_total}
 use Rattle.hy_value.specs.declared.Value.{Value}
 use Rattle.hy_value.specs.Order.{value_cmp}
 use Rattle.hy_value.specs.TotalOrder.{values_total, values_tie}
-use Rattle.hy_index.specs.declared.IndexEntry.{IndexEntry}
-use Rattle.hy_index.specs.Entries.{entry, order_of, entry_cmp, Ascends, below_key, up_to_key, below_entry}
+use Rattle.hy_index.specs.Entries.{IndexEntry, entry, order_of, entry_cmp, Ascends, below_key, up_to_key, below_entry}
 
 pub entries_total : IsTotalOrder entry_cmp
 entries_total = then_total (on_total (λ (e : IndexEntry). e.key) values_total) (on_total (λ (e : IndexEntry). e.pos) nat_cmp_total)

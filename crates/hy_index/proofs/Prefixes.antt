@@ -11,8 +11,7 @@ use Rattle.std.proofs.lemmas.Bool.{cases_Bool, true≢false}
 use Rattle.hy_value.specs.declared.Value.{Value}
 use Rattle.hy_value.specs.Order.{value_cmp}
 use Rattle.hy_value.specs.TotalOrder.{values_total}
-use Rattle.hy_index.specs.declared.IndexEntry.{IndexEntry}
-use Rattle.hy_index.specs.Entries.{entry_cmp, Ascends, has_key, below_key, up_to_key}
+use Rattle.hy_index.specs.Entries.{IndexEntry, entry_cmp, Ascends, has_key, below_key, up_to_key}
 use Rattle.hy_index.proofs.Orders.{keys_rise, lt_up, lt_is}
 
 -- a partition point is as many as pass from the front on

@@ -6,7 +6,11 @@ use Rattle.std.specs.declared.cmp.Ordering.{Ordering}
 use Rattle.std.specs.declared.cmp.Ordering.TheVariants.{Less}
 use Rattle.hy_value.specs.declared.Value.{Value}
 use Rattle.hy_value.specs.Order.{value_cmp}
-use Rattle.hy_index.specs.declared.IndexEntry.{IndexEntry}
+
+-- a key, and a position that has it
+pub record IndexEntry : Type 0 where
+  pub key : Value
+  pub pos : ℕ
 
 abbrev pub entry : Value → ℕ → IndexEntry
 entry key pos = record { key = key; pos = pos }

@@ -1,8 +1,7 @@
 -- Which entries are there when one comes or goes.
 use Rattle.std.specs.Prelude.{◌≡◌, ◌≢◌, ◌⊎◌, ◌↔◌, List, Contains, filter}
 use Rattle.hy_value.specs.declared.Value.{Value}
-use Rattle.hy_index.specs.declared.IndexEntry.{IndexEntry}
-use Rattle.hy_index.specs.Entries.{with_entry, without_entry, has_key}
+use Rattle.hy_index.specs.Entries.{IndexEntry, with_entry, without_entry, has_key}
 
 -- with an entry that is added there are that one and the others
 abbrev pub AddsOne : Type 0

@@ -1,27 +1,45 @@
-use Rattle.std.proofs.Common.{◌≡◌, ℕ, List, take, drop, sym, ap, ◌∙◌, subst}
+use Rattle.std.proofs.Common.{◌++◌, ℤ, map, sym, ap, ◌∙◌, rules, w64}
 use Rattle.std.specs.Prelude.{filter}
-use Rattle.std.specs.List.{prefix_len}
-use Rattle.hy_index.specs.declared.IndexEntry.{IndexEntry}
+use Rattle.std.proofs.lemmas.Int.{to_z-of_z}
+use Rattle.hy_value.specs.Refs.{referred}
+use Rattle.hy_value.specs.declared.Value.TheVariants.{Int}
+use Rattle.hy_value.specs.declared.refs.ValueRef.{ValueRef}
+use Rattle.hy_index.specs.Entries.{IndexEntry, has_key}
 use Rattle.hy_index.specs.Indexed.{Indexed}
-use Rattle.hy_index.specs.Entries.{has_key, below_key, up_to_key, Ascends}
-use Rattle.hy_index.proofs.Prefixes.{found, ascends_behind}
+use Rattle.hy_index.specs.Positions.{positions_of}
+use Rattle.hy_index.proofs.Mapped.{same_positions}
+use Rattle.hy_index.proofs.Parting as parts
 use Rattle.hy_index.proofs.KeyIndex.find.Goals as goal
-
-pub count_up_to_key-requires : goal.count_up_to_key-requires
-count_up_to_key-requires c =
-    subst Ascends
-    (sym (c.split_at.ensures.back ∙ (ap (λ (n : ℕ). drop n c.as_slice-entries.result.now) c.count_below_key.ensures.count
-    ∙ ap (λ (ys : List IndexEntry). drop (prefix_len (below_key c.args.key.now) ys) ys) c.as_slice-entries.ensures.value)))
-    (ascends_behind (prefix_len (below_key c.args.key.now) c.self.inside.entries.items) c.self.inside.entries.items c.self.invariant)
+use Rattle.hy_index.proofs.KeyIndex.find.Goals.{in-Null, in-Int, in-Text}
 
 pub returns : goal.returns
 returns c =
-    let key = c.args.key.now in
-    let xs = c.self.inside.entries.items in
-    let others : c.split_at.result.1.now ≡ drop (prefix_len (below_key key) xs) xs =
-    c.split_at.ensures.back ∙ (ap (λ (n : ℕ). drop n c.as_slice-entries.result.now) c.count_below_key.ensures.count
-    ∙ ap (λ (ys : List IndexEntry). drop (prefix_len (below_key key) ys) ys) c.as_slice-entries.ensures.value) in
-    c.split_at-2.ensures.front
-    ∙ (ap (λ (n : ℕ). take n c.split_at.result.1.now) c.count_up_to_key.ensures.count
-    ∙ (ap (λ (ys : List IndexEntry). take (prefix_len (up_to_key key) ys) ys) others
-    ∙ (found key xs c.self.invariant ∙ ap (λ (i : Indexed). filter (has_key key) i.entries) c.self.view_is)))
+    let i = c.self.inside in
+    let all = i.nulls.entries ++ (i.numbers.entries ++ i.texts.entries) in
+    elim c.match-key.branch [
+      | in-Null w ↦
+          ap positions_of w.part-is
+          ∙ (same_positions _ w.find.result.now
+          ∙ (ap (map (λ (e : IndexEntry). e.pos)) (w.find.ensures)
+          ∙ (sym (ap (map (λ (e : IndexEntry). e.pos)) (parts.find_null i.kind i.nulls i.numbers i.texts c.self.invariant))
+          ∙ (ap (λ (key : ValueRef). map (λ (e : IndexEntry). e.pos) (filter (has_key (referred key))
+          all)) (sym w.in-Null.is)
+          ∙ ap (λ (index : Indexed). map (λ (e : IndexEntry). e.pos) (filter (has_key (referred c.args.key)) index.entries)) c.self.view_is))))
+      | in-Int w ↦
+          ap positions_of w.part-is
+          ∙ (same_positions _ w.find-in-Int.result.now
+          ∙ (ap (map (λ (e : IndexEntry). e.pos)) (w.find-in-Int.ensures ∙ ap (λ (n : ℤ). filter (has_key (Int n)) i.numbers.entries)
+          (to_z-of_z w64 w.in-Int.number (search rules)))
+          ∙ (sym (ap (map (λ (e : IndexEntry). e.pos)) (parts.find_number i.kind i.nulls i.numbers i.texts c.self.invariant w.in-Int.number))
+          ∙ (ap (λ (key : ValueRef). map (λ (e : IndexEntry). e.pos) (filter (has_key (referred key))
+          all)) (sym w.in-Int.is)
+          ∙ ap (λ (index : Indexed). map (λ (e : IndexEntry). e.pos) (filter (has_key (referred c.args.key)) index.entries)) c.self.view_is))))
+      | in-Text w ↦
+          ap positions_of w.part-is
+          ∙ (same_positions _ w.find-in-Text.result.now
+          ∙ (ap (map (λ (e : IndexEntry). e.pos)) (w.find-in-Text.ensures)
+          ∙ (sym (ap (map (λ (e : IndexEntry). e.pos)) (parts.find_text i.kind i.nulls i.numbers i.texts c.self.invariant w.in-Text.text.now))
+          ∙ (ap (λ (key : ValueRef). map (λ (e : IndexEntry). e.pos) (filter (has_key (referred key))
+          all)) (sym w.in-Text.is)
+          ∙ ap (λ (index : Indexed). map (λ (e : IndexEntry). e.pos) (filter (has_key (referred c.args.key)) index.entries)) c.self.view_is))))
+    ]

@@ -1,2 +1,3 @@
 pub mod NumberLists
 pub mod RowLists
+pub mod TextColumns

@@ -1,5 +1,5 @@
 -- Values of columns' types.
-use Rattle.std.specs.Prelude.{ℕ, ℤ, pos, List, [], Option, None, Some}
+use Rattle.std.specs.Prelude.{ℕ, ℤ, pos, ◌+◌, List, [], ◌∷◌, Option, None, Some}
 use Rattle.hy_value.specs.declared.Value.{Value}
 use Rattle.hy_value.specs.declared.Value.TheVariants as value
 use Rattle.hy_value.specs.declared.Kind.{Kind}
@@ -26,3 +26,12 @@ FitsKind kind.Str (value.Text text) = Unit {0}
 abbrev pub first_value : Kind → Value
 first_value kind.Int = value.Int (pos 0)
 first_value kind.Str = value.Text []
+
+-- how many texts a column holds at a place at most, and a row of columns of these types
+abbrev pub kind_texts : Kind → ℕ
+kind_texts kind.Int = 0
+kind_texts kind.Str = 1
+
+abbrev pub texts_of : List Kind → ℕ
+texts_of [] = 0
+texts_of (kind ∷ kinds) = kind_texts kind + texts_of kinds

@@ -2,7 +2,8 @@
 
 ghost use Rattle.std.specs.Prelude.{◌≡◌, ◌<◌, [], ℕ, List, IfOk, length, map, replicate, slice_index_or, slice_set};
 ghost use Rattle.hy_column.specs.Compared.{column_compared};
-ghost use Rattle.hy_column.specs.Cells.{FitsKind, first_value, number_value, text_value};
+ghost use Rattle.hy_column.specs.Cells.{FitsKind, first_value, number_value, text_value, kind_texts, texts_of};
+ghost use Rattle.hy_column.specs.Rows.{kinds_of};
 ghost use Rattle.std.specs.Option.{option_copied};
 ghost use Rattle.hy_value.specs.Refs.{referred};
 ghost use Rattle.hy_value.specs.declared.Value.{Value};
@@ -32,6 +33,16 @@ impl Column {
         match kind {
             Kind::Int => Ok(Column::Int(IntColumn::new(alloc, rows)?)),
             Kind::Str => Ok(Column::Text(TextColumn::new(alloc, rows)?)),
+        }
+    }
+
+    /// How many texts it holds at a place at most.
+    fn texts(&self) -> usize
+        ensures { result ≡ kind_texts (kind_of self.now) }
+    {
+        match self {
+            Column::Int(_) => 0,
+            Column::Text(_) => 1,
         }
     }
 
@@ -71,6 +82,26 @@ impl Column {
                 Value::Null => text_or_null(texts.replace(place, None)),
                 Value::Int(_) => unreachable!(),
                 Value::Text(text) => text_or_null(texts.replace(place, Some(text))),
+            },
+        }
+    }
+
+    /// Puts a value of the column's type, or NULL, at a place. It takes no memory.
+    fn put(&mut self, place: usize, value: ValueRef<'_>)
+        requires within { place < places self.old }
+        requires fits { FitsKind (kind_of self.old) (referred value) }
+        ensures { self.new ≡ with_cell self.old place (referred value.entry) }
+    {
+        match self {
+            Column::Int(numbers) => match value {
+                ValueRef::Null => numbers.put(place, None),
+                ValueRef::Int(number) => numbers.put(place, Some(number)),
+                ValueRef::Text(_) => unreachable!(),
+            },
+            Column::Text(texts) => match value {
+                ValueRef::Null => texts.put(place, None),
+                ValueRef::Int(_) => unreachable!(),
+                ValueRef::Text(text) => texts.put(place, Some(text)),
             },
         }
     }
@@ -116,6 +147,17 @@ fn text_or_null(text: Option<Text>) -> Value
     }
 }
 
+/// How many columns are of texts.
+fn count_texts(columns: &[Column]) -> usize
+    ensures { result ≡ texts_of (kinds_of columns.now) }
+{
+    let mut count = 0;
+    for column in columns {
+        count += column.texts();
+    }
+    count
+}
+
 /// The columns of a chunk. Contracts see the rows by place: how the values lie in columns is told here and
 /// nowhere else.
 #[derive(Drop)]
@@ -156,6 +198,13 @@ impl Columns {
         self.columns.len()
     }
 
+    /// How many columns are of texts.
+    pub fn texts(&self) -> usize
+        ensures { result ≡ texts_of self.now.kinds }
+    {
+        count_texts(self.columns.as_slice())
+    }
+
     /// The value of a column at a place. It takes no memory.
     pub fn value(&self, place: usize, column: usize) -> Value
         requires within { place < length self.now.rows }
@@ -181,7 +230,7 @@ impl Columns {
         ensures { row.new ≡ slice_index_or self.now.rows place [] }
     {
         for column in 0..self.columns.len() {
-            let _old = row.replace(column, self.columns[column].value(place));
+            row.set(column, self.columns[column].refer(place));
         }
     }
 
@@ -196,6 +245,19 @@ impl Columns {
     {
         let column = &mut self.columns[column];
         column.replace(place, value)
+    }
+
+    /// Puts a value of the column's type, or NULL, at a place: a number by one store. It takes no memory.
+    pub fn put(&mut self, place: usize, column: usize, value: ValueRef<'_>)
+        requires within { place < length self.old.rows }
+        requires column { column < length self.old.kinds }
+        requires fits { FitsKind (slice_index_or self.old.kinds column Kind.Int) (referred value) }
+        ensures kinds { self.new.kinds ≡ self.old.kinds }
+        ensures rows { self.new.rows
+            ≡ slice_set self.old.rows place (slice_set (slice_index_or self.old.rows place []) column (referred value.entry)) }
+    {
+        let column = &mut self.columns[column];
+        column.put(place, value);
     }
 
     /// Whether a comparison with a number is true of the value of a column at each place, where it is a column of

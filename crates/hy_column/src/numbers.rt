@@ -71,6 +71,15 @@ impl IntColumn {
         ensures new { self.new ≡ slice_set self.old place value }
     {
         let old = self.get(place);
+        self.put(place, value);
+        old
+    }
+
+    /// Puts a number or NULL at a place.
+    pub fn put(&mut self, place: usize, value: Option<i64>)
+        requires { place < length self.old }
+        ensures { self.new ≡ slice_set self.old place value }
+    {
         match value {
             None => self.nulls.set(place, true),
             Some(number) => {
@@ -78,7 +87,6 @@ impl IntColumn {
                 self.nulls.set(place, false);
             }
         }
-        old
     }
 
     /// The numbers by place. What stands at a NULL's place is no matter.

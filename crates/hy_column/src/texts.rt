@@ -22,6 +22,16 @@ impl Model for TextColumn {
     ghost view = { λ a. a.values.items };
 }
 
+/// Makes it a copy of a text.
+fn put_text(there: &mut Option<Text>, text: &Text)
+    ensures { there.new ≡ Some text.now }
+{
+    match there {
+        None => *there = Some(text.copy()),
+        Some(there) => there.copy_from(text),
+    }
+}
+
 impl TextColumn {
     /// So many empty texts. Err is for want of memory.
     pub fn new(alloc: Global, rows: usize) -> Result<TextColumn, AllocError>
@@ -49,5 +59,17 @@ impl TextColumn {
         ensures new { self.new ≡ slice_set self.old place value }
     {
         mem::replace(&mut self.values[place], value)
+    }
+
+    /// Puts a copy of a text, or NULL, at a place: over a text in place.
+    pub fn put(&mut self, place: usize, value: Option<&Text>)
+        requires { place < length self.old }
+        ensures { self.new ≡ slice_set self.old place (option_copied value.entry) }
+    {
+        let there = &mut self.values[place];
+        match value {
+            None => *there = None,
+            Some(text) => put_text(there, text),
+        }
     }
 }

@@ -12,7 +12,7 @@ ghost use Rattle.hy_notes.specs.Blocks.{joined, notes_in, begins, notes_at, note
 ghost use Rattle.hy_notes.specs.Blocks.{IsPlace, IsLater, IsBlank, AreBlocks};
 
 use crate::NotedPlace;
-use hy_value::{Change, Row};
+use hy_value::{Change, StoredRow};
 use std::alloc::{AllocError, Global};
 use std::cmp::Ordering;
 
@@ -84,7 +84,7 @@ fn count_begun(blocks: &[Vec<Change>], table: u32, pos: u64) -> usize
 }
 
 /// Puts another row after into the note at an index.
-fn put_after(notes: &mut Vec<Change>, at: usize, after: Option<Row>)
+fn put_after(notes: &mut Vec<Change>, at: usize, after: Option<StoredRow>)
     requires { at < vec_len notes.old }
     ensures items { (d : Change) → notes.new.items ≡ slice_set notes.old.items at (with_after (slice_index_or notes.old.items at d) after) }
     ensures capacity { vec_capacity notes.new ≡ vec_capacity notes.old }
@@ -320,7 +320,7 @@ impl Blocks {
     }
 
     /// Puts another row after into the note at an index of a block.
-    pub fn put_after(&mut self, block: Option<usize>, at: usize, after: Option<Row>)
+    pub fn put_after(&mut self, block: Option<usize>, at: usize, after: Option<StoredRow>)
         requires sound { AreBlocks self.old }
         requires block { IsWithin self.old block }
         requires within { at < length (notes_at self.old block) }

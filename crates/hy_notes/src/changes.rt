@@ -5,12 +5,12 @@ ghost use Rattle.std.specs.Prelude.{length, map, option_map, slice_get, vec_len}
 ghost use Rattle.std.specs.List.{prefix_len};
 ghost use Rattle.std.specs.Option.{option_copied};
 ghost use Rattle.hy_notes.specs.Notes.{below, with_note, place_of};
-ghost use Rattle.hy_notes.specs.Spares.{AreSpare, cell_width};
+ghost use Rattle.hy_notes.specs.Spares.{AreSpare, cell_width, cell_texts};
 
 use crate::NotedPlace;
 use crate::blocks::{Blocks, count_below, is_noted};
-use crate::rows::kept;
-use hy_value::{Change, Changes as ChangeList, Row, Seq, Value};
+use crate::rows::{blank_row, kept};
+use hy_value::{Change, Changes as ChangeList, Row, RowBuffer, Seq};
 use std::alloc::{AllocError, Global};
 use std::marker::Model;
 
@@ -18,8 +18,9 @@ use std::marker::Model;
 #[derive(Drop)]
 pub struct Changes {
     notes: Blocks,
-    spare: Vec<Vec<Value>>,
+    spare: Vec<RowBuffer>,
     width: usize,
+    texts: usize,
 }
 
 impl Model for Changes {
@@ -37,34 +38,45 @@ impl Model for Changes {
       notes = notes_in a.notes;
       room = rooms a.notes.limit a.notes.count (vec_len a.spare);
       width = a.width;
+      texts = a.texts;
     } };
 
-    ghost invariant = { λ a. Sound a.notes a.spare.items a.width };
+    ghost invariant = { λ a. Sound a.notes a.spare.items a.width a.texts };
 }
 
-/// So many empty buffers with room for so many values. Err is for want of memory.
-fn blank_rows(alloc: Global, count: usize, width: usize) -> Result<Vec<Vec<Value>>, AllocError>
-    ensures spare { IfOk result (λ rows. AreSpare width rows.items) }
+/// So many buffers with room for so many values, of which so many are texts. Err is for want of memory.
+fn blank_rows(
+    alloc: Global,
+    count: usize,
+    width: usize,
+    texts: usize,
+) -> Result<Vec<RowBuffer>, AllocError>
+    ensures spare { IfOk result (λ rows. AreSpare width texts rows.items) }
     ensures count { IfOk result (λ rows. vec_len rows ≡ count) }
 {
     let mut rows = Vec::with_capacity(alloc, count)?;
     for _row in 0..count {
-        rows.push(Vec::with_capacity(alloc, width)?)?;
+        rows.push(blank_row(alloc, width, texts)?)?;
     }
     Ok(rows)
 }
 
-/// Adds empty buffers until there are so many. Err is for want of memory.
-fn add_rows(spare: &mut Vec<Vec<Value>>, count: usize, width: usize) -> Result<(), AllocError>
-    requires { AreSpare width spare.old.items }
-    ensures spare { AreSpare width spare.new.items }
+/// Adds buffers until there are so many. Err is for want of memory.
+fn add_rows(
+    spare: &mut Vec<RowBuffer>,
+    count: usize,
+    width: usize,
+    texts: usize,
+) -> Result<(), AllocError>
+    requires { AreSpare width texts spare.old.items }
+    ensures spare { AreSpare width texts spare.new.items }
     ensures ok { OnOk result (count ≤ vec_len spare.new) }
     ensures kept { vec_len spare.old ≤ vec_len spare.new }
     ensures err { OnErr result (vec_len spare.old < count) }
 {
     let alloc = *spare.allocator();
     for _row in spare.len()..count {
-        spare.push(Vec::with_capacity(alloc, width)?)?;
+        spare.push(blank_row(alloc, width, texts)?)?;
     }
     Ok(())
 }
@@ -78,28 +90,39 @@ impl Changes {
             notes: Blocks::new(alloc),
             spare: Vec::new(alloc),
             width: 0,
+            texts: 0,
         }
     }
 
-    /// Makes room for so many more notes with rows of up to so many values. It fails only where that room was
-    /// missing; the notes stay, and there is never less room.
-    pub fn reserve(&mut self, additional: usize, columns: usize) -> Result<(), AllocError>
+    /// Makes room for so many more notes with rows of up to so many values, of which so many are texts. It fails only
+    /// where that room was missing; the notes stay, and there is never less room.
+    pub fn reserve(
+        &mut self,
+        additional: usize,
+        columns: usize,
+        texts: usize,
+    ) -> Result<(), AllocError>
         ensures notes { self.new.notes ≡ self.old.notes }
         ensures ok { OnOk result (additional ≤ self.new.room) }
         ensures width { OnOk result (columns ≤ self.new.width) }
+        ensures texts { OnOk result (texts ≤ self.new.texts) }
         ensures kept { self.old.room ≤ self.new.room }
         ensures wide { self.old.width ≤ self.new.width }
-        ensures err { OnErr result ((self.old.room < additional) ⊎ (self.old.width < columns)) }
+        ensures long { self.old.texts ≤ self.new.texts }
+        ensures err { OnErr result ((self.old.room < additional) ⊎ ((self.old.width < columns) ⊎ (self.old.texts < texts))) }
     {
         self.notes.reserve(additional)?;
         let count = additional.checked_mul(2).ok_or(AllocError)?;
-        if self.width < columns {
+        if self.width < columns || self.texts < texts {
             let alloc = *self.spare.allocator();
-            self.spare = blank_rows(alloc, count.max(self.spare.len()), columns)?;
-            self.width = columns;
+            let width = self.width.max(columns);
+            let texts = self.texts.max(texts);
+            self.spare = blank_rows(alloc, count.max(self.spare.len()), width, texts)?;
+            self.width = width;
+            self.texts = texts;
             Ok(())
         } else {
-            add_rows(&mut self.spare, count, self.width)
+            add_rows(&mut self.spare, count, self.width, self.texts)
         }
     }
 
@@ -109,20 +132,23 @@ impl Changes {
         requires room { 0 < self.old.room }
         requires before { cell_width (option_copied before) ≤ self.old.width }
         requires after { cell_width (option_copied after) ≤ self.old.width }
+        requires texts_before { cell_texts (option_copied before) ≤ self.old.texts }
+        requires texts_after { cell_texts (option_copied after) ≤ self.old.texts }
         ensures notes { self.new.notes
             ≡ with_note (record { table = table; pos = pos; before = option_copied before.entry; after = option_copied after.entry }) self.old.notes }
         ensures room { self.old.room ≤ self.new.room + 1 }
         ensures width { self.new.width ≡ self.old.width }
+        ensures texts { self.new.texts ≡ self.old.texts }
     {
         let place = u64::from(pos);
         let block = self.notes.find(table, place);
         let at = count_below(self.notes.notes(block), table, place);
         let noted = is_noted(self.notes.notes(block), at, table, place);
-        let after = kept(&mut self.spare, self.width, after);
+        let after = kept(&mut self.spare, self.width, self.texts, after);
         if noted {
             self.notes.put_after(block, at, after);
         } else {
-            let before = kept(&mut self.spare, self.width, before);
+            let before = kept(&mut self.spare, self.width, self.texts, before);
             self.notes.put_note(
                 block,
                 at,
@@ -158,6 +184,7 @@ impl Changes {
         ensures err { OnErr result (self.new ≡ self.old) }
         ensures kept { self.old.room ≤ self.new.room }
         ensures wide { self.old.width ≤ self.new.width }
+        ensures long { self.old.texts ≤ self.new.texts }
     {
         Ok(Seq::from_vec(self.notes.take_all()?))
     }
@@ -167,6 +194,7 @@ impl Changes {
         ensures none { self.new.notes ≡ [] }
         ensures kept { self.old.room ≤ self.new.room }
         ensures wide { self.old.width ≤ self.new.width }
+        ensures long { self.old.texts ≤ self.new.texts }
     {
         self.notes.clear();
     }

@@ -5,6 +5,6 @@ use Rattle.hy_notes.proofs.changes.add_rows.Given as goal
 -- there are so many buffers, all spare
 abbrev pub invariant-loop-row : goal.invariant-loop-row
 invariant-loop-row l = record {
-  spare : AreSpare l.width l.spare.items;
+  spare : AreSpare l.width l.texts l.spare.items;
   count : vec_len l.spare ≡ l._row;
 }

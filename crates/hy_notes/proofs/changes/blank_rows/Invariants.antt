@@ -5,6 +5,6 @@ use Rattle.hy_notes.proofs.changes.blank_rows.Given as goal
 -- so many buffers are spare
 abbrev pub invariant-loop-row : goal.invariant-loop-row
 invariant-loop-row l = record {
-  spare : AreSpare l.width l.rows.items;
+  spare : AreSpare l.width l.texts l.rows.items;
   count : vec_len l.rows ≡ l._row;
 }

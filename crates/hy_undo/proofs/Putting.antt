@@ -45,7 +45,7 @@ length-with_older_fewer [] (old ∷ older) l = absurd (omega arith)
 length-with_older_fewer (new ∷ newer) [] l = refl
 length-with_older_fewer (new ∷ newer) (old ∷ older) l = let r = length-with_older_fewer newer older (omega arith) in omega (arith, r)
 
-get_or_any : {A : Type 0} (xs : List A) (i : ℕ) (d e : A) → i < length xs → get_or xs i d ≡ get_or xs i e
+pub get_or_any : {A : Type 0} (xs : List A) (i : ℕ) (d e : A) → i < length xs → get_or xs i d ≡ get_or xs i e
 get_or_any [] i d e l = absurd (omega arith)
 get_or_any (x ∷ xs) zero d e l = refl
 get_or_any (x ∷ xs) (suc i) d e l = get_or_any xs i d e (omega arith)

@@ -8,11 +8,14 @@ ghost use Rattle.hy_undo.specs.Steps.{PlacesStep};
 
 mod delta;
 mod merging;
+mod noted;
 mod refusal;
+mod spares;
 mod version;
 
 pub use delta::Delta;
 pub use refusal::Refusal;
+pub use spares::Spares;
 pub use version::Version;
 
 /// What viewers see at a position after a write, an undo or a stamp there.

@@ -8,8 +8,8 @@ ghost use Rattle.hy_validate.specs.TreeHits.{is_hit_number, is_asked, Finds};
 
 use crate::conditions::{first_condition, is_same};
 use crate::hits::{earlier, is_hit};
-use hy_bound::{Pred, Record, truth};
-use hy_value::{Change, Row};
+use hy_bound::{Pred, Record, stored_truth};
+use hy_value::{Change, StoredRow};
 use std::alloc::{AllocError, Global};
 
 /// The records of a table whose restrictions have the same first condition.
@@ -59,11 +59,11 @@ impl<'a> Group<'a> {
 }
 
 /// Whether a condition is true of a row that is there or not.
-fn selects(pred: &Pred, row: Option<&Row>) -> bool
+fn selects(pred: &Pred, row: Option<&StoredRow>) -> bool
     ensures { result ≡ truth_at pred.now (option_copied row.entry) }
 {
     match row {
-        Some(row) => truth(pred, row),
+        Some(row) => stored_truth(pred, row),
         None => false,
     }
 }

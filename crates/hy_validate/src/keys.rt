@@ -6,7 +6,6 @@ ghost use Rattle.std.specs.List.Sorted.{IsPartitionPoint, IsPermutation, IsSorte
 ghost use Rattle.hy_bound.specs.Predicate.{truth_at};
 ghost use Rattle.hy_bound.specs.PredView.{viewed_side};
 ghost use Rattle.hy_bound.specs.declared.predicate.Side.TheVariants.{Literal};
-ghost use Rattle.hy_value.specs.Order.{value_cmp};
 ghost use Rattle.hy_value.specs.Columns.{has_column};
 ghost use Rattle.hy_value.specs.Refs.{referred};
 ghost use Rattle.hy_validate.specs.FirstConditions.{first_condition_of};
@@ -16,7 +15,7 @@ ghost use Rattle.hy_validate.specs.TreeHits.{is_hit_number, Finds};
 use crate::conditions::first_condition;
 use crate::hits::{earlier, is_hit};
 use hy_bound::{Record, Root, SideView};
-use hy_value::{Change, Cmp, ColMask, Row, Value, ValueRef};
+use hy_value::{Change, Cmp, ColMask, StoredRow, ValueRef, compare_refs};
 use std::alloc::{AllocError, Global};
 use std::cmp::Ordering;
 
@@ -80,21 +79,6 @@ fn literal(side: SideView<'_>) -> Option<ValueRef<'_>>
     }
 }
 
-/// How a value stands to another, where they are.
-fn compare_values(left: ValueRef, right: ValueRef) -> Ordering
-    ensures { result ≡ value_cmp (referred left.entry) (referred right.entry) }
-{
-    match (left, right) {
-        (ValueRef::Null, ValueRef::Null) => Ordering::Equal,
-        (ValueRef::Null, _) => Ordering::Less,
-        (_, ValueRef::Null) => Ordering::Greater,
-        (ValueRef::Int(left), ValueRef::Int(right)) => left.cmp(&right),
-        (ValueRef::Int(_), ValueRef::Text(_)) => Ordering::Less,
-        (ValueRef::Text(_), ValueRef::Int(_)) => Ordering::Greater,
-        (ValueRef::Text(left), ValueRef::Text(right)) => left.as_bytes().cmp(right.as_bytes()),
-    }
-}
-
 /// How a key stands to another: by table, column and value.
 fn compare_keys(left: &Key, right: &Key) -> Ordering
     ensures { result ≡ key_cmp left.now right.now }
@@ -103,7 +87,7 @@ fn compare_keys(left: &Key, right: &Key) -> Ordering
         .table
         .cmp(&right.table)
         .then(left.column.cmp(&right.column));
-    places.then(compare_values(left.value, right.value))
+    places.then(compare_refs(left.value, right.value))
 }
 
 /// How a record stands to another: by their keys, and then by their numbers.
@@ -177,15 +161,17 @@ fn first_in_row(
     records: &[Record],
     keyed: &KeyedRecords,
     change: &Change,
-    row: Option<&Row>,
+    row: Option<&StoredRow>,
 ) -> Option<u32>
     requires masked { IsMasked keyed.now }
     requires sorted { IsSorted keyed_cmp keyed.now.places.items }
     ensures { Finds (is_hit_number records.now change.now)
         (HasTrue change.now.table (option_copied row.entry) keyed.now.places.items) result }
 {
+    let values = row?;
     let mut first = None;
-    for (column, value) in row?.as_slice().iter().enumerate() {
+    for column in 0..values.len() {
+        let value = values.refer(column);
         first = earlier(first, first_of_value(records, keyed, change, column, value));
     }
     first
@@ -197,17 +183,17 @@ fn first_of_value(
     keyed: &KeyedRecords,
     change: &Change,
     column: usize,
-    value: &Value,
+    value: ValueRef<'_>,
 ) -> Option<u32>
     requires masked { IsMasked keyed.now }
     requires sorted { IsSorted keyed_cmp keyed.now.places.items }
     ensures { Finds (is_hit_number records.now change.now)
-        (HasValue change.now.table column value.now keyed.now.places.items) result }
+        (HasValue change.now.table column (referred value.entry) keyed.now.places.items) result }
 {
     let key = Key {
         table: change.table,
         column: keyed.column_sought(column)?,
-        value: value.refer(),
+        value,
     };
     first_of_key(
         records,

@@ -11,14 +11,14 @@ mod writing;
 ghost use Rattle.std.specs.Prelude.{◌≡◌};
 ghost use Rattle.hy_log_record.specs.declared.BodyError.TheVariants.{OutOfMemory};
 
-use hy_value::{Kinds, Row, Seq};
+use hy_value::{Kinds, Seq, StoredRow};
 pub use laws::bodies_are_one;
 pub use reading::{decode, split_record};
 use std::alloc::{AllocError, AllocFailed};
 pub use writing::encode;
 
 /// The rows of a table by position, each there or absent.
-pub type HeldRows = Seq<Option<Row>>;
+pub type HeldRows = Seq<Option<StoredRow>>;
 
 /// A table by position.
 #[derive(Drop)]

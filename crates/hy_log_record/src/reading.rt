@@ -12,7 +12,7 @@ ghost use Rattle.hy_log_record.specs.Reading.{value_at, values_at, row_at, chang
 use crate::{BodyError, HeldTable};
 use hy_journal::Entry;
 use hy_stamp::Label;
-use hy_value::{Change, Changes, Kind, Row, Seq, Text, Value};
+use hy_value::{Change, Changes, Kind, Seq, StoredRow, Text, Value};
 use std::alloc::Global;
 
 fn read_u32(bytes: &[u8]) -> Result<(u32, &[u8]), BodyError>
@@ -123,17 +123,18 @@ fn read_values<'a>(
     alloc: Global,
     kinds: &[Kind],
     bytes: &'a [u8],
-) -> Result<(Row, &'a [u8]), BodyError>
+) -> Result<(StoredRow, &'a [u8]), BodyError>
     ensures { Gives (λ x. (x.0, x.1.now)) result (values_at kinds.now bytes.now) }
 {
-    let mut values = Vec::new(alloc);
+    let mut values = Vec::with_capacity(alloc, kinds.len())?;
     let mut rest = bytes;
     for kind in kinds {
         let (value, after) = read_value(alloc, *kind, rest)?;
         values.push(value)?;
         rest = after;
     }
-    Ok((Seq::from_vec(values), rest))
+    let row = StoredRow::from_values(alloc, values.as_slice())?;
+    Ok((row, rest))
 }
 
 /// A row of these columns, or none.
@@ -142,7 +143,7 @@ fn read_row<'a>(
     alloc: Global,
     kinds: &[Kind],
     bytes: &'a [u8],
-) -> Result<(Option<Row>, &'a [u8]), BodyError>
+) -> Result<(Option<StoredRow>, &'a [u8]), BodyError>
     ensures { Gives (λ x. (x.0, x.1.now)) result (row_at kinds.now bytes.now) }
 {
     match bytes {

@@ -2,12 +2,13 @@
 
 ghost use Rattle.std.specs.Prelude.{◌≡◌, ◌<◌, ◌^◌, ◌++◌, ◌∷◌, [], length, vec_len, filter, OnOk, IfOk};
 ghost use Rattle.std.specs.List.{flat_map, AllByRecursion};
+ghost use Rattle.hy_value.specs.Refs.{referred};
 ghost use Rattle.hy_notes.specs.Notes.{is_change};
 ghost use Rattle.hy_log_record.specs.Bytes.{be32, be64, value_bytes, row_bytes, change_bytes, changes_bytes, body_of, record_of};
 ghost use Rattle.hy_log_record.specs.Bytes.{HasValueBytes, HasRowBytes, HasChangeBytes, HasBytes};
 
 use hy_journal::Entry;
-use hy_value::{Change, Row, Value};
+use hy_value::{Change, StoredRow, ValueRef};
 use std::alloc::{AllocError, Global};
 
 #[tactic(auto, unfolding(crate::specs::Bytes::be32))]
@@ -33,17 +34,17 @@ fn push_text(out: &mut Vec<u8>, text: &[u8]) -> Result<(), AllocError>
     out.extend_from_slice(text)
 }
 
-fn push_value(out: &mut Vec<u8>, value: &Value) -> Result<(), AllocError>
-    ensures bytes { OnOk result (out.new.items ≡ out.old.items ++ value_bytes value.now) }
-    ensures has { OnOk result (HasValueBytes value.now) }
+fn push_value(out: &mut Vec<u8>, value: ValueRef<'_>) -> Result<(), AllocError>
+    ensures bytes { OnOk result (out.new.items ≡ out.old.items ++ value_bytes (referred value.entry)) }
+    ensures has { OnOk result (HasValueBytes (referred value.entry)) }
 {
     match value {
-        Value::Null => out.push(0)?,
-        Value::Int(number) => {
+        ValueRef::Null => out.push(0)?,
+        ValueRef::Int(number) => {
             out.push(1)?;
             push_u64(out, number.cast_unsigned())?;
         }
-        Value::Text(text) => {
+        ValueRef::Text(text) => {
             out.push(2)?;
             push_text(out, text.as_bytes())?;
         }
@@ -51,17 +52,17 @@ fn push_value(out: &mut Vec<u8>, value: &Value) -> Result<(), AllocError>
     Ok(())
 }
 
-fn push_values(out: &mut Vec<u8>, values: &[Value]) -> Result<(), AllocError>
-    ensures bytes { OnOk result (out.new.items ≡ out.old.items ++ flat_map value_bytes values.now) }
-    ensures has { OnOk result (AllByRecursion HasValueBytes values.now) }
+fn push_values(out: &mut Vec<u8>, row: &StoredRow) -> Result<(), AllocError>
+    ensures bytes { OnOk result (out.new.items ≡ out.old.items ++ flat_map value_bytes row.now) }
+    ensures has { OnOk result (AllByRecursion HasValueBytes row.now) }
 {
-    for value in values {
-        push_value(out, value)?;
+    for column in 0..row.len() {
+        push_value(out, row.refer(column))?;
     }
     Ok(())
 }
 
-fn push_row(out: &mut Vec<u8>, row: &Option<Row>) -> Result<(), AllocError>
+fn push_row(out: &mut Vec<u8>, row: &Option<StoredRow>) -> Result<(), AllocError>
     ensures bytes { OnOk result (out.new.items ≡ out.old.items ++ row_bytes row.now) }
     ensures has { OnOk result (HasRowBytes row.now) }
 {
@@ -69,7 +70,7 @@ fn push_row(out: &mut Vec<u8>, row: &Option<Row>) -> Result<(), AllocError>
         None => out.push(0)?,
         Some(row) => {
             out.push(1)?;
-            push_values(out, row.as_slice())?;
+            push_values(out, row)?;
         }
     }
     Ok(())

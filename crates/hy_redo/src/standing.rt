@@ -6,17 +6,17 @@ ghost use Rattle.hy_redo.specs.Tables.{is_past, rise_past, rise, with_table, wit
 ghost use Rattle.hy_redo.specs.Tests.{same_cells, begins_from, is_behind, stand_test};
 
 use hy_log_record::HeldTable;
-use hy_value::{Change, Changes, Row, compare_rows};
+use hy_value::{Change, Changes, StoredRow};
 
 /// Whether two cells have the same row, or none.
-fn is_same(left: &Option<Row>, right: &Option<Row>) -> bool
+fn is_same(left: &Option<StoredRow>, right: &Option<StoredRow>) -> bool
     ensures { result ≡ same_cells left.now right.now }
 {
     match left {
         None => right.is_none(),
         Some(row) => match right {
             None => false,
-            Some(other) => compare_rows(row, other).is_eq(),
+            Some(other) => row.compare(other).is_eq(),
         },
     }
 }
@@ -90,7 +90,7 @@ pub fn stand(tables: &[HeldTable], last: Option<u64>, time: u64, changes: &[Chan
 }
 
 /// Puts a cell at a position of a table, where there is one.
-fn put_cell(held: &mut HeldTable, pos: u32, cell: Option<Row>)
+fn put_cell(held: &mut HeldTable, pos: u32, cell: Option<StoredRow>)
     ensures { held.new ≡ with_cell pos cell held.old }
 {
     let pos = pos as usize;
@@ -100,7 +100,7 @@ fn put_cell(held: &mut HeldTable, pos: u32, cell: Option<Row>)
 }
 
 /// Puts a cell at a position of one of the tables, where there is one.
-fn put(tables: &mut Vec<HeldTable>, table: u32, pos: u32, cell: Option<Row>)
+fn put(tables: &mut Vec<HeldTable>, table: u32, pos: u32, cell: Option<StoredRow>)
     ensures { tables.new.items ≡ with_table table (with_cell pos cell) tables.old.items }
 {
     let table = table as usize;

@@ -13,9 +13,9 @@ ghost use Rattle.hy_render.specs.Report.{order_lines, table_line, table_lines, t
 mod laws;
 mod summary;
 
-use hy_bound::{Ending, Grouped, Replies, Reply, Rows};
+use hy_bound::{Ending, Grouped, Replies, Reply, StoredRows};
 use hy_stamp::Label;
-use hy_value::{Change, Changes, Row, Seq, Text, print, print_row};
+use hy_value::{Change, Changes, Seq, StoredRow, Text, print, print_stored_row};
 use itoa::Buffer;
 pub use laws::text_tells_the_outcome;
 use std::alloc::AllocError;
@@ -79,7 +79,7 @@ pub struct Outcome {
     /// The commit order.
     pub order: Seq<Committed>,
     /// The rows of each table at the end, ascending.
-    pub tables: Seq<Rows>,
+    pub tables: Seq<StoredRows>,
 }
 
 /// Appends what `run` prints of an outcome: each transaction, the commit order, the final tables.
@@ -108,7 +108,11 @@ fn print_outcome(names: &Names, outcome: &Outcome, out: &mut Vec<u8>) -> Result<
 }
 
 /// Appends tables as the text of an outcome ends with them. Without memory the buffer is as it was.
-pub fn render_tables(names: &Names, tables: &[Rows], out: &mut Vec<u8>) -> Result<(), AllocError>
+pub fn render_tables(
+    names: &Names,
+    tables: &[StoredRows],
+    out: &mut Vec<u8>,
+) -> Result<(), AllocError>
     ensures ok { OnOk result (out.new.items ≡ out.old.items ++ tables_text names.now tables.now) }
     ensures err { OnErr result (out.new.items ≡ out.old.items) }
 {
@@ -121,7 +125,7 @@ pub fn render_tables(names: &Names, tables: &[Rows], out: &mut Vec<u8>) -> Resul
 }
 
 /// Appends the tables and the last line.
-fn print_last(names: &Names, tables: &[Rows], out: &mut Vec<u8>) -> Result<(), AllocError>
+fn print_last(names: &Names, tables: &[StoredRows], out: &mut Vec<u8>) -> Result<(), AllocError>
     ensures ok { OnOk result (out.new.items ≡ out.old.items ++ tables_text names.now tables.now) }
     ensures begun { BeginsWith out.old.items out.new.items }
 {
@@ -230,18 +234,18 @@ fn print_place(names: &Names, table: u32, pos: u32, out: &mut Vec<u8>) -> Result
 }
 
 /// Appends the line of a row.
-fn print_row_line(row: &Row, out: &mut Vec<u8>) -> Result<(), AllocError>
+fn print_row_line(row: &StoredRow, out: &mut Vec<u8>) -> Result<(), AllocError>
     ensures ok { OnOk result (out.new.items ≡ out.old.items ++ row_line row.now) }
     ensures begun { BeginsWith out.old.items out.new.items }
 {
     put(b"row ", out)?;
-    print_row(row, out)?;
+    print_stored_row(row, out)?;
     end_line(out)
 }
 
 /// Appends a line for each row.
 #[tactic(auto, using(crate::proofs::Buffers::begins_from))]
-fn print_rows(rows: &[Row], out: &mut Vec<u8>) -> Result<(), AllocError>
+fn print_rows(rows: &[StoredRow], out: &mut Vec<u8>) -> Result<(), AllocError>
     ensures ok { OnOk result (out.new.items ≡ out.old.items ++ flat_map row_line rows.now) }
     ensures begun { BeginsWith out.old.items out.new.items }
 {
@@ -491,12 +495,12 @@ fn print_txns(names: &Names, txns: &[TxnOutcome], out: &mut Vec<u8>) -> Result<(
 }
 
 /// Appends a row that is there or not.
-fn print_version(row: Option<&Row>, out: &mut Vec<u8>) -> Result<(), AllocError>
+fn print_version(row: Option<&StoredRow>, out: &mut Vec<u8>) -> Result<(), AllocError>
     ensures ok { OnOk result (out.new.items ≡ out.old.items ++ row_or_none (option_copied row.entry)) }
     ensures begun { BeginsWith out.old.items out.new.items }
 {
     match row {
-        Some(row) => print_row(row, out),
+        Some(row) => print_stored_row(row, out),
         None => put(b"none", out),
     }
 }
@@ -515,8 +519,8 @@ fn print_change(names: &Names, change: &Change, out: &mut Vec<u8>) -> Result<(),
 
 /// Appends the row before a change and the row after it.
 fn print_versions(
-    before: Option<&Row>,
-    after: Option<&Row>,
+    before: Option<&StoredRow>,
+    after: Option<&StoredRow>,
     out: &mut Vec<u8>,
 ) -> Result<(), AllocError>
     ensures ok { OnOk result (out.new.items
@@ -590,7 +594,7 @@ fn print_size(
 
 /// Appends the tables, with their rows.
 #[tactic(auto, using(crate::proofs::Buffers::begins_again))]
-fn print_tables(names: &Names, tables: &[Rows], out: &mut Vec<u8>) -> Result<(), AllocError>
+fn print_tables(names: &Names, tables: &[StoredRows], out: &mut Vec<u8>) -> Result<(), AllocError>
     ensures ok { OnOk result (out.new.items ≡ out.old.items ++ table_lines names.now 0 tables.now) }
     ensures begun { BeginsWith out.old.items out.new.items }
 {

@@ -8,8 +8,8 @@ ghost use Rattle.hy_render.specs.Summary.{is_committed, is_read, is_conflict, is
 ghost use Rattle.hy_render.specs.Summary.{balances, txns_line, ending_lines, total_line, end_line, summary_of};
 
 use crate::{Outcome, TxnOutcome, end_with_total, print_count, print_line, put};
-use hy_bound::{Ending, Rows, column_value};
-use hy_value::{Row, Value};
+use hy_bound::{Ending, StoredRows};
+use hy_value::{StoredRow, ValueRef};
 use std::alloc::AllocError;
 
 /// How many transactions ended in which way.
@@ -106,7 +106,7 @@ fn print_endings(txns: &[TxnOutcome], out: &mut Vec<u8>) -> Result<(), AllocErro
 
 /// Appends what the second columns of all tables come to.
 #[tactic(auto, unfolding(crate::specs::Summary::total_line))]
-fn print_sum(tables: &[Rows], out: &mut Vec<u8>) -> Result<(), AllocError>
+fn print_sum(tables: &[StoredRows], out: &mut Vec<u8>) -> Result<(), AllocError>
     ensures ok { OnOk result (out.new.items ≡ out.old.items ++ total_line (balances tables.now)) }
     ensures begun { BeginsWith out.old.items out.new.items }
 {
@@ -135,11 +135,14 @@ fn count_endings(txns: &[TxnOutcome]) -> Endings
 }
 
 /// The number in the second column of a row, 0 where there is none.
-fn balance(row: &Row) -> i128
+fn balance(row: &StoredRow) -> i128
     ensures { result ≡ added_of (column_of row.now 1) }
 {
-    match column_value(row, 1) {
-        Value::Int(number) => i128::from(number),
+    if row.len() < 2 {
+        return 0;
+    }
+    match row.refer(1) {
+        ValueRef::Int(number) => i128::from(number),
         _ => 0,
     }
 }
@@ -155,7 +158,7 @@ fn plus(sum: i128, more: i128) -> Result<i128, AllocError>
 }
 
 /// The sum of the second column of rows.
-fn table_balances(rows: &[Row]) -> Result<i128, AllocError>
+fn table_balances(rows: &[StoredRow]) -> Result<i128, AllocError>
     ensures { IfOk result (λ sum. sum ≡ sum_of 1 rows.now) }
 {
     let mut sum = 0;
@@ -166,7 +169,7 @@ fn table_balances(rows: &[Row]) -> Result<i128, AllocError>
 }
 
 /// The sum of the second columns of all tables.
-fn all_balances(tables: &[Rows]) -> Result<i128, AllocError>
+fn all_balances(tables: &[StoredRows]) -> Result<i128, AllocError>
     ensures { IfOk result (λ sum. sum ≡ balances tables.now) }
 {
     let mut sum = 0;

@@ -6,7 +6,7 @@ use Rattle.hy_log_record.proofs.reading.read_values.Goals as goal
 
 pub returns-in_err-value : goal.returns-in_err-value
 returns-in_err-value c =
-    let p = err_from_is_err_and c.from_residual.result c.from_residual.ensures.1 in
+    let p = err_from_is_err_and c.from_residual-in_err-value.result c.from_residual-in_err-value.ensures.1 in
     let total = values_at c.args.kinds.now c.args.bytes.now in
     rw (p.1, p.2)
     (values_end c.args.kinds.now total c.in_err-value.field-0.0 c.loop-kind.values.items c.loop-kind.kind-index _ _ c.loop-kind.rest.now
@@ -23,4 +23,4 @@ pub returns : goal.returns
 returns c =
     values_done c.args.kinds.now (values_at c.args.kinds.now c.args.bytes.now) c.loop-kind.values.items c.loop-kind.kind-index c.loop-kind.rest.now
     c.loop-kind-test.false c.loop-kind.invariant
-    ∙ ap (λ vs. Some (vs, c.loop-kind.rest.now)) (sym c.from_vec.ensures)
+    ∙ ap (λ vs. Some (vs, c.loop-kind.rest.now)) (sym (c.in_ok-row.ensures ∙ c.as_slice.ensures.value))

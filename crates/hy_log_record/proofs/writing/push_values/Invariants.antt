@@ -3,5 +3,5 @@ use Rattle.hy_log_record.specs.Bytes.{value_bytes, HasValueBytes}
 use Rattle.hy_log_record.proofs.PushedBytes.{Pushed}
 use Rattle.hy_log_record.proofs.writing.push_values.Given as goal
 
-abbrev pub invariant-loop-value : goal.invariant-loop-value
-invariant-loop-value l = Pushed value_bytes HasValueBytes (take l.value-index l.values) l.fn.out.items l.out.items
+abbrev pub invariant-loop-column : goal.invariant-loop-column
+invariant-loop-column l = Pushed value_bytes HasValueBytes (take l.column l.row) l.fn.out.items l.out.items

@@ -1,5 +1,6 @@
--- A visit of the core: BEGIN, COMMIT, and the ends of transactions.
-use Rattle.std.specs.Prelude.{◌≡◌, ℕ, suc, ◌-◌, List, [], ◌∷◌, ◌++◌, Bool, Option, None, Some, drop, slice_get, length, if◌then◌else◌}
+-- A visit of the core: what a session finds out there, of which its turn follows, and what the turn makes of the core.
+use Rattle.std.specs.Prelude.{◌≡◌, ℕ, ◌-◌, List, Option, None, Some, drop, slice_get, length, ◌==◌, if◌then◌else◌}
+use Rattle.std.specs.Option.{option_map}
 use Rattle.hy_bound.specs.declared.Bound.{Bound}
 use Rattle.hy_bound.specs.declared.Record.{Record}
 use Rattle.hy_bound.specs.declared.Txn.{Txn}
@@ -7,45 +8,23 @@ use Rattle.hy_value.specs.declared.change.Change.{Change}
 use Rattle.hy_journal.specs.declared.CoreData.{CoreData}
 use Rattle.hy_journal.specs.Core.{blocked_by, core_begun, core_entered, core_left, core_closed}
 use Rattle.hy_bound.specs.declared.Ending.{Ending}
-use Rattle.hy_bound.specs.declared.Ending.TheVariants.{Committed, Read, RolledBack}
 use Rattle.hy_bound.specs.declared.Ending.TheVariants as ending
-use Rattle.hy_stamp.specs.declared.Label.{Label}
 use Rattle.hy_validate.specs.declared.Invalid.{Invalid}
 use Rattle.hy_validate.specs.Hits.{first_invalid}
 use Rattle.hy_event.specs.declared.SessionData.{SessionData}
 use Rattle.hy_event.specs.declared.Open.{Open}
+use Rattle.hy_event.specs.declared.Need.{Need}
+use Rattle.hy_event.specs.declared.Need.TheVariants as need
 use Rattle.hy_protocol.specs.declared.Phase.{Phase}
-use Rattle.hy_protocol.specs.declared.Phase.TheVariants.{Working, Stamping, Undoing}
 use Rattle.hy_protocol.specs.declared.Progress.{Progress}
-use Rattle.hy_event.specs.Sessions.{txn_at, label_of}
-use Rattle.hy_protocol.specs.Turns.{Turn, Waits, Begins, Enters, Ends, refused}
+use Rattle.hy_event.specs.Sessions.{txn_at, label_of, written_chunks}
+use Rattle.hy_event.specs.Needs.{need_of, phase_need}
+use Rattle.hy_protocol.specs.Asking.{AtCore}
+use Rattle.hy_protocol.specs.Turns.{Turn, Done, Waits, Begins, Visits, Answers, Enters, Ends, is_stamping}
+use Rattle.hy_protocol.specs.Sessions as by_phase
 use Rattle.hy_event.specs.Turns.{TakesBy}
 
--- what a session does at the core, and the core after that
-abbrev pub CoreTurn : Type 0
-CoreTurn = Turn Change × CoreData
-
--- a core step is taken unless another transaction stands between its entry and its end
-abbrev pub unless_blocked : CoreData → Option Label → CoreTurn → CoreTurn
-unless_blocked core None turn = turn
-unless_blocked core (Some by) turn = (Waits by, core)
-
--- ---- BEGIN
-
-abbrev pub begin_turn : CoreData → CoreTurn
-begin_turn core = (Begins, core_begun core)
-
--- ---- the ends
-
--- the end of a transaction that has no entry
-abbrev pub close_turn : CoreData → Open → Ending → CoreTurn
-close_turn core now cause = (Ends cause, core_closed core now.start)
-
--- the end of a transaction whose entry is the last one
-abbrev pub leave_turn : CoreData → Open → CoreTurn
-leave_turn core now = (Ends (Committed (length core.entries - 1)), core_left core now.start)
-
--- ---- COMMIT
+-- ---- what a session finds out
 
 -- the statement of a record
 abbrev pub statement_of : Option Record → ℕ
@@ -56,47 +35,67 @@ statement_of (Some of) = of.statement
 abbrev pub invalid_by : List Record → Invalid → Ending
 invalid_by records invalid = ending.Invalid invalid.table invalid.pos invalid.other (statement_of (slice_get records invalid.number))
 
--- validation refuses a transaction, or its entry goes into the journal
-abbrev pub validated_turn : SessionData → CoreData → Open → Option Invalid → CoreTurn
-validated_turn session core now None = (Enters, core_entered core (label_of session) now.start now.notes)
-validated_turn session core now (Some invalid) = (refused (invalid_by now.records invalid), core)
+-- its open transaction is validated by the entries since its start
+abbrev pub found_at_core : SessionData → CoreData → Open → AtCore
+found_at_core session core now = record {
+  blocked = blocked_by core (label_of session);
+  wrote_nothing = length now.notes == 0;
+  written = written_chunks session now;
+  hit = option_map (invalid_by now.records) (first_invalid now.records (drop now.prefix core.entries));
+  last = length core.entries - 1;
+}
 
--- COMMIT by what it wrote: a transaction that wrote nothing ends, any other is validated by the entries since its start
-abbrev pub commit_turn : SessionData → CoreData → Open → List Change → CoreTurn
-commit_turn session core now [] = close_turn core now Read
-commit_turn session core now (note ∷ notes) = validated_turn session core now (first_invalid now.records (drop now.prefix core.entries))
+-- ---- its turn
 
--- what closes a transaction: COMMIT, or ROLLBACK
-abbrev pub closing_turn : SessionData → CoreData → Open → Bool → CoreTurn
-closing_turn session core now commits = if commits then commit_turn session core now now.notes else close_turn core now RolledBack
+-- what it does where it needs the core
+abbrev pub if_core : Need → Turn Change → Option (Turn Change)
+if_core need.Core turn = Some turn
+if_core (need.Chunk table chunk) turn = None
+if_core need.Done turn = None
 
--- ---- by where the session stands
+-- a statement is done in chunks, and needs them: nothing is done for it at the core
+abbrev pub no_statement : ℕ → ℕ → Bound → Turn Change
+no_statement visited count statement = Done
 
--- while statements are left the core isn't needed
-abbrev pub working_turn : SessionData → CoreData → Txn → Open → Option Bound → Option CoreTurn
-working_turn session core txn now None =
-    Some (unless_blocked core (blocked_by core (label_of session)) (closing_turn session core now txn.commits))
-working_turn session core txn now (Some statement) = None
+-- what an open transaction does
+abbrev pub open_turn : SessionData → CoreData → Txn → Open → Phase → Turn Change
+open_turn session core txn now = by_phase.phase_turn no_statement (found_at_core session core now) txn (length now.replies)
 
-abbrev pub phase_turn : SessionData → CoreData → Txn → Open → Phase → Option CoreTurn
-phase_turn session core txn now (Working visited count) = working_turn session core txn now (slice_get txn.statements (length now.replies))
-phase_turn session core txn now (Stamping visited) = Some (leave_turn core now)
-phase_turn session core txn now (Undoing visited cause) =
-    Some (unless_blocked core (blocked_by core (label_of session)) (close_turn core now cause))
-
-abbrev pub session_turn : SessionData → CoreData → Option Txn → Option Open → Option CoreTurn
-session_turn session core None now = None
-session_turn session core (Some txn) None = Some (unless_blocked core (blocked_by core (label_of session)) (begin_turn core))
-session_turn session core (Some txn) (Some now) = phase_turn session core txn now now.phase
+abbrev pub phase_turn : SessionData → CoreData → Txn → Open → Phase → Option (Turn Change)
+phase_turn session core txn now phase = if_core (phase_need session txn now phase) (open_turn session core txn now phase)
 
 -- what a session does at the core, if it has something to do there
-abbrev pub core_turn : SessionData → CoreData → Option CoreTurn
-core_turn session core = session_turn session core (txn_at session) session.now
+abbrev pub core_turn : SessionData → CoreData → Option (Turn Change)
+core_turn session core =
+    if_core (need_of session)
+    (by_phase.session_turn (blocked_by core (label_of session)) (λ (txn : Txn) (now : Open). open_turn session core txn now now.phase)
+    (txn_at session) session.now)
+
+-- ---- the core after it
+
+-- after the entry of an open transaction
+abbrev pub entered_by : SessionData → CoreData → Option Open → CoreData
+entered_by session core None = core
+entered_by session core (Some now) = core_entered core (label_of session) now.start now.notes
+
+-- after its end: the mark of one that has its entry goes
+abbrev pub ended_by : CoreData → Option Open → CoreData
+ended_by core None = core
+ended_by core (Some now) = if is_stamping now.phase then core_left core now.start else core_closed core now.start
+
+abbrev pub core_after : SessionData → CoreData → Turn Change → CoreData
+core_after session core Done = core
+core_after session core (Waits by) = core
+core_after session core Begins = core_begun core
+core_after session core (Visits changes phase) = core
+core_after session core (Answers changes reply took records) = core
+core_after session core Enters = entered_by session core session.now
+core_after session core (Ends ending) = ended_by core session.now
 
 -- a session takes this turn, and leaves the core so
-abbrev pub TakesAtCore : SessionData → CoreData → Option CoreTurn → Progress → SessionData → CoreData → Type 0
+abbrev pub TakesAtCore : SessionData → CoreData → Option (Turn Change) → Progress → SessionData → CoreData → Type 0
 TakesAtCore session old None progress after new = ⊥
-TakesAtCore session old (Some turn) progress after new = TakesBy old session turn.0 progress after × (new ≡ turn.1)
+TakesAtCore session old (Some turn) progress after new = TakesBy old session turn progress after × (new ≡ core_after session old turn)
 
 -- a visit of the core
 abbrev pub CoreEvent : SessionData → CoreData → Progress → SessionData → CoreData → Type 0

@@ -27,7 +27,7 @@ use Rattle.hy_lawful.specs.EffectRows.{InsertsCountPositions}
 use Rattle.hy_lawful.specs.Rooms.{how_many, has_placed}
 use Rattle.hy_lawful.proofs.Booleans.{and_left, and_right, and_true}
 use Rattle.hy_lawful.proofs.Fits.{FitsTables}
-use Rattle.hy_lawful.proofs.FullCounts.{one_if, fewer, none_pass, AllRowed, rowed_count, insert_count}
+use Rattle.hy_lawful.proofs.FullCounts.{one_if, fewer, none_pass, AllRowed, rowed_count, insert_count, if_less}
 use Rattle.hy_lawful.proofs.PassSteps.{blank_items}
 use Rattle.hy_lawful.proofs.PassTables.{covered_at}
 use Rattle.hy_lawful.proofs.RunAnswers.{Went, went}
@@ -36,12 +36,9 @@ use Rattle.hy_lawful.proofs.WroteCounts.{sweep_all, selects_row}
 use Rattle.hy_lawful.proofs.WroteEnds.{blank_room}
 use Rattle.hy_lawful.proofs.WroteFollows.{Room, writes_room, put_here}
 use Rattle.hy_lawful.proofs.WroteRows.{IsChanged, changed_so, chosen_so}
+use Rattle.hy_lawful.proofs.PassWritten.{writes_keep as writes_some}
 
 -- ---- counts
-
-if_less : (b c : Bool) → (b ≡ true → c ≡ true) → one_if b ≤ one_if c
-if_less true c h = rw (h refl) omega arith
-if_less false c h = omega arith
 
 below_last : (place n : ℕ) → place < suc n → (place ≡ n → ⊥) → place < n
 below_last place n below apart = elim (cases_lt place n) [
@@ -79,12 +76,6 @@ put_some (items ∷ own) zero at cell zero pos h = set_some items at cell pos h
 put_some (items ∷ own) zero at cell (suc table) pos h = h
 put_some (items ∷ own) (suc written) at cell zero pos h = h
 put_some (items ∷ own) (suc written) at cell (suc table) pos h = put_some own written at cell table pos h
-
-writes_some : (own : Own) (all : List Write) (table pos : ℕ) → is_some (item_at own table pos) ≡ true
-    → is_some (item_at (with_writes own all) table pos) ≡ true
-writes_some own [] table pos h = h
-writes_some own (write ∷ all) table pos h =
-    writes_some (with_write own write) all table pos (put_some own write.table write.pos write.cell table pos h)
 
 -- what was placed stays placed
 stays_placed : (tables : Tables) (own : Own) (all : List Write) (table pos : ℕ) → has_placed tables own table pos ≡ true

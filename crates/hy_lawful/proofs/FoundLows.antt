@@ -5,28 +5,26 @@ use Rattle.std.specs.Prelude.{IfSome}
 use Rattle.std.specs.List.{AllByRecursion}
 use Rattle.std.specs.Option.{option_map}
 use Rattle.std.proofs.lemmas.Option.{same_Some, IfSome_then}
-use Rattle.hy_bound.specs.declared.Txn.{Txn}
-use Rattle.hy_stamp.specs.declared.Label.{Label}
 use Rattle.hy_bound.specs.declared.Ending.{Ending}
 use Rattle.hy_machine.specs.Writes.{Write}
 use Rattle.hy_machine.specs.declared.Setting.{Setting}
 use Rattle.hy_protocol.specs.declared.Phase.TheVariants.{Stamping}
 use Rattle.hy_machine.specs.States.{State, Session, Open, Finished}
 use Rattle.hy_machine.specs.Tables.{Entry}
-use Rattle.hy_protocol.specs.Turns.{Turn, Done, Waits, Begins, Visits, Answers, Enters, Ends, unless_blocked}
-use Rattle.hy_machine.specs.Turns.{phase_turn, session_turn}
-use Rattle.hy_machine.specs.Sessions.{fresh, session_at, txn_at, blocker, least_with, least_prefix}
-use Rattle.hy_machine.specs.Steps.{with_open, beginning, with_changed, after_visit, after_answer, done_with, order_with, after_turn, step_of}
-use Rattle.hy_machine.specs.Runs.{opening_of, after_steps, IsReached}
+use Rattle.hy_protocol.specs.Turns.{Turn, Done, Waits, Begins, Visits, Answers, Enters, Ends}
+use Rattle.hy_machine.specs.Turns.{phase_turn}
+use Rattle.hy_machine.specs.Sessions.{fresh, session_at, least_with, least_prefix}
+use Rattle.hy_machine.specs.Steps.{with_open, beginning, with_changed, after_visit, after_answer, done_with, order_with, after_turn}
+use Rattle.hy_machine.specs.Runs.{opening_of, IsReached}
 use Rattle.hy_lawful.specs.Outcomes.{committed_at}
-use Rattle.hy_lawful.proofs.Fits.{OpenFits, NowFits, NowStamps, Fits}
 use Rattle.hy_lawful.proofs.Lists.{all_so, all_more}
 use Rattle.hy_lawful.proofs.Moves.{moved_to, sessions_moved}
 use Rattle.hy_lawful.proofs.PassStates.{EndPasses, NowPasses, Passes}
-use Rattle.hy_lawful.proofs.PassSteps.{least_below, reached_passes, reached_step}
+use Rattle.hy_lawful.proofs.PassSteps.{least_below, reached_passes}
+use Rattle.hy_lawful.proofs.ReachedBy.{reached_by}
 use Rattle.hy_lawful.proofs.PrintedTables.{if_some}
-use Rattle.hy_lawful.proofs.Reached.{fresh_at, is_there, reached_fits}
-use Rattle.hy_lawful.proofs.Turns.{FitsTurn, phase_fits}
+use Rattle.hy_lawful.proofs.Reached.{fresh_at}
+use Rattle.hy_lawful.proofs.Turns.{FitsTurn}
 
 -- ---- watermarks
 
@@ -179,38 +177,9 @@ turn_low setting state number current there all is (Ends ending) f =
 
 -- ---- steps
 
-begins_unless : (setting : Setting) (state : State) (number : ℕ) (by : Option Label) → AllLow state
-    → AllLow (after_turn setting state number Begins).0 → AllLow (after_turn setting state number (unless_blocked by Begins)).0
-begins_unless setting state number None all h = h
-begins_unless setting state number (Some by) all h = all
-
-session_low : (setting : Setting) (state : State) (number : ℕ) (txn : Txn) → Fits setting state → Passes setting state → AllLow state
-    → txn_at setting number (session_at state number) ≡ Some txn → (now : Option Open) → (session_at state number).now ≡ now
-    → AllLow (after_turn setting state number (session_turn setting state number (Some txn) now)).0
-session_low setting state number txn fits passes all e None is =
-    begins_unless setting state number (blocker state number) all (begins setting state number passes (is_there setting state number txn fits e) all)
-session_low setting state number txn fits passes all e (Some current) is =
-    let present : OpenFits setting state.order state.mark number (session_at state number).done current =
-    subst (NowFits setting state.order state.mark number (session_at state number).done) is (fits.sessions number).now in
-    turn_low setting state number current (is_there setting state number txn fits e) all is
-    (phase_turn setting state number txn current.begun current.phase)
-    (phase_fits setting state fits number txn current.begun e present.above present.records current.phase present.phase
-    (λ m. subst NowStamps is (fits.marked number m)))
-
-by_txn : (setting : Setting) (state : State) (number : ℕ) → Fits setting state → Passes setting state → AllLow state → (txn : Option Txn)
-    → txn_at setting number (session_at state number) ≡ txn
-    → AllLow (after_turn setting state number (session_turn setting state number txn (session_at state number).now)).0
-by_txn setting state number fits passes all None e = all
-by_txn setting state number fits passes all (Some txn) e =
-    session_low setting state number txn fits passes all e (session_at state number).now refl
-
-steps_low : (setting : Setting) (state : State) (numbers : List ℕ) → IsReached setting state → AllLow state → AllLow (after_steps setting state numbers)
-steps_low setting state [] r all = all
-steps_low setting state (number ∷ numbers) r all =
-    steps_low setting (step_of setting state number).0 numbers (reached_step setting state number r)
-    (by_txn setting state number (reached_fits setting state r) (reached_passes setting state r) all
-    (txn_at setting number (session_at state number)) refl)
-
 pub reached_low : (setting : Setting) (state : State) → IsReached setting state → AllLow state
-reached_low setting state r = subst AllLow (sym r.1) (steps_low setting (opening_of setting) r.0 ([], refl)
-    (λ number. subst (λ (session : Session). LowsUnder (opening_of setting) session.now) (sym (fresh_at setting number)) tt))
+reached_low setting = reached_by setting AllLow (record {
+  begins = λ state number txn all may. begins setting state number (reached_passes setting state may.reached) may.there all;
+  turns = λ state number txn current all takes. turn_low setting state number current takes.there all takes.is
+      (phase_turn setting state number txn current.begun current.phase) takes.turn;
+}) (λ number. subst (λ (session : Session). LowsUnder (opening_of setting) session.now) (sym (fresh_at setting number)) tt)

@@ -22,7 +22,7 @@ use Rattle.hy_lawful.proofs.PassHolds.{write_cases, written_is}
 abbrev pub one_if : Bool → ℕ
 one_if b = cond b 1 0
 
-if_less : (b c : Bool) → (b ≡ true → c ≡ true) → one_if b ≤ one_if c
+pub if_less : (b c : Bool) → (b ≡ true → c ≡ true) → one_if b ≤ one_if c
 if_less true c h = rw (h refl) omega arith
 if_less false c h = omega arith
 

@@ -4,23 +4,20 @@ use Rattle.std.specs.Prelude.{◌==◌}
 use Rattle.std.specs.Option.{option_map}
 use Rattle.std.proofs.lemmas.Bool.{eqb-true}
 use Rattle.std.proofs.lemmas.List.{length-append}
-use Rattle.hy_bound.specs.declared.Txn.{Txn}
-use Rattle.hy_stamp.specs.declared.Label.{Label}
 use Rattle.hy_machine.specs.Writes.{Write}
 use Rattle.hy_machine.specs.declared.Setting.{Setting}
 use Rattle.hy_protocol.specs.declared.Phase.TheVariants.{Stamping}
 use Rattle.hy_machine.specs.States.{State, Open}
 use Rattle.hy_machine.specs.Tables.{Entry}
-use Rattle.hy_protocol.specs.Turns.{Turn, Done, Waits, Begins, Visits, Answers, Enters, Ends, unless_blocked}
-use Rattle.hy_machine.specs.Turns.{phase_turn, session_turn}
-use Rattle.hy_machine.specs.Sessions.{session_at, txn_at, label_of, blocker_of, blocker, entry_of}
-use Rattle.hy_machine.specs.Steps.{with_changed, after_visit, after_answer, order_with, after_turn, step_of}
-use Rattle.hy_machine.specs.Runs.{opening_of, after_steps, IsReached}
+use Rattle.hy_protocol.specs.Turns.{Turn, Done, Waits, Begins, Visits, Answers, Enters, Ends}
+use Rattle.hy_machine.specs.Turns.{phase_turn}
+use Rattle.hy_machine.specs.Sessions.{session_at, label_of, blocker_of, entry_of}
+use Rattle.hy_machine.specs.Steps.{with_changed, after_visit, after_answer, order_with, after_turn}
+use Rattle.hy_machine.specs.Runs.{IsReached}
 use Rattle.hy_lawful.proofs.Fits.{OpenFits, NowFits, NowStamps, Fits}
 use Rattle.hy_lawful.proofs.Moves.{moved_to, sessions_moved}
-use Rattle.hy_lawful.proofs.PassSteps.{reached_step}
-use Rattle.hy_lawful.proofs.Reached.{is_there, reached_fits}
-use Rattle.hy_lawful.proofs.Turns.{FitsTurn, phase_fits}
+use Rattle.hy_lawful.proofs.ReachedBy.{reached_by}
+use Rattle.hy_lawful.proofs.Turns.{FitsTurn}
 
 -- if a session is marked, an open transaction starts before the last entry
 abbrev pub NowBefore : ℕ → Option ℕ → Option Open → Type 0
@@ -85,38 +82,12 @@ unmarked state number free (Some marked) e b = by_same (marked == number) refl b
     by_same true s h = absurd (free (e ∙ ap Some (eqb-true marked number s)))
     by_same false s h = absurd cc
 
-begins_unless : (setting : Setting) (state : State) (number : ℕ) → (state.mark ≡ Some number → ⊥) → AllBefore state → (by : Option Label)
-    → blocker state number ≡ by → AllBefore (after_turn setting state number (unless_blocked by Begins)).0
-begins_unless setting state number free all None b = λ other.
-    let later : State = (after_turn setting state number Begins).0 in
-    subst (λ (mark : Option ℕ). NowBefore (length state.order) mark (session_at later other).now) (sym (unmarked state number free state.mark refl b)) tt
-begins_unless setting state number free all (Some by) b = all
-
-session_before : (setting : Setting) (state : State) (number : ℕ) (txn : Txn) → Fits setting state → AllBefore state
-    → txn_at setting number (session_at state number) ≡ Some txn → (now : Option Open) → (session_at state number).now ≡ now
-    → AllBefore (after_turn setting state number (session_turn setting state number (Some txn) now)).0
-session_before setting state number txn fits all e None is =
-    begins_unless setting state number (λ m. absurd (subst NowStamps is (fits.marked number m))) all (blocker state number) refl
-session_before setting state number txn fits all e (Some current) is =
-    let present : OpenFits setting state.order state.mark number (session_at state number).done current =
-    subst (NowFits setting state.order state.mark number (session_at state number).done) is (fits.sessions number).now in
-    turn_before setting state number current fits (is_there setting state number txn fits e) all is
-    (phase_turn setting state number txn current.begun current.phase)
-    (phase_fits setting state fits number txn current.begun e present.above present.records current.phase present.phase
-    (λ m. subst NowStamps is (fits.marked number m)))
-
-by_txn : (setting : Setting) (state : State) (number : ℕ) → Fits setting state → AllBefore state → (txn : Option Txn)
-    → txn_at setting number (session_at state number) ≡ txn
-    → AllBefore (after_turn setting state number (session_turn setting state number txn (session_at state number).now)).0
-by_txn setting state number fits all None e = all
-by_txn setting state number fits all (Some txn) e = session_before setting state number txn fits all e (session_at state number).now refl
-
-steps_before : (setting : Setting) (state : State) (numbers : List ℕ) → IsReached setting state → AllBefore state
-    → AllBefore (after_steps setting state numbers)
-steps_before setting state [] r all = all
-steps_before setting state (number ∷ numbers) r all =
-    steps_before setting (step_of setting state number).0 numbers (reached_step setting state number r)
-    (by_txn setting state number (reached_fits setting state r) all (txn_at setting number (session_at state number)) refl)
-
 pub reached_before : (setting : Setting) (state : State) → IsReached setting state → AllBefore state
-reached_before setting state r = subst AllBefore (sym r.1) (steps_before setting (opening_of setting) r.0 ([], refl) (λ number. tt))
+reached_before setting = reached_by setting AllBefore (record {
+  begins = λ state number txn all may other.
+      let later : State = (after_turn setting state number Begins).0 in
+      subst (λ (mark : Option ℕ). NowBefore (length state.order) mark (session_at later other).now)
+      (sym (unmarked state number (λ m. absurd (subst NowStamps may.rests (may.fits.marked number m))) state.mark refl may.free)) tt;
+  turns = λ state number txn current all takes. turn_before setting state number current takes.fits takes.there all takes.is
+      (phase_turn setting state number txn current.begun current.phase) takes.turn;
+}) (λ number. tt)

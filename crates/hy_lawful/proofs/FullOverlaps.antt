@@ -18,7 +18,6 @@ use Rattle.hy_machine.specs.States.{State, Session, Open, Finished}
 use Rattle.hy_machine.specs.Tables.{Entry}
 use Rattle.hy_machine.specs.Sessions.{session_at, label_of}
 use Rattle.hy_machine.specs.Outcomes.{txn_outcome_of, outcome_of}
-use Rattle.hy_machine.specs.Steps.{step_of}
 use Rattle.hy_machine.specs.Runs.{after_steps}
 use Rattle.hy_lawful.specs.Outcomes.{committed_at, is_later, later_than, outcome_at}
 use Rattle.hy_lawful.specs.Overlaps.{reaches, may_overlap, MayOverlap, IsThereSince, is_open, has_entered, OpenOnesOverlap}
@@ -30,7 +29,7 @@ use Rattle.hy_lawful.proofs.Followers.{done_fits}
 use Rattle.hy_lawful.proofs.Opponents.{reached}
 use Rattle.hy_lawful.proofs.Outcomes.{each_outcome}
 use Rattle.hy_lawful.proofs.Over.{IsOver, HasEnded, is_over, txn_ended, outcome_has}
-use Rattle.hy_lawful.proofs.Reached.{reached_fits, step_fits}
+use Rattle.hy_lawful.proofs.Reached.{reached_fits, steps_fit}
 use Rattle.hy_lawful.proofs.FullStarts.{now_starts, starts_of, added, Later, steps_later}
 
 -- ---- how far a transaction reaches
@@ -353,11 +352,6 @@ told setting state over label other before start after begin t u o =
     (let same : before ≡ one.before = omega (arith, t, one.is) in same)
     (subst (λ (n : ℕ). Overlap state label.session before start other.session n begin)
     (let same : after ≡ two.before = omega (arith, u, two.is) in same) o)) one.finished two.finished one.at two.at))
-
-steps_fit : (setting : Setting) (state : State) (numbers : List ℕ) → Fits setting state → Fits setting (after_steps setting state numbers)
-steps_fit setting state [] fits = fits
-steps_fit setting state (number ∷ numbers) fits =
-    steps_fit setting (step_of setting state number).0 numbers (step_fits setting state number fits)
 
 pub open_ones_overlap : OpenOnesOverlap
 open_ones_overlap setting state numbers r over number current is other apart there =

@@ -1,20 +1,18 @@
 -- The positions that an INSERT has passed are accounted for, and where a table is full all of its positions are: kept along steps.
-use Rattle.std.proofs.Common.{◌≡◌, ℕ, zero, suc, ◌+◌, ◌-◌, ◌*◌, ◌<◌, ◌≤◌, List, [], ◌∷◌, ◌++◌, Option, None, Some, Bool, true, false, Result, Ok, Err}
-use Rattle.std.proofs.Common.{length, map, drop, ltb, cond, refl, ap, sym, ◌∙◌, subst, arith, inl, inr, mul-le-mul_right}
+use Rattle.std.proofs.Common.{◌≡◌, ℕ, zero, suc, ◌+◌, ◌-◌, ◌*◌, ◌<◌, ◌≤◌, List, [], ◌∷◌, ◌++◌, Option, None, Some, Bool, false}
+use Rattle.std.proofs.Common.{length, drop, cond, ap, sym, ◌∙◌, subst, arith, inl, inr, mul-le-mul_right}
 use Rattle.std.specs.Prelude.{slice_get, find}
 use Rattle.std.specs.List.{AllByRecursion, range_with_len}
-use Rattle.std.proofs.lemmas.Bool.{cases_Bool, cases_lt, ltb-true, ltb-false}
+use Rattle.std.proofs.lemmas.Bool.{cases_Bool, cases_lt}
 use Rattle.hy_value.specs.declared.Value.{Value}
 use Rattle.hy_bound.specs.declared.Txn.{Txn}
 use Rattle.hy_bound.specs.declared.Bound.{Bound}
 use Rattle.hy_bound.specs.declared.Bound.TheVariants.{Select, Group, Insert, Update, Delete}
-use Rattle.hy_bound.specs.declared.Reply.{Reply}
 use Rattle.hy_bound.specs.declared.Record.{Record}
 use Rattle.hy_bound.specs.declared.WriteKind.{WriteKind}
 use Rattle.hy_bound.specs.declared.WriteKind.TheVariants as kind
 use Rattle.hy_bound.specs.Condition.{Condition}
 use Rattle.hy_bound.specs.Records.{shape_of}
-use Rattle.hy_meaning.specs.Statement.{answer_of, grouped}
 use Rattle.hy_stamp.specs.declared.Label.{Label}
 use Rattle.hy_bound.specs.declared.Ending.{Ending}
 use Rattle.hy_bound.specs.declared.Ending.TheVariants.{Committed, Read, RolledBack, Conflict, Invalid, Range, Full}
@@ -23,17 +21,14 @@ use Rattle.hy_protocol.specs.declared.Phase.{Phase}
 use Rattle.hy_protocol.specs.declared.Phase.TheVariants.{Working, Stamping, Undoing}
 use Rattle.hy_machine.specs.States.{State, Session, Open, Begun, Finished}
 use Rattle.hy_machine.specs.Tables.{Entry, capacity, positions_in}
-use Rattle.hy_machine.specs.Writes.{Write, wrote_nothing, written_chunks}
+use Rattle.hy_machine.specs.Writes.{Write}
 use Rattle.hy_protocol.specs.Turns.{Turn, Done, Waits, Begins, Visits, Answers, Enters, Ends}
 use Rattle.hy_machine.specs.Positions.{item_at}
-use Rattle.hy_machine.specs.Sessions.{session_at, blocker, view}
+use Rattle.hy_machine.specs.Sessions.{session_at, view}
 use Rattle.hy_machine.specs.Holding.{opponent, is_free}
-use Rattle.hy_machine.specs.Validation.{committed_of, first_hit}
-use Rattle.hy_machine.specs.Visits.{verdict_at, swept, sees_key, free_position, checks_of}
-use Rattle.hy_protocol.specs.Turns.{unless_blocked}
-use Rattle.hy_machine.specs.Turns.{rows_seen, read_turn, write_turn, check_turn, place_turn, insert_turn, statement_turn}
-use Rattle.hy_protocol.specs.Closing.{validated_turn}
-use Rattle.hy_machine.specs.Turns.{undo_turn, stamp_turn, closing_turn, working_turn}
+use Rattle.hy_machine.specs.Visits.{verdict_at, swept, free_position, checks_of}
+use Rattle.hy_machine.specs.Turns.{statement_turn}
+use Rattle.hy_machine.specs.Turns.{undo_turn, stamp_turn, working_turn}
 use Rattle.hy_lawful.specs.Reached.{statements_at}
 use Rattle.hy_lawful.proofs.Fits.{label_at, IsNumbered}
 use Rattle.hy_lawful.proofs.Refusals.{Refuses, verdict_refuses, sweep_refuses, first_hit_is}
@@ -44,6 +39,7 @@ use Rattle.hy_lawful.proofs.FullSince.{StandsSince, since_goes, opponent_since}
 use Rattle.hy_lawful.proofs.FoundRows.{FindsToo, finds_go, opponent_finds}
 use Rattle.hy_lawful.proofs.Opponents.{label_dropped}
 use Rattle.hy_lawful.proofs.FullKeeps.{Goes}
+use Rattle.hy_machine.specs.TurnCases.{InsertCases, WriteCases, StatementCases, CommitCases, statement_cases, undo_cases, stamp_cases, working_cases}
 
 -- ---- what is passed
 
@@ -235,20 +231,24 @@ chunk_room setting state number current w table chunk h e pos below = elim (case
       (none_found (is_free setting state current.begun table) (chunk * setting.rows) setting.rows e pos here below)
 ]
 
-place_room : (setting : Setting) (state : State) (number : ℕ) (current : Open) → AtWork setting state number current → (visited table : ℕ)
-    (row : List Value) → checks_of setting (key_of setting table) ≤ visited
-    → WorkRoom setting state number (length (session_at state number).done) current.begun.prefix visited (Some (Insert table row))
-    → (pos : Option ℕ) → free_position setting state current.begun table (visited - checks_of setting (key_of setting table)) ≡ pos
-    → RoomTurn setting state number (length (session_at state number).done) current.begun.prefix (Some (Insert table row))
-    (place_turn setting current.begun visited (visited - checks_of setting (key_of setting table)) (Insert table row) table row pos)
-place_room setting state number current w visited table row past h (Some pos) e = tt
-place_room setting state number current w visited table row past h None e = elim (cases_Bool (ltb (suc chunk) setting.chunks)) [
-  | inl t ↦ rw t (λ pos below. all pos (let same : (suc visited - checks) * setting.rows ≡ chunk * setting.rows + setting.rows =
-      ap (λ (n : ℕ). n * setting.rows) (let s : suc visited - checks ≡ suc chunk = omega (arith, past) in s) ∙ next in omega (arith, below, same)))
-  | inr f ↦ rw f (λ pos below. all pos
-      (let most : setting.chunks * setting.rows ≤ suc chunk * setting.rows = mul-le-mul_right setting.rows (ltb-false (suc chunk) setting.chunks f) in
-      omega (arith, below, most, next)))
-]
+-- a check passes no room, and a chunk without a free position its own
+insert_room : (setting : Setting) (state : State) (number : ℕ) (current : Open) → AtWork setting state number current → (visited table : ℕ)
+    (row : List Value) → WorkRoom setting state number (length (session_at state number).done) current.begun.prefix visited (Some (Insert table row))
+    → InsertCases setting state current.begun
+    (RoomTurn setting state number (length (session_at state number).done) current.begun.prefix (Some (Insert table row))) visited table row
+    (checks_of setting (key_of setting table))
+insert_room setting state number current w visited table row h = record {
+  checked = λ few pos below. absurd (let none : (suc visited - checks) * setting.rows ≡ 0 =
+      ap (λ (n : ℕ). n * setting.rows) (let s : suc visited - checks ≡ 0 = omega (arith, few) in s)
+      ∙ (let z : 0 * setting.rows ≡ 0 = omega arith in z) in omega (arith, below, none));
+  twice = tt;
+  takes = λ pos e. tt;
+  goes = λ past e few pos below. chunk_room setting state number current w table chunk h e pos
+      (let same : (suc visited - checks) * setting.rows ≡ chunk * setting.rows + setting.rows =
+      ap (λ (n : ℕ). n * setting.rows) (let s : suc visited - checks ≡ suc chunk = omega (arith, past) in s) ∙ next in omega (arith, below, same));
+  full = λ past e most pos below. chunk_room setting state number current w table chunk h e pos
+      (let all : setting.chunks * setting.rows ≤ suc chunk * setting.rows = mul-le-mul_right setting.rows most in omega (arith, below, all, next));
+}
   where
     checks : ℕ
     checks = checks_of setting (key_of setting table)
@@ -258,29 +258,6 @@ place_room setting state number current w visited table row past h None e = elim
 
     next : suc chunk * setting.rows ≡ chunk * setting.rows + setting.rows
     next = omega arith
-
-    all : RoomBelow setting state number (length (session_at state number).done) current.begun.prefix table (chunk * setting.rows + setting.rows)
-    all = chunk_room setting state number current w table chunk h e
-
-check_room : (setting : Setting) (state : State) (number before prefix : ℕ) (begun : Begun) (visited table : ℕ) (row : List Value) (found : Bool)
-    → visited < checks_of setting (key_of setting table)
-    → RoomTurn setting state number before prefix (Some (Insert table row)) (check_turn setting begun visited (Insert table row) found)
-check_room setting state number before prefix begun visited table row true few = tt
-check_room setting state number before prefix begun visited table row false few =
-    λ pos below. absurd (let none : (suc visited - checks_of setting (key_of setting table)) * setting.rows ≡ 0 =
-    ap (λ (n : ℕ). n * setting.rows) (let s : suc visited - checks_of setting (key_of setting table) ≡ 0 = omega (arith, few) in s)
-    ∙ (let z : 0 * setting.rows ≡ 0 = omega arith in z) in omega (arith, below, none))
-
-insert_room : (setting : Setting) (state : State) (number : ℕ) (current : Open) → AtWork setting state number current → (visited table : ℕ)
-    (row : List Value) → WorkRoom setting state number (length (session_at state number).done) current.begun.prefix visited (Some (Insert table row))
-    → RoomTurn setting state number (length (session_at state number).done) current.begun.prefix (Some (Insert table row))
-    (insert_turn setting state current.begun visited (Insert table row) table row (key_of setting table))
-insert_room setting state number current w visited table row h = elim (cases_Bool (ltb visited (checks_of setting (key_of setting table)))) [
-  | inl t ↦ rw t (check_room setting state number (length (session_at state number).done) current.begun.prefix current.begun visited table row
-      (sees_key setting state current.begun table row (key_of setting table) visited) (ltb-true visited (checks_of setting (key_of setting table)) t))
-  | inr f ↦ rw f (place_room setting state number current w visited table row (ltb-false visited (checks_of setting (key_of setting table)) f) h
-      (free_position setting state current.begun table (visited - checks_of setting (key_of setting table))) refl)
-]
 
 refusal_room : (setting : Setting) (state : State) (number before prefix : ℕ) (kind : WriteKind) (table pos : ℕ) (opponent : Option Label) (cause : Ending)
     → ((other : Label) → opponent ≡ Some other → Rivals setting state number before prefix table pos other)
@@ -304,113 +281,78 @@ opponent_rivals setting state number current w table pos other e = record {
   found = opponent_finds setting state number current w table pos other e;
 }
 
--- statements that take no room
-abbrev Roomless : Setting → State → ℕ → ℕ → ℕ → Option Bound → Type 0
-Roomless setting state number before prefix statement = (visited : ℕ) → WorkRoom setting state number before prefix visited statement
-
-read_room : (setting : Setting) (state : State) (number before prefix : ℕ) (begun : Begun) (visited from : ℕ) (statement : Bound)
-    (gathered : List (List (List Value))) (reply : Reply) → Roomless setting state number before prefix (Some statement)
-    → RoomTurn setting state number before prefix (Some statement) (read_turn setting begun visited from statement gathered reply)
-read_room setting state number before prefix begun visited from statement gathered reply h =
-    elim (cases_Bool (ltb (suc visited) (setting.chunks * from))) [
-      | inl t ↦ rw t (h (suc visited))
-      | inr f ↦ rw f tt
-    ]
-
-write_room : (setting : Setting) (state : State) (number before prefix : ℕ) (begun : Begun) (visited count : ℕ) (statement : Bound) (kind : WriteKind)
-    (pred : Condition) (table : ℕ) → Roomless setting state number before prefix (Some statement)
-    → ((pos : ℕ) (other : Label) → opponent setting state number begun.prefix table pos ≡ Some other
-    → Rivals setting state number before prefix table pos other)
-    → (result : Result (List Write) Ending) → swept setting state number begun kind pred table visited ≡ result
-    → RoomTurn setting state number before prefix (Some statement) (write_turn setting begun visited count statement kind result)
-write_room setting state number before prefix begun visited count statement kind pred table h meets (Err cause) e =
-    sweep_refuses (λ (one : Ending). EndRoom setting state number before prefix one) table (verdict_at setting state number begun kind pred table)
-    (positions_in setting visited) cause
-    (λ pos one v. refusal_room setting state number before prefix kind table pos (opponent setting state number begun.prefix table pos) one (meets pos)
-    (verdict_refuses kind pred table pos (opponent setting state number begun.prefix table pos) (item_at (view setting state begun) table pos) one v))
-    e
-write_room setting state number before prefix begun visited count statement kind pred table h meets (Ok writes) e =
-    elim (cases_Bool (ltb (suc visited) setting.chunks)) [
-      | inl t ↦ rw t (h (suc visited))
-      | inr f ↦ rw f tt
-    ]
+write_room : (setting : Setting) (state : State) (number : ℕ) (current : Open) → AtWork setting state number current → (visited count : ℕ) (statement : Bound)
+    (kind : WriteKind) (pred : Condition) (table : ℕ)
+    → WorkRoom setting state number (length (session_at state number).done) current.begun.prefix (suc visited) (Some statement)
+    → WriteCases setting current.begun (RoomTurn setting state number (length (session_at state number).done) current.begun.prefix (Some statement))
+    visited count statement kind (swept setting state number current.begun kind pred table visited)
+write_room setting state number current w visited count statement kind pred table h = record {
+  out = λ cause e.
+      sweep_refuses (λ (one : Ending). EndRoom setting state number (length (session_at state number).done) current.begun.prefix one) table
+      (verdict_at setting state number current.begun kind pred table) (positions_in setting visited) cause
+      (λ pos one v. refusal_room setting state number (length (session_at state number).done) current.begun.prefix kind table pos
+      (opponent setting state number current.begun.prefix table pos) one (opponent_rivals setting state number current w table pos)
+      (verdict_refuses kind pred table pos (opponent setting state number current.begun.prefix table pos)
+      (item_at (view setting state current.begun) table pos) one v))
+      e;
+  goes = λ writes e few. h;
+  ends = λ writes e. tt;
+}
 
 statement_room : (setting : Setting) (state : State) (number : ℕ) (current : Open) → AtWork setting state number current → (visited count : ℕ)
     → (statement : Bound) → WorkRoom setting state number (length (session_at state number).done) current.begun.prefix visited (Some statement)
-    → RoomTurn setting state number (length (session_at state number).done) current.begun.prefix (Some statement)
-    (statement_turn setting state number current.begun visited count statement)
-statement_room setting state number current w visited count (Select tables ons pred items) h =
-    read_room setting state number (length (session_at state number).done) current.begun.prefix current.begun visited (length tables)
-    (Select tables ons pred items) (map (rows_seen (view setting state current.begun)) tables)
-    (answer_of ons pred items (map (rows_seen (view setting state current.begun)) tables)) (λ visited. tt)
-statement_room setting state number current w visited count (Group table pred key aggregate) h =
-    read_room setting state number (length (session_at state number).done) current.begun.prefix current.begun visited 1 (Group table pred key aggregate)
-    [] (grouped pred key aggregate (rows_seen (view setting state current.begun) table)) (λ visited. tt)
+    → StatementCases setting state number current.begun
+    (RoomTurn setting state number (length (session_at state number).done) current.begun.prefix (Some statement)) visited count statement
+statement_room setting state number current w visited count (Select tables ons pred items) h = record { goes = λ few. tt; ends = tt }
+statement_room setting state number current w visited count (Group table pred key aggregate) h = record { goes = λ few. tt; ends = tt }
 statement_room setting state number current w visited count (Insert table row) h = insert_room setting state number current w visited table row h
 statement_room setting state number current w visited count (Update table sets pred) h =
-    write_room setting state number (length (session_at state number).done) current.begun.prefix current.begun visited count (Update table sets pred)
-    (kind.Set sets) pred table (λ visited. tt) (opponent_rivals setting state number current w table)
-    (swept setting state number current.begun (kind.Set sets) pred table visited) refl
+    write_room setting state number current w visited count (Update table sets pred) (kind.Set sets) pred table tt
 statement_room setting state number current w visited count (Delete table pred) h =
-    write_room setting state number (length (session_at state number).done) current.begun.prefix current.begun visited count (Delete table pred)
-    kind.Delete pred table (λ visited. tt) (opponent_rivals setting state number current w table)
-    (swept setting state number current.begun kind.Delete pred table visited) refl
-
-unless_room : (setting : Setting) (state : State) (number before prefix : ℕ) (statement : Option Bound) (turn : Turn Write) (by : Option Label)
-    → RoomTurn setting state number before prefix statement turn → RoomTurn setting state number before prefix statement (unless_blocked by turn)
-unless_room setting state number before prefix statement turn None h = h
-unless_room setting state number before prefix statement turn (Some by) h = tt
+    write_room setting state number current w visited count (Delete table pred) kind.Delete pred table tt
 
 pub undo_room : (setting : Setting) (state : State) (number before prefix : ℕ) (statement : Option Bound) (begun : Begun) (visited : ℕ) (cause : Ending)
     → EndRoom setting state number before prefix cause
     → RoomTurn setting state number before prefix statement (undo_turn setting state number begun visited cause)
-undo_room setting state number before prefix statement begun visited cause h = elim (cases_Bool (ltb visited (length (written_chunks setting begun.own)))) [
-  | inl t ↦ rw t h
-  | inr f ↦ rw f (unless_room setting state number before prefix statement (Ends cause) (blocker state number) h)
-]
+undo_room setting state number before prefix statement begun visited cause h =
+    undo_cases setting state number begun (RoomTurn setting state number before prefix statement) visited cause
+    (record { goes = λ few. h; waits = λ by is. tt; ends = λ free. h })
 
 pub stamp_room : (setting : Setting) (state : State) (number before prefix : ℕ) (statement : Option Bound) (begun : Begun) (visited : ℕ)
     → RoomTurn setting state number before prefix statement (stamp_turn setting state begun visited)
-stamp_room setting state number before prefix statement begun visited = elim (cases_Bool (ltb visited (length (written_chunks setting begun.own)))) [
-  | inl t ↦ rw t tt
-  | inr f ↦ rw f tt
-]
+stamp_room setting state number before prefix statement begun visited =
+    stamp_cases setting state number begun (RoomTurn setting state number before prefix statement) visited (λ few. tt) tt
 
-validated_room : (setting : Setting) (state : State) (number before prefix : ℕ) (statement : Option Bound) (begun : Begun)
+commit_room : (setting : Setting) (state : State) (number before prefix : ℕ) (statement : Option Bound) (begun : Begun)
     → AllByRecursion (λ (of : Record). IsNumbered (length begun.replies) of.statement) begun.records
-    → ((rank : ℕ) → Reaches state number before rank) → (hit : Option Ending)
-    → first_hit begun.records (map committed_of (drop begun.prefix state.order)) ≡ hit
-    → RoomTurn setting state number before prefix statement (validated_turn hit)
-validated_room setting state number before prefix statement begun records last None e = tt
-validated_room setting state number before prefix statement begun records last (Some cause) e =
-    first_hit_is (λ (one : Ending). EndRoom setting state number before prefix one) (IsNumbered (length begun.replies)) begun.records
-    (drop begun.prefix state.order) cause records (λ i label at table pos statement q. record {
-      rank = begun.prefix + i;
-      stands = sym (label_dropped begun.prefix state.order i) ∙ at;
-      reaches = last (begun.prefix + i + 1);
-    }) e
-
-closing_room : (setting : Setting) (state : State) (number before prefix : ℕ) (statement : Option Bound) (begun : Begun)
-    → AllByRecursion (λ (of : Record). IsNumbered (length begun.replies) of.statement) begun.records
-    → ((rank : ℕ) → Reaches state number before rank) → (commits : Bool)
-    → RoomTurn setting state number before prefix statement (closing_turn setting state number begun commits)
-closing_room setting state number before prefix statement begun records last true = elim (cases_Bool (wrote_nothing begun.own)) [
-  | inl t ↦ rw t (unless_room setting state number before prefix statement (Ends Read) (blocker state number) tt)
-  | inr f ↦ rw f (unless_room setting state number before prefix statement
-      (validated_turn (first_hit begun.records (map committed_of (drop begun.prefix state.order)))) (blocker state number)
-      (validated_room setting state number before prefix statement begun records last
-      (first_hit begun.records (map committed_of (drop begun.prefix state.order))) refl))
-]
-closing_room setting state number before prefix statement begun records last false =
-    undo_room setting state number before prefix statement begun 0 RolledBack tt
+    → ((rank : ℕ) → Reaches state number before rank) → CommitCases state number begun (RoomTurn setting state number before prefix statement)
+commit_room setting state number before prefix statement begun records last = record {
+  waits = λ by is. tt;
+  reads = λ free nothing. tt;
+  enters = λ free some e. tt;
+  out = λ some cause e.
+      first_hit_is (λ (one : Ending). EndRoom setting state number before prefix one) (IsNumbered (length begun.replies)) begun.records
+      (drop begun.prefix state.order) cause records (λ i label at table pos statement q. record {
+        rank = begun.prefix + i;
+        stands = sym (label_dropped begun.prefix state.order i) ∙ at;
+        reaches = last (begun.prefix + i + 1);
+      }) e;
+}
 
 pub working_room : (setting : Setting) (state : State) (number : ℕ) (txn : Txn) (current : Open) → AtWork setting state number current
     → AllByRecursion (λ (of : Record). IsNumbered (length current.begun.replies) of.statement) current.begun.records → (visited count : ℕ)
-    → (statement : Option Bound) → WorkRoom setting state number (length (session_at state number).done) current.begun.prefix visited statement
-    → RoomTurn setting state number (length (session_at state number).done) current.begun.prefix statement
-    (working_turn setting state number txn current.begun visited count statement)
-working_room setting state number txn current w records visited count None h =
-    closing_room setting state number (length (session_at state number).done) current.begun.prefix None current.begun records
-    (open_reaches state number current w.is) txn.commits
-working_room setting state number txn current w records visited count (Some statement) h =
-    statement_room setting state number current w visited count statement h
+    → WorkRoom setting state number (length (session_at state number).done) current.begun.prefix visited
+    (slice_get txn.statements (length current.begun.replies))
+    → RoomTurn setting state number (length (session_at state number).done) current.begun.prefix (slice_get txn.statements (length current.begun.replies))
+    (working_turn setting state number txn current.begun visited count (slice_get txn.statements (length current.begun.replies)))
+working_room setting state number txn current w records visited count h =
+    let present : Option Bound = slice_get txn.statements (length current.begun.replies) in
+    let before : ℕ = length (session_at state number).done in
+    working_cases setting state number current.begun (RoomTurn setting state number before current.begun.prefix present) txn visited count
+    (λ statement e. subst (λ (one : Option Bound). RoomTurn setting state number before current.begun.prefix one
+    (statement_turn setting state number current.begun visited count statement)) (sym e)
+    (statement_cases setting state number current.begun (RoomTurn setting state number before current.begun.prefix (Some statement)) visited count statement
+    (statement_room setting state number current w visited count statement
+    (subst (WorkRoom setting state number before current.begun.prefix visited) e h))))
+    (λ none commits. commit_room setting state number before current.begun.prefix present current.begun records (open_reaches state number current w.is))
+    (λ none rolls. record { goes = λ few. tt; waits = λ by is. tt; ends = λ free. tt })

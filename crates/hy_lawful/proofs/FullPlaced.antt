@@ -1,10 +1,9 @@
 -- What transactions placed is no more than what their INSERTs took: kept along steps.
-use Rattle.std.proofs.Common.{◌≡◌, ℕ, suc, ◌+◌, ◌-◌, ◌*◌, ◌<◌, ◌≤◌, List, [], ◌∷◌, ◌++◌, Option, None, Some, Bool, true, false, not, is_some, Result}
-use Rattle.std.proofs.Common.{Ok, Err}
-use Rattle.std.proofs.Common.{length, map, drop, ltb, refl, ap, sym, ◌∙◌, subst, arith, inl, inr, ◌⊎◌}
+use Rattle.std.proofs.Common.{◌≡◌, ℕ, ◌+◌, ◌<◌, ◌≤◌, List, [], ◌∷◌, ◌++◌, Option, None, Some, true, false, not, is_some}
+use Rattle.std.proofs.Common.{Ok}
+use Rattle.std.proofs.Common.{length, refl, ap, sym, ◌∙◌, subst, arith, inl, inr, ◌⊎◌}
 use Rattle.std.specs.Prelude.{slice_get}
 use Rattle.std.specs.Option.{option_map}
-use Rattle.std.proofs.lemmas.Bool.{cases_Bool}
 use Rattle.std.proofs.lemmas.List.{length-append}
 use Rattle.hy_value.specs.declared.Value.{Value}
 use Rattle.hy_bound.specs.declared.Txn.{Txn}
@@ -15,40 +14,35 @@ use Rattle.hy_bound.specs.declared.Record.{Record}
 use Rattle.hy_bound.specs.declared.WriteKind.{WriteKind}
 use Rattle.hy_bound.specs.declared.WriteKind.TheVariants as kind
 use Rattle.hy_bound.specs.Condition.{Condition}
-use Rattle.hy_bound.specs.Records.{shape_of}
-use Rattle.hy_meaning.specs.Statement.{answer_of, grouped}
-use Rattle.hy_stamp.specs.declared.Label.{Label}
 use Rattle.hy_bound.specs.declared.Ending.{Ending}
-use Rattle.hy_bound.specs.declared.Ending.TheVariants.{Read, RolledBack}
+use Rattle.hy_bound.specs.declared.Ending.TheVariants.{RolledBack}
 use Rattle.hy_machine.specs.declared.Setting.{Setting}
 use Rattle.hy_protocol.specs.declared.Phase.{Phase}
 use Rattle.hy_protocol.specs.declared.Phase.TheVariants.{Working, Stamping, Undoing}
 use Rattle.hy_machine.specs.States.{State, Session, Open, Begun, Finished}
 use Rattle.hy_machine.specs.Tables.{Entry, Cell, Tables, capacity, positions_in, covered}
-use Rattle.hy_machine.specs.Writes.{Write, with_writes, wrote_nothing, written_chunks, blank_own}
+use Rattle.hy_machine.specs.Writes.{Write, with_writes, blank_own}
 use Rattle.hy_protocol.specs.Turns.{Turn, Done, Waits, Begins, Visits, Answers, Enters, Ends}
 use Rattle.hy_machine.specs.Positions.{item_at}
-use Rattle.hy_machine.specs.Sessions.{session_at, txn_at, blocker, view, entry_of}
+use Rattle.hy_machine.specs.Sessions.{session_at, view, entry_of}
 use Rattle.hy_machine.specs.Holding.{opponent}
-use Rattle.hy_machine.specs.Validation.{committed_of, first_hit}
-use Rattle.hy_machine.specs.Visits.{verdict_at, swept, sees_key, free_position, checks_of}
-use Rattle.hy_protocol.specs.Turns.{unless_blocked}
-use Rattle.hy_machine.specs.Turns.{rows_seen, read_turn, write_turn, check_turn, place_turn, insert_turn, statement_turn}
-use Rattle.hy_protocol.specs.Closing.{validated_turn}
-use Rattle.hy_machine.specs.Turns.{undo_turn, stamp_turn, commit_turn, closing_turn, working_turn, phase_turn, session_turn}
+use Rattle.hy_machine.specs.Visits.{verdict_at, swept}
+use Rattle.hy_machine.specs.Turns.{phase_turn}
 use Rattle.hy_machine.specs.Outcomes.{placed_in, placed_by, statements_in}
-use Rattle.hy_machine.specs.Steps.{with_session, beginning, after_visit, after_answer, done_with, order_with, after_turn, step_of}
-use Rattle.hy_machine.specs.Runs.{opening_of, after_steps, IsReached}
+use Rattle.hy_machine.specs.Steps.{with_session, beginning, after_visit, after_answer, done_with, order_with, after_turn}
+use Rattle.hy_machine.specs.Runs.{IsReached}
 use Rattle.hy_lawful.specs.Reached.{statements_at}
 use Rattle.hy_lawful.specs.Rooms.{how_many, has_placed, ReachedPlaced}
 use Rattle.hy_lawful.proofs.Booleans.{and_left}
-use Rattle.hy_lawful.proofs.Fits.{FitsTables, OpenFits, NowFits, NowStamps, Fits}
-use Rattle.hy_lawful.proofs.Turns.{FitsTurn, phase_fits}
+use Rattle.hy_lawful.proofs.Fits.{FitsTables}
+use Rattle.hy_lawful.proofs.Turns.{FitsTurn}
+use Rattle.hy_machine.specs.TurnCases.{WriteCases, StatementCases, UndoCases, statement_cases, undo_cases, stamp_cases, working_cases}
 use Rattle.hy_lawful.proofs.Moves.{moved_to, sessions_moved}
 use Rattle.hy_lawful.proofs.PassMays.{verdict_is, sweep_all}
 use Rattle.hy_lawful.proofs.PassSteps.{blank_items}
 use Rattle.hy_lawful.proofs.PassTables.{tables_at, tables_are, covered_at, tables_grow}
-use Rattle.hy_lawful.proofs.Reached.{fresh_at, is_there, opening_fits, step_fits}
+use Rattle.hy_lawful.proofs.Reached.{fresh_at}
+use Rattle.hy_lawful.proofs.ReachedBy.{reached_by}
 use Rattle.hy_lawful.proofs.RunStates.{item_of_more}
 use Rattle.hy_lawful.proofs.FullCounts.{none_pass, took_least, took_more, AllRowed, rowed_count, insert_count}
 
@@ -75,14 +69,6 @@ PlacesTurn tables statements begun (Ends ending) = Unit {0}
 abbrev start_tables : Setting → State → Begun → Tables
 start_tables setting state begun = tables_at setting state.order begun.prefix
 
-read_places : (setting : Setting) (tables : Tables) (statements : List Bound) (begun : Begun) (visited from : ℕ) (statement : Bound)
-    (gathered : List (List (List Value))) (reply : Reply)
-    → PlacesTurn tables statements begun (read_turn setting begun visited from statement gathered reply)
-read_places setting tables statements begun visited from statement gathered reply = elim (cases_Bool (ltb (suc visited) (setting.chunks * from))) [
-  | inl t ↦ rw t tt
-  | inr f ↦ rw f (inl tt)
-]
-
 seen_rowed : (setting : Setting) (state : State) (begun : Begun) (table pos : ℕ) (row : List Value) → FitsTables setting begun.own
     → item_at (view setting state begun) table pos ≡ Some row
     → (is_some (item_at begun.own table pos) ≡ true) ⊎ (is_some (item_at (start_tables setting state begun) table pos) ≡ true)
@@ -107,114 +93,52 @@ swept_rowed setting state number begun kind pred table chunk writes own e =
     seen_rowed setting state begun table pos is.0 own is.1.0)
     (positions_in setting chunk) writes e
 
-write_places : (setting : Setting) (state : State) (statements : List Bound) (number : ℕ) (begun : Begun) (visited count : ℕ) (statement : Bound)
+writes_place : (setting : Setting) (state : State) (statements : List Bound) (number : ℕ) (begun : Begun) (visited count : ℕ) (statement : Bound)
     (kind : WriteKind) (pred : Condition) (table : ℕ) → FitsTables setting begun.own
-    → (result : Result (List Write) Ending) → swept setting state number begun kind pred table visited ≡ result
-    → PlacesTurn (start_tables setting state begun) statements begun (write_turn setting begun visited count statement kind result)
-write_places setting state statements number begun visited count statement kind pred table own (Err cause) e = tt
-write_places setting state statements number begun visited count statement kind pred table own (Ok writes) e =
-    elim (cases_Bool (ltb (suc visited) setting.chunks)) [
-      | inl t ↦ rw t (swept_rowed setting state number begun kind pred table visited writes own e)
-      | inr f ↦ rw f (inl (swept_rowed setting state number begun kind pred table visited writes own e))
-    ]
-
-check_places : (setting : Setting) (tables : Tables) (statements : List Bound) (begun : Begun) (visited : ℕ) (statement : Bound) (found : Bool)
-    → PlacesTurn tables statements begun (check_turn setting begun visited statement found)
-check_places setting tables statements begun visited statement true = inl tt
-check_places setting tables statements begun visited statement false = tt
-
-place_places : (setting : Setting) (tables : Tables) (statements : List Bound) (begun : Begun) (visited chunk table : ℕ) (row : List Value)
-    → slice_get statements (length begun.replies) ≡ Some (Insert table row) → (pos : Option ℕ)
-    → PlacesTurn tables statements begun (place_turn setting begun visited chunk (Insert table row) table row pos)
-place_places setting tables statements begun visited chunk table row here (Some pos) =
-    inr (record { of = table; at = pos; row = row; here = here; took_it = refl; wrote = refl })
-place_places setting tables statements begun visited chunk table row here None = elim (cases_Bool (ltb (suc chunk) setting.chunks)) [
-  | inl t ↦ rw t tt
-  | inr f ↦ rw f tt
-]
-
-insert_places : (setting : Setting) (state : State) (tables : Tables) (statements : List Bound) (begun : Begun) (visited table : ℕ) (row : List Value)
-    → slice_get statements (length begun.replies) ≡ Some (Insert table row) → (key : Option ℕ)
-    → PlacesTurn tables statements begun (insert_turn setting state begun visited (Insert table row) table row key)
-insert_places setting state tables statements begun visited table row here key = elim (cases_Bool (ltb visited (checks_of setting key))) [
-  | inl t ↦ rw t (check_places setting tables statements begun visited (Insert table row) (sees_key setting state begun table row key visited))
-  | inr f ↦ rw f (place_places setting tables statements begun visited (visited - checks_of setting key) table row here
-      (free_position setting state begun table (visited - checks_of setting key)))
-]
+    → WriteCases setting begun (PlacesTurn (start_tables setting state begun) statements begun) visited count statement kind
+    (swept setting state number begun kind pred table visited)
+writes_place setting state statements number begun visited count statement kind pred table own = record {
+  out = λ cause e. tt;
+  goes = λ writes e few. swept_rowed setting state number begun kind pred table visited writes own e;
+  ends = λ writes e. inl (swept_rowed setting state number begun kind pred table visited writes own e);
+}
 
 statement_places : (setting : Setting) (state : State) (statements : List Bound) (number : ℕ) (begun : Begun) (visited count : ℕ)
     → FitsTables setting begun.own → (statement : Bound) → slice_get statements (length begun.replies) ≡ Some statement
-    → PlacesTurn (start_tables setting state begun) statements begun (statement_turn setting state number begun visited count statement)
+    → StatementCases setting state number begun (PlacesTurn (start_tables setting state begun) statements begun) visited count statement
 statement_places setting state statements number begun visited count own (Select tables ons pred items) here =
-    read_places setting (start_tables setting state begun) statements begun visited (length tables) (Select tables ons pred items)
-    (map (rows_seen (view setting state begun)) tables) (answer_of ons pred items (map (rows_seen (view setting state begun)) tables))
+    record { goes = λ few. tt; ends = inl tt }
 statement_places setting state statements number begun visited count own (Group table pred key aggregate) here =
-    read_places setting (start_tables setting state begun) statements begun visited 1 (Group table pred key aggregate)
-    [] (grouped pred key aggregate (rows_seen (view setting state begun) table))
-statement_places setting state statements number begun visited count own (Insert table row) here =
-    insert_places setting state (start_tables setting state begun) statements begun visited table row here (shape_of setting.shapes table).key
+    record { goes = λ few. tt; ends = inl tt }
+statement_places setting state statements number begun visited count own (Insert table row) here = record {
+  checked = λ few. tt;
+  twice = inl tt;
+  takes = λ pos e. inr (record { of = table; at = pos; row = row; here = here; took_it = refl; wrote = refl });
+  goes = λ past e few. tt;
+  full = λ past e most. tt;
+}
 statement_places setting state statements number begun visited count own (Update table sets pred) here =
-    write_places setting state statements number begun visited count (Update table sets pred) (kind.Set sets) pred table own
-    (swept setting state number begun (kind.Set sets) pred table visited) refl
+    writes_place setting state statements number begun visited count (Update table sets pred) (kind.Set sets) pred table own
 statement_places setting state statements number begun visited count own (Delete table pred) here =
-    write_places setting state statements number begun visited count (Delete table pred) kind.Delete pred table own
-    (swept setting state number begun kind.Delete pred table visited) refl
+    writes_place setting state statements number begun visited count (Delete table pred) kind.Delete pred table own
 
-unless_places : (tables : Tables) (statements : List Bound) (begun : Begun) (turn : Turn Write) (by : Option Label) → PlacesTurn tables statements begun turn
-    → PlacesTurn tables statements begun (unless_blocked by turn)
-unless_places tables statements begun turn None h = h
-unless_places tables statements begun turn (Some by) h = tt
-
-undo_places : (setting : Setting) (state : State) (tables : Tables) (statements : List Bound) (number : ℕ) (begun : Begun) (visited : ℕ) (cause : Ending)
-    → PlacesTurn tables statements begun (undo_turn setting state number begun visited cause)
-undo_places setting state tables statements number begun visited cause = elim (cases_Bool (ltb visited (length (written_chunks setting begun.own)))) [
-  | inl t ↦ rw t tt
-  | inr f ↦ rw f (unless_places tables statements begun (Ends cause) (blocker state number) tt)
-]
-
-stamp_places : (setting : Setting) (state : State) (tables : Tables) (statements : List Bound) (begun : Begun) (visited : ℕ)
-    → PlacesTurn tables statements begun (stamp_turn setting state begun visited)
-stamp_places setting state tables statements begun visited = elim (cases_Bool (ltb visited (length (written_chunks setting begun.own)))) [
-  | inl t ↦ rw t tt
-  | inr f ↦ rw f tt
-]
-
-validated_places : (tables : Tables) (statements : List Bound) (begun : Begun) (hit : Option Ending)
-    → PlacesTurn tables statements begun (validated_turn hit)
-validated_places tables statements begun None = tt
-validated_places tables statements begun (Some cause) = tt
-
-commit_places : (setting : Setting) (state : State) (tables : Tables) (statements : List Bound) (number : ℕ) (begun : Begun)
-    → PlacesTurn tables statements begun (commit_turn setting state number begun)
-commit_places setting state tables statements number begun = elim (cases_Bool (wrote_nothing begun.own)) [
-  | inl t ↦ rw t (unless_places tables statements begun (Ends Read) (blocker state number) tt)
-  | inr f ↦ rw f (unless_places tables statements begun (validated_turn (first_hit begun.records (map committed_of (drop begun.prefix state.order))))
-      (blocker state number)
-      (validated_places tables statements begun (first_hit begun.records (map committed_of (drop begun.prefix state.order)))))
-]
-
-closing_places : (setting : Setting) (state : State) (tables : Tables) (statements : List Bound) (number : ℕ) (begun : Begun) (commits : Bool)
-    → PlacesTurn tables statements begun (closing_turn setting state number begun commits)
-closing_places setting state tables statements number begun true = commit_places setting state tables statements number begun
-closing_places setting state tables statements number begun false =
-    undo_places setting state tables statements number begun 0 RolledBack
-
-working_places : (setting : Setting) (state : State) (number : ℕ) (txn : Txn) (begun : Begun) (visited count : ℕ) → FitsTables setting begun.own
-    → (statement : Option Bound) → slice_get txn.statements (length begun.replies) ≡ statement
-    → PlacesTurn (start_tables setting state begun) txn.statements begun (working_turn setting state number txn begun visited count statement)
-working_places setting state number txn begun visited count own None here =
-    closing_places setting state (start_tables setting state begun) txn.statements number begun txn.commits
-working_places setting state number txn begun visited count own (Some statement) here =
-    statement_places setting state txn.statements number begun visited count own statement here
+undo_places : (setting : Setting) (state : State) (statements : List Bound) (number : ℕ) (begun : Begun) (visited : ℕ) (cause : Ending)
+    → UndoCases setting state number begun (PlacesTurn (start_tables setting state begun) statements begun) visited cause
+undo_places setting state statements number begun visited cause = record { goes = λ few. tt; waits = λ by is. tt; ends = λ free. tt }
 
 pub phase_places : (setting : Setting) (state : State) (number : ℕ) (txn : Txn) (begun : Begun) → FitsTables setting begun.own → (phase : Phase)
     → PlacesTurn (start_tables setting state begun) txn.statements begun (phase_turn setting state number txn begun phase)
 phase_places setting state number txn begun own (Working visited count) =
-    working_places setting state number txn begun visited count own (slice_get txn.statements (length begun.replies)) refl
+    working_cases setting state number begun (PlacesTurn (start_tables setting state begun) txn.statements begun) txn visited count
+    (λ statement e. statement_cases setting state number begun (PlacesTurn (start_tables setting state begun) txn.statements begun) visited count statement
+    (statement_places setting state txn.statements number begun visited count own statement e))
+    (λ none commits. record { waits = λ by is. tt; reads = λ free nothing. tt; enters = λ free some e. tt; out = λ some cause e. tt })
+    (λ none rolls. undo_places setting state txn.statements number begun 0 RolledBack)
 phase_places setting state number txn begun own (Stamping visited) =
-    stamp_places setting state (start_tables setting state begun) txn.statements begun visited
+    stamp_cases setting state number begun (PlacesTurn (start_tables setting state begun) txn.statements begun) visited (λ few. tt) tt
 phase_places setting state number txn begun own (Undoing visited cause) =
-    undo_places setting state (start_tables setting state begun) txn.statements number begun visited cause
+    undo_cases setting state number begun (PlacesTurn (start_tables setting state begun) txn.statements begun) visited cause
+    (undo_places setting state txn.statements number begun visited cause)
 
 -- ---- what is kept
 
@@ -394,52 +318,23 @@ blank_counted setting state statements = record {
       omega (arith, nothing);
 }
 
-begins_unless : (setting : Setting) (state : State) (number : ℕ) (by : Option Label) → AllCounted setting state
-    → AllCounted setting (after_turn setting state number Begins).0 → AllCounted setting (after_turn setting state number (unless_blocked by Begins)).0
-begins_unless setting state number None all h = h
-begins_unless setting state number (Some by) all h = all
-
-session_counted : (setting : Setting) (state : State) (number : ℕ) (txn : Txn) → Fits setting state → AllCounted setting state
-    → txn_at setting number (session_at state number) ≡ Some txn → (now : Option Open) → (session_at state number).now ≡ now
-    → AllCounted setting (after_turn setting state number (session_turn setting state number (Some txn) now)).0
-session_counted setting state number txn fits all e None is =
-    begins_unless setting state number (blocker state number) all
-    (goes_on setting state number (record { begun = beginning setting state; phase = Working 0 0 }) all (is_there setting state number txn fits e)
-    (blank_counted setting state (statements_now setting state number)))
-session_counted setting state number txn fits all e (Some current) is =
-    let present : OpenFits setting state.order state.mark number (session_at state number).done current =
-    subst (NowFits setting state.order state.mark number (session_at state number).done) is (fits.sessions number).now in
-    turn_counted setting state number current
-    (record {
-      all = all;
-      there = is_there setting state number txn fits e;
-      is = is;
-      counted = subst (NowCounted setting state.order (statements_now setting state number)) is (all number).now;
-    })
-    (phase_turn setting state number txn current.begun current.phase)
-    (phase_fits setting state fits number txn current.begun e present.above present.records current.phase present.phase
-    (λ m. subst NowStamps is (fits.marked number m)))
-    (subst (λ (of : List Bound). PlacesTurn (tables_at setting state.order current.begun.prefix) of current.begun
-    (phase_turn setting state number txn current.begun current.phase)) (sym (ap statements_in e))
-    (phase_places setting state number txn current.begun present.own current.phase))
-
-by_txn : (setting : Setting) (state : State) (number : ℕ) → Fits setting state → AllCounted setting state → (txn : Option Txn)
-    → txn_at setting number (session_at state number) ≡ txn
-    → AllCounted setting (after_turn setting state number (session_turn setting state number txn (session_at state number).now)).0
-by_txn setting state number fits all None e = all
-by_txn setting state number fits all (Some txn) e = session_counted setting state number txn fits all e (session_at state number).now refl
-
-steps_counted : (setting : Setting) (state : State) (numbers : List ℕ) → Fits setting state → AllCounted setting state
-    → AllCounted setting (after_steps setting state numbers)
-steps_counted setting state [] fits all = all
-steps_counted setting state (number ∷ numbers) fits all =
-    steps_counted setting (step_of setting state number).0 numbers (step_fits setting state number fits)
-    (by_txn setting state number fits all (txn_at setting number (session_at state number)) refl)
-
 pub reached_counted : (setting : Setting) (state : State) → IsReached setting state → AllCounted setting state
-reached_counted setting state r = subst (AllCounted setting) (sym r.1)
-    (steps_counted setting (opening_of setting) r.0 (opening_fits setting)
-    (λ number. subst (SessionCounted setting [] number) (sym (fresh_at setting number)) (record { done = λ before finished e. absurd cc; now = tt })))
+reached_counted setting = reached_by setting (AllCounted setting) (record {
+  begins = λ state number txn all may.
+      goes_on setting state number (record { begun = beginning setting state; phase = Working 0 0 }) all may.there
+      (blank_counted setting state (statements_now setting state number));
+  turns = λ state number txn current all takes. turn_counted setting state number current
+      (record {
+        all = all;
+        there = takes.there;
+        is = takes.is;
+        counted = subst (NowCounted setting state.order (statements_now setting state number)) takes.is (all number).now;
+      })
+      (phase_turn setting state number txn current.begun current.phase) takes.turn
+      (subst (λ (of : List Bound). PlacesTurn (tables_at setting state.order current.begun.prefix) of current.begun
+      (phase_turn setting state number txn current.begun current.phase)) (sym (ap statements_in takes.at))
+      (phase_places setting state number txn current.begun takes.present.own current.phase));
+}) (λ number. subst (SessionCounted setting [] number) (sym (fresh_at setting number)) (record { done = λ before finished e. absurd cc; now = tt }))
 
 pub reached_placed : ReachedPlaced
 reached_placed setting state r number before finished e = (((reached_counted setting state r) number).done before finished e).few

@@ -24,7 +24,7 @@ use Rattle.hy_lawful.proofs.FullRoom.{AtWork}
 abbrev pub StandsSince : State → ℕ → Label → Type 0
 StandsSince state prefix other = (rank : ℕ) → label_at state.order rank ≡ Some other → prefix ≤ rank
 
-label_is : (order : List Entry) (rank : ℕ) → rank < length order → (label : Label) × (label_at order rank ≡ Some label)
+pub label_is : (order : List Entry) (rank : ℕ) → rank < length order → (label : Label) × (label_at order rank ≡ Some label)
 label_is [] rank below = absurd (omega (arith, below))
 label_is (entry ∷ order) zero below = (entry.label, refl)
 label_is (entry ∷ order) (suc rank) below = label_is order rank (omega (arith, below))

@@ -28,7 +28,8 @@ use Rattle.hy_lawful.specs.Reached.{statements_at}
 use Rattle.hy_lawful.proofs.Fits.{IsNumbered, OpenFits, NowFits, NowStamps, Fits}
 use Rattle.hy_lawful.proofs.Moves.{moved_to, sessions_moved}
 use Rattle.hy_lawful.proofs.PassStates.{Passes}
-use Rattle.hy_lawful.proofs.PassSteps.{reached_passes, reached_step}
+use Rattle.hy_lawful.proofs.PassSteps.{reached_passes}
+use Rattle.hy_lawful.proofs.ReachedBy.{reached_step}
 use Rattle.hy_lawful.proofs.Reached.{fresh_at, is_there, reached_fits}
 use Rattle.hy_lawful.proofs.Turns.{FitsTurn, phase_fits}
 use Rattle.hy_lawful.proofs.FullMarks.{AllBefore, reached_before}
@@ -68,7 +69,7 @@ phase_room setting state fits passes all lows number txn begun (Working visited 
       before = all;
       lows = lows;
     })
-    records visited count (present_statement txn.statements begun) h
+    records visited count h
 phase_room setting state fits passes all lows number txn begun (Stamping visited) is records h =
     stamp_room setting state number (length (session_at state number).done) begun.prefix (present_statement txn.statements begun) begun visited
 phase_room setting state fits passes all lows number txn begun (Undoing visited cause) is records h =

@@ -9,23 +9,21 @@ use Rattle.std.proofs.lemmas.List.{length-append}
 use Rattle.std.proofs.lemmas.List.Sums.{sum_by-set}
 use Rattle.hy_bound.specs.declared.Bound.{Bound}
 use Rattle.hy_bound.specs.declared.Txn.{Txn}
-use Rattle.hy_stamp.specs.declared.Label.{Label}
 use Rattle.hy_machine.specs.declared.Setting.{Setting}
 use Rattle.hy_protocol.specs.declared.Phase.{Phase}
 use Rattle.hy_protocol.specs.declared.Phase.TheVariants.{Working, Stamping, Undoing}
 use Rattle.hy_machine.specs.States.{State, Session, Open, Begun}
 use Rattle.hy_machine.specs.Tables.{Entry}
-use Rattle.hy_protocol.specs.Turns.{Turn, Done, Waits, Begins, Visits, Answers, Enters, Ends, unless_blocked}
-use Rattle.hy_machine.specs.Turns.{session_turn, phase_turn, stamp_turn}
-use Rattle.hy_machine.specs.Sessions.{fresh, session_at, txn_at, blocker, entry_of}
+use Rattle.hy_protocol.specs.Turns.{Turn, Done, Waits, Begins, Visits, Answers, Enters, Ends}
+use Rattle.hy_machine.specs.Turns.{phase_turn, stamp_turn}
+use Rattle.hy_machine.specs.Sessions.{fresh, session_at, entry_of}
 use Rattle.hy_machine.specs.Writes.{Write, written_chunks}
-use Rattle.hy_machine.specs.Steps.{with_session, beginning, after_visit, after_answer, done_with, order_with, after_turn, step_of}
-use Rattle.hy_machine.specs.Runs.{opening_of, after_steps, IsReached}
+use Rattle.hy_machine.specs.Steps.{with_session, beginning, after_visit, after_answer, done_with, order_with, after_turn}
+use Rattle.hy_machine.specs.Runs.{IsReached}
 use Rattle.hy_machine.specs.Begun.{count_open, count_begun}
-use Rattle.hy_lawful.proofs.Fits.{Fits}
 use Rattle.hy_lawful.proofs.FullTables.{sum_less}
 use Rattle.hy_lawful.proofs.Moves.{moved_to}
-use Rattle.hy_lawful.proofs.Reached.{is_there, opening_fits, step_fits}
+use Rattle.hy_lawful.proofs.ReachedBy.{reached_by}
 use Rattle.hy_lawful.proofs.KeptStands.{TurnStands, phase_stands}
 
 -- one where a transaction stands between its entry and its end
@@ -137,42 +135,18 @@ turn_few setting state number current few there is = by_turn
         (record { done = (session_at state number).done ++ record { begun = current.begun; ending = ending } ∷ []; now = None }) few there
         (omega (arith, counts, at_most current.phase, length-append (session_at state number).done (record { begun = current.begun; ending = ending } ∷ []))))
 
--- ---- a transaction begins
-
-begins_few : (setting : Setting) (state : State) (number : ℕ) (by : Option Label) → FewEntered state → number < length state.sessions
-    → (session_at state number).now ≡ None → FewEntered (after_turn setting state number (unless_blocked by Begins)).0
-begins_few setting state number None few there is =
-    let counts : count_entered (session_at state number).now ≡ 0 = ap count_entered is in
-    moves_few state state.order state.mark number
-    (record { done = (session_at state number).done; now = Some (record { begun = beginning setting state; phase = Working 0 0 }) }) few there
-    (omega (arith, counts))
-begins_few setting state number (Some by) few there is = few
-
 -- ---- steps
 
-session_few : (setting : Setting) (state : State) (number : ℕ) (txn : Txn) → Fits setting state → FewEntered state
-    → txn_at setting number (session_at state number) ≡ Some txn → (now : Option Open) → (session_at state number).now ≡ now
-    → FewEntered (after_turn setting state number (session_turn setting state number (Some txn) now)).0
-session_few setting state number txn fits few e None is =
-    begins_few setting state number (blocker state number) few (is_there setting state number txn fits e) is
-session_few setting state number txn fits few e (Some current) is =
-    turn_few setting state number current few (is_there setting state number txn fits e) is
-    (phase_turn setting state number txn current.begun current.phase) (phase_counts setting state number txn current.begun current.phase)
-
-by_txn : (setting : Setting) (state : State) (number : ℕ) → Fits setting state → FewEntered state → (txn : Option Txn)
-    → txn_at setting number (session_at state number) ≡ txn
-    → FewEntered (after_turn setting state number (session_turn setting state number txn (session_at state number).now)).0
-by_txn setting state number fits few None e = few
-by_txn setting state number fits few (Some txn) e = session_few setting state number txn fits few e (session_at state number).now refl
-
-steps_few : (setting : Setting) (state : State) (numbers : List ℕ) → Fits setting state → FewEntered state → FewEntered (after_steps setting state numbers)
-steps_few setting state [] fits few = few
-steps_few setting state (number ∷ numbers) fits few =
-    steps_few setting (step_of setting state number).0 numbers (step_fits setting state number fits)
-    (by_txn setting state number fits few (txn_at setting number (session_at state number)) refl)
-
 reached_few : (setting : Setting) (state : State) → IsReached setting state → FewEntered state
-reached_few setting state r = subst FewEntered (sym r.1) (steps_few setting (opening_of setting) r.0 (opening_fits setting) (omega arith))
+reached_few setting = reached_by setting FewEntered (record {
+  begins = λ state number txn few may.
+      let counts : count_entered (session_at state number).now ≡ 0 = ap count_entered may.rests in
+      moves_few state state.order state.mark number
+      (record { done = (session_at state number).done; now = Some (record { begun = beginning setting state; phase = Working 0 0 }) }) few may.there
+      (omega (arith, counts));
+  turns = λ state number txn current few takes. turn_few setting state number current few takes.there takes.is
+      (phase_turn setting state number txn current.begun current.phase) (phase_counts setting state number txn current.begun current.phase);
+}) (omega arith)
 
 -- ---- what has come into the order has begun
 

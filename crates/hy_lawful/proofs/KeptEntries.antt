@@ -1,9 +1,8 @@
 -- In each state that the machine comes to, an entry has what its transaction wrote, over the cells of its rank, and what a
 -- transaction holds no other one holds and no entry wrote since its start.
-use Rattle.std.proofs.Common.{◌≡◌, ℕ, zero, suc, ◌-◌, List, [], ◌∷◌, Option, None, Some, false, is_some, length, refl, ap, sym, ◌∙◌}
+use Rattle.std.proofs.Common.{◌≡◌, ℕ, ◌-◌, List, Option, None, Some, false, is_some, length, refl, ap, sym, ◌∙◌}
 use Rattle.std.proofs.Common.{subst, arith}
-use Rattle.std.specs.Prelude.{slice_get, IfSome}
-use Rattle.std.proofs.lemmas.Option.{same_Some}
+use Rattle.std.specs.Prelude.{IfSome}
 use Rattle.hy_stamp.specs.declared.Label.{Label}
 use Rattle.hy_machine.specs.declared.Setting.{Setting}
 use Rattle.hy_protocol.specs.declared.Phase.{Phase}
@@ -25,6 +24,7 @@ use Rattle.hy_lawful.proofs.PassStates.{BornEmpty, Passed, untouched, EndPasses,
 use Rattle.hy_lawful.proofs.PassSteps.{reached_passes}
 use Rattle.hy_lawful.proofs.KeptFits.{open_fits}
 use Rattle.hy_lawful.proofs.KeptStarts.{open_passes}
+use Rattle.hy_lawful.proofs.PrintedTables.{pair_there}
 
 -- ---- those that have come into the commit order
 
@@ -60,12 +60,6 @@ ranked_fits setting state r rank label begun (entered current m same is last) =
     }
 
 -- ---- what an entry does
-
-pair_there : (order : List Entry) (rank : ℕ) (entry : Entry) → slice_get order rank ≡ Some entry → (table pos : ℕ)
-    → pair_at order rank table pos ≡ item_at entry.cells table pos
-pair_there [] rank entry e table pos = absurd cc
-pair_there (first ∷ order) zero entry e table pos = ap (λ (one : Entry). item_at one.cells table pos) (same_Some first entry e)
-pair_there (first ∷ order) (suc rank) entry e table pos = pair_there order rank entry e table pos
 
 same_pair : (pair : Pair) (before after : Cell) → pair.before ≡ before → pair.after ≡ after → Some pair ≡ pair_of before (Some after)
 same_pair pair before after b a =

@@ -6,11 +6,12 @@ use Rattle.hy_stamp.specs.declared.Label.{Label}
 use Rattle.hy_machine.specs.declared.Setting.{Setting}
 use Rattle.hy_protocol.specs.declared.Phase.{Phase}
 use Rattle.hy_protocol.specs.declared.Phase.TheVariants.{Working, Stamping, Undoing}
+use Rattle.hy_protocol.specs.Turns.{is_stamping}
 use Rattle.hy_machine.specs.States.{State, Open, Begun}
 use Rattle.hy_machine.specs.Tables.{Entry}
 use Rattle.hy_machine.specs.Sessions.{session_at, label_of}
 use Rattle.hy_machine.specs.Runs.{IsReached}
-use Rattle.hy_machine.specs.Kept.{IsNow, IsRanked, committed, entered, is_stamping, Ranks}
+use Rattle.hy_machine.specs.Kept.{IsNow, IsRanked, committed, entered, Ranks}
 use Rattle.hy_lawful.proofs.Fits.{label_at, PhaseFits, Ranked, Stamps, NowStamps, Fits}
 use Rattle.hy_lawful.proofs.Fits as fit
 use Rattle.hy_lawful.proofs.Reached.{reached_fits}

@@ -1,10 +1,9 @@
 -- Where the visits of an open transaction stand, and what a turn makes of that.
-use Rattle.std.proofs.Common.{◌≡◌, ℕ, zero, suc, ◌+◌, ◌-◌, ◌*◌, ◌<◌, ◌≤◌, List, [], ◌∷◌, Option, None, Some, Bool, true, false, Result, Ok, Err, length}
-use Rattle.std.proofs.Common.{map, drop, replicate, get_or, cond, ltb, refl, sym, ◌∙◌, subst, arith, inl, inr, ◌⊎◌}
+use Rattle.std.proofs.Common.{◌≡◌, ℕ, zero, suc, ◌+◌, ◌*◌, ◌<◌, ◌≤◌, List, [], ◌∷◌, Option, None, Some, Result, length}
+use Rattle.std.proofs.Common.{map, replicate, get_or, refl, sym, ◌∙◌, subst, arith, inr, ◌⊎◌}
 use Rattle.std.proofs.Math.ListN.{set}
 use Rattle.std.specs.Prelude.{slice_get}
 use Rattle.std.specs.List.{AllByRecursion}
-use Rattle.std.proofs.lemmas.Bool.{cases_Bool, ltb-true}
 use Rattle.std.proofs.lemmas.List.{length-map, length-set, length-replicate}
 use Rattle.std.proofs.lemmas.Option.{same_Some}
 use Rattle.hy_value.specs.declared.Value.{Value}
@@ -16,24 +15,21 @@ use Rattle.hy_bound.specs.declared.WriteKind.{WriteKind}
 use Rattle.hy_bound.specs.declared.WriteKind.TheVariants as kind
 use Rattle.hy_bound.specs.Records.{shape_of}
 use Rattle.hy_meaning.specs.Statement.{answer_of, grouped}
-use Rattle.hy_stamp.specs.declared.Label.{Label}
 use Rattle.hy_bound.specs.declared.Ending.{Ending}
-use Rattle.hy_bound.specs.declared.Ending.TheVariants.{Read, RolledBack}
+use Rattle.hy_bound.specs.declared.Ending.TheVariants.{RolledBack}
 use Rattle.hy_machine.specs.declared.Setting.{Setting}
 use Rattle.hy_protocol.specs.declared.Phase.{Phase}
 use Rattle.hy_protocol.specs.declared.Phase.TheVariants.{Working, Stamping, Undoing}
 use Rattle.hy_machine.specs.States.{State, Begun}
-use Rattle.hy_machine.specs.Writes.{Write, blank_own, with_write, with_writes, wrote_nothing, written_chunks}
+use Rattle.hy_machine.specs.Writes.{Write, blank_own, with_write, with_writes, written_chunks}
 use Rattle.hy_protocol.specs.Turns.{Turn, Done, Waits, Begins, Visits, Answers, Enters, Ends}
 use Rattle.hy_machine.specs.Tables.{Cell, Own, capacity}
-use Rattle.hy_machine.specs.Sessions.{blocker, view}
-use Rattle.hy_machine.specs.Validation.{committed_of, first_hit}
-use Rattle.hy_machine.specs.Visits.{swept, sees_key, free_position, checks_of}
-use Rattle.hy_protocol.specs.Turns.{unless_blocked}
-use Rattle.hy_machine.specs.Turns.{rows_seen, read_turn, write_turn, check_turn, place_turn, insert_turn, statement_turn}
-use Rattle.hy_protocol.specs.Closing.{validated_turn}
-use Rattle.hy_machine.specs.Turns.{undo_turn, stamp_turn, commit_turn, closing_turn, working_turn, phase_turn}
+use Rattle.hy_machine.specs.Sessions.{view}
+use Rattle.hy_machine.specs.Visits.{swept, checks_of}
+use Rattle.hy_machine.specs.Turns.{rows_seen}
+use Rattle.hy_machine.specs.Turns.{phase_turn}
 use Rattle.hy_machine.specs.Kept.{OwnFits, visits_in}
+use Rattle.hy_machine.specs.TurnCases.{ReadCases, WriteCases, StatementCases, UndoCases, statement_cases, undo_cases, stamp_cases, working_cases}
 
 -- ---- what a transaction writes has a cell for each position of each table
 
@@ -92,133 +88,68 @@ few_visits : (setting : Setting) (statements : List Bound) (begun : Begun) (stat
 few_visits setting statements begun statement visited e few other f =
     inr (subst (λ (one : Bound). visited < visits_in setting one) (same_Some statement other (sym e ∙ f)) few)
 
-read_stands : (setting : Setting) (statements : List Bound) (begun : Begun) (visited tables : ℕ) (statement : Bound)
-    (gathered : List (List (List Value))) (reply : Reply) → slice_get statements (length begun.replies) ≡ Some statement
-    → visits_in setting statement ≡ setting.chunks * tables
-    → TurnStands setting statements begun (read_turn setting begun visited tables statement gathered reply)
-read_stands setting statements begun visited tables statement gathered reply e many =
-    elim (cases_Bool (ltb (suc visited) (setting.chunks * tables))) [
-      | inl t ↦ rw t (few_visits setting statements begun statement (suc visited) e
-          (subst (λ (n : ℕ). suc visited < n) (sym many) (ltb-true (suc visited) (setting.chunks * tables) t)))
-      | inr f ↦ rw f tt
-    ]
+writes_stand : (setting : Setting) (statements : List Bound) (begun : Begun) (visited count : ℕ) (statement : Bound) (kind : WriteKind)
+    (result : Result (List Write) Ending) → slice_get statements (length begun.replies) ≡ Some statement → visits_in setting statement ≡ setting.chunks
+    → WriteCases setting begun (TurnStands setting statements begun) visited count statement kind result
+writes_stand setting statements begun visited count statement kind result e many = record {
+  out = λ cause is. omega arith;
+  goes = λ writes is few. few_visits setting statements (record begun { own = with_writes begun.own writes }) statement (suc visited) e
+      (subst (λ (n : ℕ). suc visited < n) (sym many) few);
+  ends = λ writes is. tt;
+}
 
-write_stands : (setting : Setting) (statements : List Bound) (begun : Begun) (visited count : ℕ) (statement : Bound) (kind : WriteKind)
-    → slice_get statements (length begun.replies) ≡ Some statement → visits_in setting statement ≡ setting.chunks
-    → (result : Result (List Write) Ending) → TurnStands setting statements begun (write_turn setting begun visited count statement kind result)
-write_stands setting statements begun visited count statement kind e many (Err cause) = omega arith
-write_stands setting statements begun visited count statement kind e many (Ok writes) =
-    elim (cases_Bool (ltb (suc visited) setting.chunks)) [
-      | inl t ↦ rw t (few_visits setting statements (record begun { own = with_writes begun.own writes }) statement (suc visited) e
-          (subst (λ (n : ℕ). suc visited < n) (sym many) (ltb-true (suc visited) setting.chunks t)))
-      | inr f ↦ rw f tt
-    ]
+reads_stand : (setting : Setting) (statements : List Bound) (begun : Begun) (visited tables : ℕ) (statement : Bound)
+    (gathered : List (List (List Value))) (reply : Reply) → slice_get statements (length begun.replies) ≡ Some statement → visits_in setting statement ≡ setting.chunks * tables
+    → ReadCases setting begun (TurnStands setting statements begun) visited tables statement gathered reply
+reads_stand setting statements begun visited tables statement gathered reply e many = record {
+  goes = λ few. few_visits setting statements begun statement (suc visited) e (subst (λ (n : ℕ). suc visited < n) (sym many) few);
+  ends = tt;
+}
 
 -- behind a check there are places to look at
 checks_left : (setting : Setting) (key : Option ℕ) (visited : ℕ) → visited < checks_of setting key → suc visited < checks_of setting key + setting.chunks
 checks_left setting None visited h = absurd (omega (arith, h))
 checks_left setting (Some column) visited h = omega (arith, h)
 
-check_stands : (setting : Setting) (statements : List Bound) (begun : Begun) (visited : ℕ) (statement : Bound) (found : Bool)
-    → slice_get statements (length begun.replies) ≡ Some statement → suc visited < visits_in setting statement
-    → TurnStands setting statements begun (check_turn setting begun visited statement found)
-check_stands setting statements begun visited statement true e few = tt
-check_stands setting statements begun visited statement false e few = few_visits setting statements begun statement (suc visited) e few
-
-place_stands : (setting : Setting) (statements : List Bound) (begun : Begun) (visited checks : ℕ) (statement : Bound) (table : ℕ) (row : List Value)
-    → slice_get statements (length begun.replies) ≡ Some statement → visits_in setting statement ≡ checks + setting.chunks → (pos : Option ℕ)
-    → TurnStands setting statements begun (place_turn setting begun visited (visited - checks) statement table row pos)
-place_stands setting statements begun visited checks statement table row e many (Some pos) = tt
-place_stands setting statements begun visited checks statement table row e many None =
-    elim (cases_Bool (ltb (suc (visited - checks)) setting.chunks)) [
-      | inl t ↦ rw t (few_visits setting statements begun statement (suc visited) e
-          (omega (arith, many, ltb-true (suc (visited - checks)) setting.chunks t)))
-      | inr f ↦ rw f (omega arith)
-    ]
-
-insert_stands : (setting : Setting) (state : State) (statements : List Bound) (begun : Begun) (visited : ℕ) (statement : Bound) (table : ℕ)
-    (row : List Value) (key : Option ℕ) → slice_get statements (length begun.replies) ≡ Some statement
-    → visits_in setting statement ≡ checks_of setting key + setting.chunks
-    → TurnStands setting statements begun (insert_turn setting state begun visited statement table row key)
-insert_stands setting state statements begun visited statement table row key e many = elim (cases_Bool (ltb visited (checks_of setting key))) [
-  | inl t ↦ rw t (check_stands setting statements begun visited statement (sees_key setting state begun table row key visited) e
-      (subst (λ (n : ℕ). suc visited < n) (sym many) (checks_left setting key visited (ltb-true visited (checks_of setting key) t))))
-  | inr f ↦ rw f (place_stands setting statements begun visited (checks_of setting key) statement table row e many
-      (free_position setting state begun table (visited - checks_of setting key)))
-]
-
 statement_stands : (setting : Setting) (state : State) (number : ℕ) (statements : List Bound) (begun : Begun) (visited count : ℕ) (statement : Bound)
     → slice_get statements (length begun.replies) ≡ Some statement
-    → TurnStands setting statements begun (statement_turn setting state number begun visited count statement)
+    → StatementCases setting state number begun (TurnStands setting statements begun) visited count statement
 statement_stands setting state number statements begun visited count (Select tables ons pred items) e =
-    read_stands setting statements begun visited (length tables) (Select tables ons pred items)
-    (map (rows_seen (view setting state begun)) tables) (answer_of ons pred items (map (rows_seen (view setting state begun)) tables)) e refl
+    reads_stand setting statements begun visited (length tables) (Select tables ons pred items) (map (rows_seen (view setting state begun)) tables)
+    (answer_of ons pred items (map (rows_seen (view setting state begun)) tables)) e refl
 statement_stands setting state number statements begun visited count (Group table pred key aggregate) e =
-    read_stands setting statements begun visited 1 (Group table pred key aggregate)
-    [] (grouped pred key aggregate (rows_seen (view setting state begun) table)) e (omega arith)
-statement_stands setting state number statements begun visited count (Insert table row) e =
-    insert_stands setting state statements begun visited (Insert table row) table row (shape_of setting.shapes table).key e refl
+    reads_stand setting statements begun visited 1 (Group table pred key aggregate) []
+    (grouped pred key aggregate (rows_seen (view setting state begun) table)) e (omega arith)
+statement_stands setting state number statements begun visited count (Insert table row) e = record {
+  checked = λ few. few_visits setting statements begun (Insert table row) (suc visited) e
+      (checks_left setting (shape_of setting.shapes table).key visited few);
+  twice = tt;
+  takes = λ pos is. tt;
+  goes = λ past is few. few_visits setting statements begun (Insert table row) (suc visited) e (omega (arith, past, few));
+  full = λ past is most. omega arith;
+}
 statement_stands setting state number statements begun visited count (Update table sets pred) e =
-    write_stands setting statements begun visited count (Update table sets pred) (kind.Set sets) e refl
-    (swept setting state number begun (kind.Set sets) pred table visited)
+    writes_stand setting statements begun visited count (Update table sets pred) (kind.Set sets)
+    (swept setting state number begun (kind.Set sets) pred table visited) e refl
 statement_stands setting state number statements begun visited count (Delete table pred) e =
-    write_stands setting statements begun visited count (Delete table pred) kind.Delete e refl
-    (swept setting state number begun kind.Delete pred table visited)
-
--- ---- what closes a transaction
-
-unless_stands : (setting : Setting) (statements : List Bound) (begun : Begun) (turn : Turn Write) (by : Option Label) → TurnStands setting statements begun turn
-    → TurnStands setting statements begun (unless_blocked by turn)
-unless_stands setting statements begun turn None h = h
-unless_stands setting statements begun turn (Some by) h = tt
+    writes_stand setting statements begun visited count (Delete table pred) kind.Delete
+    (swept setting state number begun kind.Delete pred table visited) e refl
 
 undo_stands : (setting : Setting) (state : State) (number : ℕ) (statements : List Bound) (begun : Begun) (visited : ℕ) (cause : Ending)
-    → TurnStands setting statements begun (undo_turn setting state number begun visited cause)
-undo_stands setting state number statements begun visited cause = elim (cases_Bool (ltb visited (length (written_chunks setting begun.own)))) [
-  | inl t ↦ rw t (let few : visited < length (written_chunks setting begun.own) = ltb-true visited (length (written_chunks setting begun.own)) t in
-      omega arith)
-  | inr f ↦ rw f (unless_stands setting statements begun (Ends cause) (blocker state number) tt)
-]
-
-stamp_stands : (setting : Setting) (state : State) (statements : List Bound) (begun : Begun) (visited : ℕ)
-    → TurnStands setting statements begun (stamp_turn setting state begun visited)
-stamp_stands setting state statements begun visited = elim (cases_Bool (ltb visited (length (written_chunks setting begun.own)))) [
-  | inl t ↦ rw t (let few : visited < length (written_chunks setting begun.own) = ltb-true visited (length (written_chunks setting begun.own)) t in
-      omega arith)
-  | inr f ↦ rw f tt
-]
-
-validated_stands : (setting : Setting) (statements : List Bound) (begun : Begun) (hit : Option Ending)
-    → TurnStands setting statements begun (validated_turn hit)
-validated_stands setting statements begun None = tt
-validated_stands setting statements begun (Some cause) = omega arith
-
-commit_stands : (setting : Setting) (state : State) (number : ℕ) (statements : List Bound) (begun : Begun)
-    → TurnStands setting statements begun (commit_turn setting state number begun)
-commit_stands setting state number statements begun = unless_stands setting statements begun
-    (cond (wrote_nothing begun.own) (Ends Read) (validated_turn (first_hit begun.records (map committed_of (drop begun.prefix state.order)))))
-    (blocker state number)
-    (elim (cases_Bool (wrote_nothing begun.own)) [
-      | inl t ↦ rw t tt
-      | inr f ↦ rw f (validated_stands setting statements begun (first_hit begun.records (map committed_of (drop begun.prefix state.order))))
-    ])
-
-closing_stands : (setting : Setting) (state : State) (number : ℕ) (statements : List Bound) (begun : Begun) (commits : Bool)
-    → TurnStands setting statements begun (closing_turn setting state number begun commits)
-closing_stands setting state number statements begun true = commit_stands setting state number statements begun
-closing_stands setting state number statements begun false = undo_stands setting state number statements begun 0 RolledBack
-
-working_stands : (setting : Setting) (state : State) (number : ℕ) (txn : Txn) (begun : Begun) (visited count : ℕ) (statement : Option Bound)
-    → slice_get txn.statements (length begun.replies) ≡ statement
-    → TurnStands setting txn.statements begun (working_turn setting state number txn begun visited count statement)
-working_stands setting state number txn begun visited count None e = closing_stands setting state number txn.statements begun txn.commits
-working_stands setting state number txn begun visited count (Some statement) e =
-    statement_stands setting state number txn.statements begun visited count statement e
+    → UndoCases setting state number begun (TurnStands setting statements begun) visited cause
+undo_stands setting state number statements begun visited cause = record { goes = λ few. omega (arith, few); waits = λ by is. tt; ends = λ free. tt }
 
 -- the turn of an open transaction
 pub phase_stands : (setting : Setting) (state : State) (number : ℕ) (txn : Txn) (begun : Begun) (phase : Phase)
     → TurnStands setting txn.statements begun (phase_turn setting state number txn begun phase)
 phase_stands setting state number txn begun (Working visited count) =
-    working_stands setting state number txn begun visited count (slice_get txn.statements (length begun.replies)) refl
-phase_stands setting state number txn begun (Stamping visited) = stamp_stands setting state txn.statements begun visited
-phase_stands setting state number txn begun (Undoing visited cause) = undo_stands setting state number txn.statements begun visited cause
+    working_cases setting state number begun (TurnStands setting txn.statements begun) txn visited count
+    (λ statement e. statement_cases setting state number begun (TurnStands setting txn.statements begun) visited count statement
+    (statement_stands setting state number txn.statements begun visited count statement e))
+    (λ none commits. record { waits = λ by is. tt; reads = λ free nothing. tt; enters = λ free some e. tt; out = λ some cause e. omega arith })
+    (λ none rolls. undo_stands setting state number txn.statements begun 0 RolledBack)
+phase_stands setting state number txn begun (Stamping visited) =
+    stamp_cases setting state number begun (TurnStands setting txn.statements begun) visited (λ few. omega (arith, few)) tt
+phase_stands setting state number txn begun (Undoing visited cause) =
+    undo_cases setting state number begun (TurnStands setting txn.statements begun) visited cause
+    (undo_stands setting state number txn.statements begun visited cause)

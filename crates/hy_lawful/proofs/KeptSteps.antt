@@ -4,27 +4,25 @@ use Rattle.std.proofs.Common.{◌≡◌, ℕ, ◌<◌, ◌≤◌, List, [], ◌�
 use Rattle.std.specs.Option.{option_map}
 use Rattle.std.specs.List.{AllByRecursion}
 use Rattle.std.proofs.lemmas.List.{length-append}
-use Rattle.hy_bound.specs.declared.Txn.{Txn}
 use Rattle.hy_bound.specs.declared.Bound.{Bound}
-use Rattle.hy_stamp.specs.declared.Label.{Label}
 use Rattle.hy_bound.specs.declared.Ending.{Ending}
 use Rattle.hy_machine.specs.Writes.{Write}
 use Rattle.hy_machine.specs.declared.Setting.{Setting}
 use Rattle.hy_protocol.specs.declared.Phase.TheVariants.{Working, Stamping}
 use Rattle.hy_machine.specs.States.{State, Session, Open, Finished}
 use Rattle.hy_machine.specs.Tables.{Entry}
-use Rattle.hy_protocol.specs.Turns.{Turn, Done, Waits, Begins, Visits, Answers, Enters, Ends, unless_blocked}
-use Rattle.hy_machine.specs.Turns.{session_turn, phase_turn}
-use Rattle.hy_machine.specs.Sessions.{session_at, txn_at, blocker}
+use Rattle.hy_protocol.specs.Turns.{Turn, Done, Waits, Begins, Visits, Answers, Enters, Ends}
+use Rattle.hy_machine.specs.Turns.{phase_turn}
+use Rattle.hy_machine.specs.Sessions.{session_at}
 use Rattle.hy_machine.specs.Outcomes.{statements_in}
-use Rattle.hy_machine.specs.Steps.{with_session, beginning, after_visit, after_answer, done_with, order_with, after_turn, step_of}
-use Rattle.hy_machine.specs.Runs.{opening_of, after_steps, IsReached}
+use Rattle.hy_machine.specs.Steps.{with_session, beginning, after_visit, after_answer, done_with, order_with, after_turn}
+use Rattle.hy_machine.specs.Runs.{IsReached}
 use Rattle.hy_machine.specs.Kept.{OwnFits}
 use Rattle.hy_lawful.specs.Reached.{statements_at}
-use Rattle.hy_lawful.proofs.Fits.{Fits}
 use Rattle.hy_lawful.proofs.Lists.{all_more}
 use Rattle.hy_lawful.proofs.Moves.{moved_to, sessions_moved}
-use Rattle.hy_lawful.proofs.Reached.{fresh_at, is_there, opening_fits, step_fits}
+use Rattle.hy_lawful.proofs.Reached.{fresh_at}
+use Rattle.hy_lawful.proofs.ReachedBy.{reached_by}
 use Rattle.hy_lawful.proofs.PassSteps.{least_below}
 use Rattle.hy_lawful.proofs.KeptStands.{PhaseStands, TurnStands, blank_has, writes_have, phase_stands}
 
@@ -124,42 +122,13 @@ begins setting state number all there =
       phase = λ statement e. inl refl;
     })
 
-begins_unless : (setting : Setting) (state : State) (number : ℕ) (by : Option Label) → AllStand setting state
-    → AllStand setting (after_turn setting state number Begins).0 → AllStand setting (after_turn setting state number (unless_blocked by Begins)).0
-begins_unless setting state number None all h = h
-begins_unless setting state number (Some by) all h = all
-
--- ---- steps
-
-session_stands : (setting : Setting) (state : State) (number : ℕ) (txn : Txn) → Fits setting state → AllStand setting state
-    → txn_at setting number (session_at state number) ≡ Some txn → (now : Option Open) → (session_at state number).now ≡ now
-    → AllStand setting (after_turn setting state number (session_turn setting state number (Some txn) now)).0
-session_stands setting state number txn fits all e None is =
-    begins_unless setting state number (blocker state number) all (begins setting state number all (is_there setting state number txn fits e))
-session_stands setting state number txn fits all e (Some current) is =
-    let statements : List Bound = statements_now setting state number in
-    let same : statements ≡ txn.statements = ap statements_in e in
-    turn_stands setting state number current all (is_there setting state number txn fits e) is
-    (subst (NowStands setting statements) is (all number).now) (phase_turn setting state number txn current.begun current.phase)
-    (subst (λ (of : List Bound). TurnStands setting of current.begun (phase_turn setting state number txn current.begun current.phase)) (sym same)
-    (phase_stands setting state number txn current.begun current.phase))
-
-by_txn : (setting : Setting) (state : State) (number : ℕ) → Fits setting state → AllStand setting state → (txn : Option Txn)
-    → txn_at setting number (session_at state number) ≡ txn
-    → AllStand setting (after_turn setting state number (session_turn setting state number txn (session_at state number).now)).0
-by_txn setting state number fits all None e = all
-by_txn setting state number fits all (Some txn) e = session_stands setting state number txn fits all e (session_at state number).now refl
-
-steps_stand : (setting : Setting) (state : State) (numbers : List ℕ) → Fits setting state → AllStand setting state
-    → AllStand setting (after_steps setting state numbers)
-steps_stand setting state [] fits all = all
-steps_stand setting state (number ∷ numbers) fits all =
-    steps_stand setting (step_of setting state number).0 numbers (step_fits setting state number fits)
-    (by_txn setting state number fits all (txn_at setting number (session_at state number)) refl)
-
-opening_stands : (setting : Setting) → AllStand setting (opening_of setting)
-opening_stands setting number = subst (SessionStands setting number) (sym (fresh_at setting number)) (record { done = tt; now = tt })
-
 pub reached_stands : (setting : Setting) (state : State) → IsReached setting state → AllStand setting state
-reached_stands setting state r =
-    subst (AllStand setting) (sym r.1) (steps_stand setting (opening_of setting) r.0 (opening_fits setting) (opening_stands setting))
+reached_stands setting = reached_by setting (AllStand setting) (record {
+  begins = λ state number txn all may. begins setting state number all may.there;
+  turns = λ state number txn current all takes.
+      let statements : List Bound = statements_now setting state number in
+      turn_stands setting state number current all takes.there takes.is (subst (NowStands setting statements) takes.is (all number).now)
+      (phase_turn setting state number txn current.begun current.phase)
+      (subst (λ (of : List Bound). TurnStands setting of current.begun (phase_turn setting state number txn current.begun current.phase))
+      (sym (ap statements_in takes.at)) (phase_stands setting state number txn current.begun current.phase));
+}) (λ number. subst (SessionStands setting number) (sym (fresh_at setting number)) (record { done = tt; now = tt }))

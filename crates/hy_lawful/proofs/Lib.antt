@@ -9,6 +9,7 @@ pub mod Tables
 pub mod Places
 pub mod Turns
 pub mod Reached
+pub mod ReachedBy
 pub mod Outcomes
 pub mod Over
 pub mod Endings

@@ -1,35 +1,33 @@
 -- In each state that the machine comes to, those that have committed were passed unseen.
 use Rattle.std.proofs.Common.{◌≡◌, ℕ, zero, suc, ◌-◌, ◌<◌, ◌≤◌, List, [], ◌∷◌, ◌++◌, Option, None, Some, true, false, is_some, length, map, drop}
 use Rattle.std.proofs.Common.{get_or, replicate, refl, ap, sym, ◌∙◌, subst, arith}
-use Rattle.std.proofs.Math.ListN.{get_or-map}
 use Rattle.std.specs.Option.{option_map}
 use Rattle.std.proofs.lemmas.Bool.{and_parts}
 use Rattle.std.proofs.lemmas.List.{length-append}
 use Rattle.std.proofs.lemmas.Option.{IfSome_then}
 use Rattle.hy_value.specs.declared.Value.{Value}
-use Rattle.hy_bound.specs.declared.Txn.{Txn}
-use Rattle.hy_stamp.specs.declared.Label.{Label}
 use Rattle.hy_bound.specs.declared.Ending.{Ending}
 use Rattle.hy_machine.specs.declared.Setting.{Setting}
 use Rattle.hy_protocol.specs.declared.Phase.TheVariants.{Working, Stamping}
 use Rattle.hy_machine.specs.States.{State, Session, Open, Finished}
 use Rattle.hy_machine.specs.Tables.{Entry, Cell, capacity, chunk_of}
-use Rattle.hy_protocol.specs.Turns.{Turn, Done, Waits, Begins, Visits, Answers, Enters, Ends, unless_blocked}
-use Rattle.hy_machine.specs.Turns.{session_turn, phase_turn}
+use Rattle.hy_protocol.specs.Turns.{Turn, Done, Waits, Begins, Visits, Answers, Enters, Ends}
+use Rattle.hy_machine.specs.Turns.{phase_turn}
 use Rattle.hy_machine.specs.Positions.{item_at}
 use Rattle.hy_machine.specs.Writes.{Write, blank_own, written_chunks, is_among}
-use Rattle.hy_machine.specs.Sessions.{fresh, session_at, txn_at, blocker, least_with, least_prefix, entry_of}
+use Rattle.hy_machine.specs.Sessions.{session_at, least_with, least_prefix, entry_of}
 use Rattle.hy_machine.specs.Holding.{holds}
 use Rattle.hy_machine.specs.Validation.{committed_of, first_hit}
-use Rattle.hy_machine.specs.Steps.{with_session, beginning, after_visit, after_answer, done_with, order_with, after_turn, step_of}
-use Rattle.hy_machine.specs.Runs.{opening_of, after_steps, IsReached}
+use Rattle.hy_machine.specs.Steps.{with_session, beginning, after_visit, after_answer, done_with, order_with, after_turn}
+use Rattle.hy_machine.specs.Runs.{opening_of, IsReached}
 use Rattle.hy_lawful.specs.Outcomes.{committed_at}
 use Rattle.hy_lawful.specs.Reached.{ReachedPassUnseen}
 use Rattle.hy_lawful.proofs.Lists.{all_more, one_of}
-use Rattle.hy_lawful.proofs.Fits.{PhaseFits, OpenFits, NowFits, NowStamps, Fits}
+use Rattle.hy_lawful.proofs.Fits.{PhaseFits, OpenFits, NowFits, Fits}
 use Rattle.hy_lawful.proofs.Moves.{moved_to}
-use Rattle.hy_lawful.proofs.Turns.{FitsTurn, phase_fits}
-use Rattle.hy_lawful.proofs.Reached.{is_there, reached_fits}
+use Rattle.hy_lawful.proofs.Turns.{FitsTurn}
+use Rattle.hy_lawful.proofs.Reached.{fresh_at}
+use Rattle.hy_lawful.proofs.ReachedBy.{reached_by}
 use Rattle.hy_lawful.proofs.PassTables.{pair_at}
 use Rattle.hy_lawful.proofs.PassStates.{BornEmpty, born_grows}
 use Rattle.hy_lawful.proofs.PassStates.{Passed, EndPasses, OpenPasses, NowPasses, SessionPasses, Passes, passes_moved, done_grows, session_grows, NowSpared}
@@ -213,70 +211,7 @@ turn_passes setting state number current o (Ends ending) f h =
     (moved_to state state.order None number (record { done = done_with ending (session_at state number).done now; now = None })))
     (sym o.is) (ends setting state number current ending o h.0 h.1)
 
--- ---- steps
-
-begins_unless : (setting : Setting) (state : State) (number : ℕ) (by : Option Label) → Passes setting state
-    → Passes setting (after_turn setting state number Begins).0 → Passes setting (after_turn setting state number (unless_blocked by Begins)).0
-begins_unless setting state number None passes h = h
-begins_unless setting state number (Some by) passes h = passes
-
-session_passes : (setting : Setting) (state : State) (number : ℕ) (txn : Txn) → Fits setting state → Passes setting state
-    → txn_at setting number (session_at state number) ≡ Some txn → (now : Option Open) → (session_at state number).now ≡ now
-    → Passes setting (after_turn setting state number (session_turn setting state number (Some txn) now)).0
-session_passes setting state number txn fits passes e None is =
-    begins_unless setting state number (blocker state number) passes
-    (begins setting state number passes (is_there setting state number txn fits e) is)
-session_passes setting state number txn fits passes e (Some current) is =
-    let present : OpenFits setting state.order state.mark number (session_at state number).done current =
-    subst (NowFits setting state.order state.mark number (session_at state number).done) is (fits.sessions number).now in
-    let passing : OpenPasses setting state.order current = subst (NowPasses setting state.order) is (passes.sessions number).now in
-    turn_passes setting state number current
-    (record {
-      fits = fits;
-      passes = passes;
-      there = is_there setting state number txn fits e;
-      is = is;
-      low = passing.low;
-      born = passing.born;
-    })
-    (phase_turn setting state number txn current.begun current.phase)
-    (phase_fits setting state fits number txn current.begun e present.above present.records current.phase present.phase
-    (λ m. subst NowStamps is (fits.marked number m)))
-    (phase_passes setting state fits passes number txn current.begun present.own current.phase passing
-    (λ other table pos apart h. passes.alone number other table pos apart (ap (holds setting table pos) is ∙ h))
-    (subst (NowNames state) is (passes.names number).now))
-
-by_txn : (setting : Setting) (state : State) (number : ℕ) → Fits setting state → Passes setting state → (txn : Option Txn)
-    → txn_at setting number (session_at state number) ≡ txn
-    → Passes setting (after_turn setting state number (session_turn setting state number txn (session_at state number).now)).0
-by_txn setting state number fits passes None e = passes
-by_txn setting state number fits passes (Some txn) e = session_passes setting state number txn fits passes e (session_at state number).now refl
-
-step_passes : (setting : Setting) (state : State) (number : ℕ) → Fits setting state → Passes setting state → Passes setting (step_of setting state number).0
-step_passes setting state number fits passes = by_txn setting state number fits passes (txn_at setting number (session_at state number)) refl
-
-steps_more : (setting : Setting) (state : State) (numbers : List ℕ) (number : ℕ)
-    → after_steps setting state (numbers ++ number ∷ []) ≡ (step_of setting (after_steps setting state numbers) number).0
-steps_more setting state [] number = refl
-steps_more setting state (one ∷ numbers) number = steps_more setting (step_of setting state one).0 numbers number
-
-pub reached_step : (setting : Setting) (state : State) (number : ℕ) → IsReached setting state → IsReached setting (step_of setting state number).0
-reached_step setting state number r = (
-  r.0 ++ number ∷ [],
-  ap (λ (one : State). (step_of setting one number).0) r.1 ∙ sym (steps_more setting (opening_of setting) r.0 number),
-)
-
-steps_pass : (setting : Setting) (state : State) (numbers : List ℕ) → IsReached setting state → Passes setting state
-    → Passes setting (after_steps setting state numbers)
-steps_pass setting state [] r passes = passes
-steps_pass setting state (number ∷ numbers) r passes =
-    steps_pass setting (step_of setting state number).0 numbers (reached_step setting state number r)
-    (step_passes setting state number (reached_fits setting state r) passes)
-
 -- ---- the opening
-
-fresh_at : (setting : Setting) (number : ℕ) → session_at (opening_of setting) number ≡ fresh
-fresh_at setting number = get_or-map (λ (txns : List Txn). fresh) setting.programs number []
 
 opening_passes : (setting : Setting) → Passes setting (opening_of setting)
 opening_passes setting = record {
@@ -288,9 +223,20 @@ opening_passes setting = record {
   names = λ number. subst (SessionNames (opening_of setting)) (sym (fresh_at setting number)) (record { done = tt; now = tt });
 }
 
+-- ---- steps
+
 pub reached_passes : (setting : Setting) (state : State) → IsReached setting state → Passes setting state
-reached_passes setting state r =
-    subst (Passes setting) (sym r.1) (steps_pass setting (opening_of setting) r.0 ([], refl) (opening_passes setting))
+reached_passes setting = reached_by setting (Passes setting) (record {
+  begins = λ state number txn passes may. begins setting state number passes may.there may.rests;
+  turns = λ state number txn current passes takes.
+      let passing : OpenPasses setting state.order current = subst (NowPasses setting state.order) takes.is (passes.sessions number).now in
+      turn_passes setting state number current
+      (record { fits = takes.fits; passes = passes; there = takes.there; is = takes.is; low = passing.low; born = passing.born })
+      (phase_turn setting state number txn current.begun current.phase) takes.turn
+      (phase_passes setting state takes.fits passes number txn current.begun takes.present.own current.phase passing
+      (λ other table pos apart h. passes.alone number other table pos apart (ap (holds setting table pos) takes.is ∙ h))
+      (subst (NowNames state) takes.is (passes.names number).now));
+}) (opening_passes setting)
 
 pub reached_pass : ReachedPassUnseen
 reached_pass setting state r number before finished e =

@@ -1,37 +1,30 @@
 -- What a session's turn makes of its open transaction passes.
-use Rattle.std.proofs.Common.{◌≡◌, ℕ, suc, ◌+◌, ◌-◌, ◌*◌, ◌≤◌, List, [], Option, None, Some, Bool, true, false, is_some, Result, Ok, Err, length}
-use Rattle.std.proofs.Common.{map, drop, cond, ltb, refl, ap, sym, ◌∙◌, subst, arith, inl, inr}
+use Rattle.std.proofs.Common.{◌≡◌, ℕ, suc, ◌+◌, ◌-◌, ◌≤◌, List, Option, None, Some, true, is_some, length}
+use Rattle.std.proofs.Common.{map, drop, refl, ap, sym, ◌∙◌, subst, arith}
 use Rattle.std.specs.Prelude.{IfSome, slice_get}
-use Rattle.std.proofs.lemmas.Bool.{cases_Bool, and_parts, and_from}
-use Rattle.hy_value.specs.declared.Value.{Value}
+use Rattle.std.proofs.lemmas.Bool.{and_parts, and_from}
 use Rattle.hy_bound.specs.declared.Txn.{Txn}
 use Rattle.hy_bound.specs.declared.Bound.{Bound}
 use Rattle.hy_bound.specs.declared.Bound.TheVariants.{Select, Group, Insert, Update, Delete}
-use Rattle.hy_bound.specs.declared.Reply.{Reply}
 use Rattle.hy_bound.specs.declared.WriteKind.{WriteKind}
 use Rattle.hy_bound.specs.declared.WriteKind.TheVariants as kind
 use Rattle.hy_bound.specs.Condition.{Condition}
 use Rattle.hy_bound.specs.Records.{shape_of}
-use Rattle.hy_meaning.specs.Statement.{answer_of, grouped}
 use Rattle.hy_stamp.specs.declared.Label.{Label}
 use Rattle.hy_bound.specs.declared.Ending.{Ending}
-use Rattle.hy_bound.specs.declared.Ending.TheVariants.{Read, RolledBack}
 use Rattle.hy_machine.specs.declared.Setting.{Setting}
 use Rattle.hy_protocol.specs.declared.Phase.{Phase}
 use Rattle.hy_protocol.specs.declared.Phase.TheVariants.{Working, Stamping, Undoing}
 use Rattle.hy_machine.specs.States.{State, Open, Begun}
 use Rattle.hy_machine.specs.Tables.{Entry, Cell, Own, positions_in, chunk_of}
-use Rattle.hy_machine.specs.Writes.{Write, with_writes, wrote_nothing, written_chunks, is_among}
+use Rattle.hy_machine.specs.Writes.{Write, with_writes, written_chunks, is_among}
 use Rattle.hy_protocol.specs.Turns.{Turn, Done, Waits, Begins, Visits, Answers, Enters, Ends}
 use Rattle.hy_machine.specs.Positions.{item_at}
-use Rattle.hy_machine.specs.Sessions.{blocker, view}
+use Rattle.hy_machine.specs.Sessions.{view}
 use Rattle.hy_machine.specs.Holding.{undone, holds, is_free, opponent}
 use Rattle.hy_machine.specs.Validation.{committed_of, first_hit}
-use Rattle.hy_machine.specs.Visits.{verdict_at, swept, sees_key, free_position, checks_of}
-use Rattle.hy_protocol.specs.Turns.{unless_blocked}
-use Rattle.hy_machine.specs.Turns.{rows_seen, read_turn, write_turn, check_turn, place_turn, insert_turn, statement_turn}
-use Rattle.hy_protocol.specs.Closing.{validated_turn}
-use Rattle.hy_machine.specs.Turns.{undo_turn, stamp_turn, commit_turn, closing_turn, working_turn, phase_turn}
+use Rattle.hy_machine.specs.Visits.{verdict_at, swept, checks_of}
+use Rattle.hy_machine.specs.Turns.{undo_turn, stamp_turn, working_turn, phase_turn}
 use Rattle.hy_machine.specs.Steps.{after_visit, after_answer}
 use Rattle.hy_lawful.specs.Outcomes.{committed_at}
 use Rattle.hy_lawful.proofs.Fits.{FitsTables, Fits}
@@ -42,6 +35,7 @@ use Rattle.hy_lawful.proofs.PassTables.{cell_at}
 use Rattle.hy_lawful.proofs.PassStates.{BornEmpty, OwnClear, Passed, IsRefusal, EndPasses, PhasePasses, HeldClear, OpenPasses, HoldsAlone, Passes}
 use Rattle.hy_lawful.proofs.PassWritten.{Names, PhaseNames}
 use Rattle.hy_lawful.proofs.PassRivals.{opponent_wrote}
+use Rattle.hy_machine.specs.TurnCases.{WriteCases, StatementCases, CommitCases, statement_cases, undo_cases, stamp_cases, working_cases}
 use Rattle.hy_lawful.proofs.PassMays.{OwnMay, AllMay, MayWrite, IsAtWork, no_opponent, swept_may, found_is, free_may}
 
 -- an open transaction goes on as this one
@@ -85,14 +79,6 @@ WorkTurn setting state number begun (Ends ending) = Refused state begun ending
 
 -- ---- statements
 
-read_writes : (setting : Setting) (state : State) (number : ℕ) (begun : Begun) (visited tables : ℕ) (statement : Bound)
-    (gathered : List (List (List Value))) (reply : Reply)
-    → WorkTurn setting state number begun (read_turn setting begun visited tables statement gathered reply)
-read_writes setting state number begun visited tables statement gathered reply = elim (cases_Bool (ltb (suc visited) (setting.chunks * tables))) [
-  | inl t ↦ rw t (tt, tt)
-  | inr f ↦ rw f tt
-]
-
 -- where somebody is in the way nothing is written
 not_own : (setting : Setting) (state : State) (number : ℕ) (begun : Begun) (table pos : ℕ) (other : Label) → IsAtWork setting state number begun
     → opponent setting state number begun.prefix table pos ≡ Some other → (own : Option Cell) → item_at begun.own table pos ≡ own → own ≡ None
@@ -100,84 +86,47 @@ not_own setting state number begun table pos other w o None e = refl
 not_own setting state number begun table pos other w o (Some cell) e =
     absurd (let never : None ≡ Some other = sym (no_opponent setting state number begun table pos (w.may table pos (ap is_some e))) ∙ o in cc)
 
-write_writes : (setting : Setting) (state : State) (number : ℕ) (begun : Begun) (visited count : ℕ) (statement : Bound) (kind : WriteKind) (pred : Condition)
+sweep_writes : (setting : Setting) (state : State) (number : ℕ) (begun : Begun) (visited count : ℕ) (statement : Bound) (kind : WriteKind) (pred : Condition)
     (table : ℕ) → IsAtWork setting state number begun
-    → (result : Result (List Write) Ending) → swept setting state number begun kind pred table visited ≡ result
-    → WorkTurn setting state number begun (write_turn setting begun visited count statement kind result)
-write_writes setting state number begun visited count statement kind pred table w (Err cause) e = (
-  tt,
-  sweep_refuses (λ (one : Ending). Refused state begun one) table (verdict_at setting state number begun kind pred table)
-      (positions_in setting visited) cause
-      (λ pos one v. verdict_fails (λ (one : Ending). Refused state begun one) kind pred table pos
-      (opponent setting state number begun.prefix table pos) (item_at (view setting state begun) table pos) one
-      (λ row other here t o. (
-        refl,
-        not_own setting state number begun table pos other w o (item_at begun.own table pos) refl,
-        opponent_wrote setting state w.fits w.passes number begun.prefix table pos other o,
-      ))
-      (λ row here t n. (refl, tt, tt)) v)
-      e,
-)
-write_writes setting state number begun visited count statement kind pred table w (Ok writes) e =
-    elim (cases_Bool (ltb (suc visited) setting.chunks)) [
-      | inl t ↦ rw t (swept_may setting state number begun kind pred table visited writes w e, tt)
-      | inr f ↦ rw f (swept_may setting state number begun kind pred table visited writes w e)
-    ]
-
-check_writes : (setting : Setting) (state : State) (number : ℕ) (begun : Begun) (visited : ℕ) (statement : Bound) (found : Bool)
-    → WorkTurn setting state number begun (check_turn setting begun visited statement found)
-check_writes setting state number begun visited statement true = tt
-check_writes setting state number begun visited statement false = (tt, tt)
-
-place_writes : (setting : Setting) (state : State) (number : ℕ) (begun : Begun) (visited chunk : ℕ) (statement : Bound) (table : ℕ) (row : List Value)
-    → IsAtWork setting state number begun → (pos : Option ℕ) → free_position setting state begun table chunk ≡ pos
-    → WorkTurn setting state number begun (place_turn setting begun visited chunk statement table row pos)
-place_writes setting state number begun visited chunk statement table row w (Some pos) e =
-    (free_may setting state number begun table pos w.low (found_is (is_free setting state begun table) (positions_in setting chunk) pos e), tt)
-place_writes setting state number begun visited chunk statement table row w None e = elim (cases_Bool (ltb (suc chunk) setting.chunks)) [
-  | inl t ↦ rw t (tt, tt)
-  | inr f ↦ rw f (tt, (refl, tt, tt))
-]
-
-insert_writes : (setting : Setting) (state : State) (number : ℕ) (begun : Begun) (visited : ℕ) (statement : Bound) (table : ℕ) (row : List Value)
-    (key : Option ℕ) → IsAtWork setting state number begun
-    → WorkTurn setting state number begun (insert_turn setting state begun visited statement table row key)
-insert_writes setting state number begun visited statement table row key w = elim (cases_Bool (ltb visited (checks_of setting key))) [
-  | inl t ↦ rw t (check_writes setting state number begun visited statement (sees_key setting state begun table row key visited))
-  | inr f ↦ rw f (place_writes setting state number begun visited (visited - checks_of setting key) statement table row w
-      (free_position setting state begun table (visited - checks_of setting key)) refl)
-]
+    → WriteCases setting begun (WorkTurn setting state number begun) visited count statement kind (swept setting state number begun kind pred table visited)
+sweep_writes setting state number begun visited count statement kind pred table w = record {
+  out = λ cause e. (
+    tt,
+    sweep_refuses (λ (one : Ending). Refused state begun one) table (verdict_at setting state number begun kind pred table)
+        (positions_in setting visited) cause
+        (λ pos one v. verdict_fails (λ (one : Ending). Refused state begun one) kind pred table pos
+        (opponent setting state number begun.prefix table pos) (item_at (view setting state begun) table pos) one
+        (λ row other here t o. (
+          refl,
+          not_own setting state number begun table pos other w o (item_at begun.own table pos) refl,
+          opponent_wrote setting state w.fits w.passes number begun.prefix table pos other o,
+        ))
+        (λ row here t n. (refl, tt, tt)) v)
+        e,
+  );
+  goes = λ writes e few. (swept_may setting state number begun kind pred table visited writes w e, tt);
+  ends = λ writes e. swept_may setting state number begun kind pred table visited writes w e;
+}
 
 statement_writes : (setting : Setting) (state : State) (number : ℕ) (begun : Begun) (visited count : ℕ) (statement : Bound)
-    → IsAtWork setting state number begun → WorkTurn setting state number begun (statement_turn setting state number begun visited count statement)
-statement_writes setting state number begun visited count (Select tables ons pred items) w =
-    read_writes setting state number begun visited (length tables) (Select tables ons pred items)
-    (map (rows_seen (view setting state begun)) tables) (answer_of ons pred items (map (rows_seen (view setting state begun)) tables))
-statement_writes setting state number begun visited count (Group table pred key aggregate) w =
-    read_writes setting state number begun visited 1 (Group table pred key aggregate)
-    [] (grouped pred key aggregate (rows_seen (view setting state begun) table))
+    → IsAtWork setting state number begun → StatementCases setting state number begun (WorkTurn setting state number begun) visited count statement
+statement_writes setting state number begun visited count (Select tables ons pred items) w = record { goes = λ few. (tt, tt); ends = tt }
+statement_writes setting state number begun visited count (Group table pred key aggregate) w = record { goes = λ few. (tt, tt); ends = tt }
 statement_writes setting state number begun visited count (Insert table row) w =
-    insert_writes setting state number begun visited (Insert table row) table row (shape_of setting.shapes table).key w
+    let chunk : ℕ = visited - checks_of setting (shape_of setting.shapes table).key in record {
+      checked = λ few. (tt, tt);
+      twice = tt;
+      takes = λ pos e.
+          (free_may setting state number begun table pos w.low (found_is (is_free setting state begun table) (positions_in setting chunk) pos e), tt);
+      goes = λ past e few. (tt, tt);
+      full = λ past e most. (tt, (refl, tt, tt));
+    }
 statement_writes setting state number begun visited count (Update table sets pred) w =
-    write_writes setting state number begun visited count (Update table sets pred) (kind.Set sets) pred table w
-    (swept setting state number begun (kind.Set sets) pred table visited) refl
+    sweep_writes setting state number begun visited count (Update table sets pred) (kind.Set sets) pred table w
 statement_writes setting state number begun visited count (Delete table pred) w =
-    write_writes setting state number begun visited count (Delete table pred) kind.Delete pred table w
-    (swept setting state number begun kind.Delete pred table visited) refl
+    sweep_writes setting state number begun visited count (Delete table pred) kind.Delete pred table w
 
 -- ---- what closes a transaction
-
-unless_writes : (setting : Setting) (state : State) (number : ℕ) (begun : Begun) (turn : Turn Write) (by : Option Label)
-    → WorkTurn setting state number begun turn → WorkTurn setting state number begun (unless_blocked by turn)
-unless_writes setting state number begun turn None h = h
-unless_writes setting state number begun turn (Some by) h = tt
-
-undo_writes : (setting : Setting) (state : State) (number : ℕ) (begun : Begun) (visited : ℕ) (cause : Ending)
-    → Refused state begun cause → WorkTurn setting state number begun (undo_turn setting state number begun visited cause)
-undo_writes setting state number begun visited cause h = elim (cases_Bool (ltb visited (length (written_chunks setting begun.own)))) [
-  | inl t ↦ rw t (tt, h)
-  | inr f ↦ rw f (unless_writes setting state number begun (Ends cause) (blocker state number) h)
-]
 
 -- what validation refuses names its hit
 hit_names : (order : List Entry) (begun : Begun) → OwnClear order begun → (cause : Ending)
@@ -192,41 +141,32 @@ hit_names order begun clear cause e =
       clear = λ of there own before from to. clear of there own before from;
     }) e e
 
-validated_writes : (setting : Setting) (state : State) (number : ℕ) (begun : Begun) → OwnClear state.order begun → (hit : Option Ending)
-    → first_hit begun.records (map committed_of (drop begun.prefix state.order)) ≡ hit
-    → WorkTurn setting state number begun (validated_turn hit)
-validated_writes setting state number begun clear None e = e
-validated_writes setting state number begun clear (Some cause) e = (
-  tt,
-  (
-    is_invalid (λ (one : Ending). committed_at one ≡ None) begun.records (drop begun.prefix state.order) cause
-        (λ table pos label statement. refl) e,
-    hit_names state.order begun clear cause e,
-    is_invalid (λ (one : Ending). Names state one) begun.records (drop begun.prefix state.order) cause
-        (λ table pos label statement. tt) e,
-  ),
-)
-
 commit_writes : (setting : Setting) (state : State) (number : ℕ) (begun : Begun) → OwnClear state.order begun
-    → WorkTurn setting state number begun (commit_turn setting state number begun)
-commit_writes setting state number begun clear = unless_writes setting state number begun
-    (cond (wrote_nothing begun.own) (Ends Read) (validated_turn (first_hit begun.records (map committed_of (drop begun.prefix state.order)))))
-    (blocker state number)
-    (elim (cases_Bool (wrote_nothing begun.own)) [
-      | inl t ↦ rw t (refl, tt, tt)
-      | inr f ↦ rw f (validated_writes setting state number begun clear (first_hit begun.records (map committed_of (drop begun.prefix state.order))) refl)
-    ])
-
-closing_writes : (setting : Setting) (state : State) (number : ℕ) (begun : Begun) → OwnClear state.order begun → (commits : Bool)
-    → WorkTurn setting state number begun (closing_turn setting state number begun commits)
-closing_writes setting state number begun clear true = commit_writes setting state number begun clear
-closing_writes setting state number begun clear false = undo_writes setting state number begun 0 RolledBack (refl, tt, tt)
+    → CommitCases state number begun (WorkTurn setting state number begun)
+commit_writes setting state number begun clear = record {
+  waits = λ by is. tt;
+  reads = λ free nothing. (refl, tt, tt);
+  enters = λ free some e. e;
+  out = λ some cause e. (
+    tt,
+    (
+      is_invalid (λ (one : Ending). committed_at one ≡ None) begun.records (drop begun.prefix state.order) cause
+          (λ table pos label statement. refl) e,
+      hit_names state.order begun clear cause e,
+      is_invalid (λ (one : Ending). Names state one) begun.records (drop begun.prefix state.order) cause
+          (λ table pos label statement. tt) e,
+    ),
+  );
+}
 
 working_writes : (setting : Setting) (state : State) (number : ℕ) (txn : Txn) (begun : Begun) (visited count : ℕ) → IsAtWork setting state number begun
-    → (statement : Option Bound) → WorkTurn setting state number begun (working_turn setting state number txn begun visited count statement)
-working_writes setting state number txn begun visited count w None =
-    closing_writes setting state number begun (λ table pos own. (w.may table pos own).clear) txn.commits
-working_writes setting state number txn begun visited count w (Some statement) = statement_writes setting state number begun visited count statement w
+    → WorkTurn setting state number begun (working_turn setting state number txn begun visited count (slice_get txn.statements (length begun.replies)))
+working_writes setting state number txn begun visited count w =
+    working_cases setting state number begun (WorkTurn setting state number begun) txn visited count
+    (λ statement here. statement_cases setting state number begun (WorkTurn setting state number begun) visited count statement
+    (statement_writes setting state number begun visited count statement w))
+    (λ none commits. commit_writes setting state number begun (λ table pos own. (w.may table pos own).clear))
+    (λ none rolls. record { goes = λ few. (tt, (refl, tt, tt)); waits = λ by is. tt; ends = λ free. (refl, tt, tt) })
 
 -- ---- what the open transaction is then
 
@@ -280,11 +220,6 @@ writes_pass setting state number current w Enters h = (w.may, h)
 writes_pass setting state number current w (Ends ending) h =
     ((subst (λ (rank : Option ℕ). IfSome rank (Passed setting state.order current.begun)) (sym h.0) tt, h.1), h.2)
 
-unless_passes : (setting : Setting) (state : State) (number : ℕ) (current : Open) (turn : Turn Write) (by : Option Label)
-    → PassesTurn setting state number current turn → PassesTurn setting state number current (unless_blocked by turn)
-unless_passes setting state number current turn None h = h
-unless_passes setting state number current turn (Some by) h = tt
-
 -- a chunk less is held
 holds_less : (setting : Setting) (begun : Begun) (visited : ℕ) (cause : Ending) (table pos : ℕ)
     → holds setting table pos (Some (record { begun = begun; phase = Undoing (suc visited) cause })) ≡ true
@@ -299,25 +234,24 @@ undo_passes : (setting : Setting) (state : State) (number : ℕ) (begun : Begun)
     → BornEmpty setting state.order begun → PhasePasses setting state.order begun (Undoing visited cause) → Names state cause
     → HoldsAlone setting state number (Some (record { begun = begun; phase = Undoing visited cause }))
     → PassesTurn setting state number (record { begun = begun; phase = Undoing visited cause }) (undo_turn setting state number begun visited cause)
-undo_passes setting state number begun visited cause low born h named alone = elim (cases_Bool (ltb visited (length (written_chunks setting begun.own)))) [
-  | inl t ↦ rw t (
-    record { low = low; born = born; phase = (λ table pos held. h.0 table pos (holds_less setting begun visited cause table pos held), h.1, h.2) },
-    λ other table pos apart held. alone other table pos apart (holds_less setting begun visited cause table pos held),
-    named,
-  )
-  | inr f ↦ rw f (unless_passes setting state number (record { begun = begun; phase = Undoing visited cause }) (Ends cause)
-      (blocker state number)
-      ((subst (λ (rank : Option ℕ). IfSome rank (Passed setting state.order begun)) (sym h.1) tt, h.2), named))
-]
+undo_passes setting state number begun visited cause low born h named alone =
+    undo_cases setting state number begun (PassesTurn setting state number (record { begun = begun; phase = Undoing visited cause })) visited cause (record {
+      goes = λ few. (
+        record { low = low; born = born; phase = (λ table pos held. h.0 table pos (holds_less setting begun visited cause table pos held), h.1, h.2) },
+        λ other table pos apart held. alone other table pos apart (holds_less setting begun visited cause table pos held),
+        named,
+      );
+      waits = λ by is. tt;
+      ends = λ free. ((subst (λ (rank : Option ℕ). IfSome rank (Passed setting state.order begun)) (sym h.1) tt, h.2), named);
+    })
 
 stamp_passes : (setting : Setting) (state : State) (number : ℕ) (begun : Begun) (visited : ℕ) → begun.low ≤ begun.prefix
     → BornEmpty setting state.order begun → Passed setting state.order begun (length state.order - 1)
     → HoldsAlone setting state number (Some (record { begun = begun; phase = Stamping visited }))
     → PassesTurn setting state number (record { begun = begun; phase = Stamping visited }) (stamp_turn setting state begun visited)
-stamp_passes setting state number begun visited low born passed alone = elim (cases_Bool (ltb visited (length (written_chunks setting begun.own)))) [
-  | inl t ↦ rw t (record { low = low; born = born; phase = passed }, alone, tt)
-  | inr f ↦ rw f ((passed, tt), tt)
-]
+stamp_passes setting state number begun visited low born passed alone =
+    stamp_cases setting state number begun (PassesTurn setting state number (record { begun = begun; phase = Stamping visited })) visited
+    (λ few. (record { low = low; born = born; phase = passed }, alone, tt)) ((passed, tt), tt)
 
 -- the turn of an open transaction
 pub phase_passes : (setting : Setting) (state : State) → Fits setting state → Passes setting state → (number : ℕ) (txn : Txn) (begun : Begun)
@@ -343,7 +277,7 @@ phase_passes setting state fits passes number txn begun own (Working visited cou
     } in
     writes_pass setting state number (record { begun = begun; phase = Working visited count }) works
     (working_turn setting state number txn begun visited count (slice_get txn.statements (length begun.replies)))
-    (working_writes setting state number txn begun visited count works (slice_get txn.statements (length begun.replies)))
+    (working_writes setting state number txn begun visited count works)
 phase_passes setting state fits passes number txn begun own (Stamping visited) present alone named =
     stamp_passes setting state number begun visited present.low present.born present.phase alone
 phase_passes setting state fits passes number txn begun own (Undoing visited cause) present alone named =

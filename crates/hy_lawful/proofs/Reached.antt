@@ -194,7 +194,7 @@ by_txn setting state number fits (Some txn) e = session_fits setting state numbe
 pub step_fits : (setting : Setting) (state : State) (number : ℕ) → Fits setting state → Fits setting (step_of setting state number).0
 step_fits setting state number fits = by_txn setting state number fits (txn_at setting number (session_at state number)) refl
 
-steps_fit : (setting : Setting) (state : State) (numbers : List ℕ) → Fits setting state → Fits setting (after_steps setting state numbers)
+pub steps_fit : (setting : Setting) (state : State) (numbers : List ℕ) → Fits setting state → Fits setting (after_steps setting state numbers)
 steps_fit setting state [] fits = fits
 steps_fit setting state (number ∷ numbers) fits = steps_fit setting (step_of setting state number).0 numbers (step_fits setting state number fits)
 

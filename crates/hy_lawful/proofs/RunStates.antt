@@ -1,13 +1,10 @@
 -- In each state that the machine comes to the transactions have run: what holds of the opening and stays true along steps.
 use Rattle.std.proofs.Common.{◌≡◌, ℕ, zero, suc, ◌<◌, ◌≤◌, List, [], ◌∷◌, ◌++◌, Option, None, Some, length, take, refl, ap, sym, subst, arith}
 use Rattle.std.proofs.Common.{inl, inr, ◌⊎◌}
-use Rattle.std.proofs.Math.Nat.{min-le_right}
 use Rattle.std.specs.Prelude.{slice_get, IfSome}
 use Rattle.std.specs.Option.{option_map}
-use Rattle.std.proofs.lemmas.List.{length-append, take-append-le}
+use Rattle.std.proofs.lemmas.List.{length-append}
 use Rattle.std.proofs.lemmas.Option.{same_Some}
-use Rattle.hy_stamp.specs.declared.Label.{Label}
-use Rattle.hy_bound.specs.declared.Txn.{Txn}
 use Rattle.hy_bound.specs.declared.Bound.{Bound}
 use Rattle.hy_bound.specs.declared.Record.{Record}
 use Rattle.hy_bound.specs.declared.Reply.{Reply}
@@ -17,22 +14,24 @@ use Rattle.hy_protocol.specs.declared.Phase.TheVariants.{Working, Stamping}
 use Rattle.hy_machine.specs.States.{State, Session, Open, Begun, Finished}
 use Rattle.hy_machine.specs.Tables.{Entry, Tables, history, opening_tables, over}
 use Rattle.hy_machine.specs.Writes.{Write, blank_own, with_writes}
-use Rattle.hy_protocol.specs.Turns.{Turn, Done, Waits, Begins, Visits, Answers, Enters, Ends, unless_blocked}
-use Rattle.hy_machine.specs.Turns.{session_turn, phase_turn}
-use Rattle.hy_machine.specs.Sessions.{session_at, txn_at, blocker, least_with, least_prefix, entry_of}
+use Rattle.hy_protocol.specs.Turns.{Turn, Done, Waits, Begins, Visits, Answers, Enters, Ends}
+use Rattle.hy_machine.specs.Turns.{phase_turn}
+use Rattle.hy_machine.specs.Sessions.{session_at, entry_of}
 use Rattle.hy_machine.specs.Outcomes.{statements_in}
-use Rattle.hy_machine.specs.Steps.{with_session, beginning, after_visit, after_answer, done_with, order_with, after_turn, step_of}
-use Rattle.hy_machine.specs.Runs.{opening_of, after_steps, IsReached}
+use Rattle.hy_machine.specs.Steps.{with_session, beginning, after_visit, after_answer, done_with, order_with, after_turn}
+use Rattle.hy_machine.specs.Runs.{IsReached}
 use Rattle.hy_replay.specs.Ran.{Ran}
 use Rattle.hy_lawful.specs.Outcomes.{committed_at}
 use Rattle.hy_lawful.specs.Reached.{AllHaveRun, statements_at}
 use Rattle.hy_lawful.specs.Refusing.{WasRefused}
-use Rattle.hy_lawful.proofs.Fits.{Fits}
 use Rattle.hy_lawful.proofs.Moves.{moved_to, sessions_moved}
-use Rattle.hy_lawful.proofs.Reached.{fresh_at, is_there, opening_fits, step_fits}
+use Rattle.hy_lawful.proofs.Reached.{fresh_at}
+use Rattle.hy_lawful.proofs.ReachedBy.{reached_by}
 use Rattle.hy_lawful.proofs.RunAnswers.{with_answer, IsRun, answered, run_more}
 use Rattle.hy_lawful.proofs.RunVisits.{Stands, RunTurn, at_start}
 use Rattle.hy_lawful.proofs.RunTurns.{phase_run}
+use Rattle.hy_lawful.proofs.PassSteps.{least_below}
+use Rattle.hy_lawful.proofs.PassTables.{tables_grow as tables_kept}
 
 -- ---- transactions
 
@@ -74,10 +73,6 @@ abbrev pub AllRun : Setting → State → Type 0
 AllRun setting state = (number : ℕ) → SessionRun setting state.order number (session_at state number)
 
 -- ---- the commit order grows
-
-pub tables_kept : (setting : Setting) (order more : List Entry) (prefix : ℕ) → prefix ≤ length order
-    → tables_at setting (order ++ more) prefix ≡ tables_at setting order prefix
-tables_kept setting order more prefix l = ap (history (opening_tables setting)) (take-append-le prefix order more l)
 
 ended_grows : (setting : Setting) (order more : List Entry) (statements : List Bound) (finished : Finished)
     → EndedRun setting order statements finished → EndedRun setting (order ++ more) statements finished
@@ -253,14 +248,6 @@ turn_runs setting state number current o (Ends ending) h =
 
 -- ---- a transaction begins
 
-least_below : (least : ℕ) (sessions : List Session) → least_prefix least sessions ≤ least
-least_below least [] = omega arith
-least_below least (session ∷ sessions) = omega (arith, least_below (least_with least session.now) sessions, with_below session.now)
-  where
-    with_below : (now : Option Open) → least_with least now ≤ least
-    with_below None = omega arith
-    with_below (Some current) = min-le_right current.begun.prefix least
-
 begins : (setting : Setting) (state : State) (number : ℕ) → 0 < setting.chunks → AllRun setting state → number < length state.sessions
     → AllRun setting (after_turn setting state number Begins).0
 begins setting state number chunks all there =
@@ -276,52 +263,25 @@ begins setting state number chunks all there =
       start = omega arith;
     })
 
-begins_unless : (setting : Setting) (state : State) (number : ℕ) (by : Option Label) → AllRun setting state
-    → AllRun setting (after_turn setting state number Begins).0
-    → AllRun setting (after_turn setting state number (unless_blocked by Begins)).0
-begins_unless setting state number None all h = h
-begins_unless setting state number (Some by) all h = all
-
 -- ---- steps
 
-session_runs : (setting : Setting) (state : State) (number : ℕ) (txn : Txn) → 0 < setting.chunks → Fits setting state → AllRun setting state
-    → txn_at setting number (session_at state number) ≡ Some txn → (now : Option Open) → (session_at state number).now ≡ now
-    → AllRun setting (after_turn setting state number (session_turn setting state number (Some txn) now)).0
-session_runs setting state number txn chunks fits all e None is =
-    begins_unless setting state number (blocker state number) all (begins setting state number chunks all (is_there setting state number txn fits e))
-session_runs setting state number txn chunks fits all e (Some current) is =
-    let statements : List Bound = statements_now setting state number in
-    let same : statements ≡ txn.statements = ap statements_in e in
-    let present : OpenRun setting state.order statements current = subst (NowRun setting state.order statements) is (all number).now in
-    turn_runs setting state number current
-    (record { chunks = chunks; all = all; there = is_there setting state number txn fits e; is = is; run = present })
-    (phase_turn setting state number txn current.begun current.phase)
-    (subst (λ (of : List Bound). RunTurn setting (tables_at setting state.order current.begun.prefix) of current.begun present.given
-    (phase_turn setting state number txn current.begun current.phase)) (sym same)
-    (phase_run setting state number txn current.begun present.given chunks present.low current.phase is
-    (subst (λ (of : List Bound). Stands setting (tables_at setting state.order current.begun.prefix) of current.begun present.given current.phase) same
-    present.stands)))
-
-pub by_txn : (setting : Setting) (state : State) (number : ℕ) → 0 < setting.chunks → Fits setting state → AllRun setting state
-    → (txn : Option Txn) → txn_at setting number (session_at state number) ≡ txn
-    → AllRun setting (after_turn setting state number (session_turn setting state number txn (session_at state number).now)).0
-by_txn setting state number chunks fits all None e = all
-by_txn setting state number chunks fits all (Some txn) e = session_runs setting state number txn chunks fits all e (session_at state number).now refl
-
-steps_run : (setting : Setting) (state : State) (numbers : List ℕ) → 0 < setting.chunks → Fits setting state → AllRun setting state
-    → AllRun setting (after_steps setting state numbers)
-steps_run setting state [] chunks fits all = all
-steps_run setting state (number ∷ numbers) chunks fits all =
-    steps_run setting (step_of setting state number).0 numbers chunks (step_fits setting state number fits)
-    (by_txn setting state number chunks fits all (txn_at setting number (session_at state number)) refl)
-
-pub opening_run : (setting : Setting) → AllRun setting (opening_of setting)
-opening_run setting number = subst (SessionRun setting [] number) (sym (fresh_at setting number))
-    (record { done = λ before finished e. absurd cc; now = tt })
-
-reached_run : (setting : Setting) (state : State) → 0 < setting.chunks → IsReached setting state → AllRun setting state
-reached_run setting state chunks r = subst (AllRun setting) (sym r.1)
-    (steps_run setting (opening_of setting) r.0 chunks (opening_fits setting) (opening_run setting))
+pub reached_run : (setting : Setting) (state : State) → 0 < setting.chunks → IsReached setting state → AllRun setting state
+reached_run setting state chunks = reached_by setting (AllRun setting) (record {
+  begins = λ state number txn all may. begins setting state number chunks all may.there;
+  turns = λ state number txn current all takes.
+      let statements : List Bound = statements_now setting state number in
+      let same : statements ≡ txn.statements = ap statements_in takes.at in
+      let present : OpenRun setting state.order statements current = subst (NowRun setting state.order statements) takes.is (all number).now in
+      turn_runs setting state number current
+      (record { chunks = chunks; all = all; there = takes.there; is = takes.is; run = present })
+      (phase_turn setting state number txn current.begun current.phase)
+      (subst (λ (of : List Bound). RunTurn setting (tables_at setting state.order current.begun.prefix) of current.begun present.given
+      (phase_turn setting state number txn current.begun current.phase)) (sym same)
+      (phase_run setting state number txn current.begun present.given chunks present.low current.phase takes.is
+      (subst (λ (of : List Bound). Stands setting (tables_at setting state.order current.begun.prefix) of current.begun present.given current.phase) same
+      present.stands)));
+})
+    (λ number. subst (SessionRun setting [] number) (sym (fresh_at setting number)) (record { done = λ before finished e. absurd cc; now = tt })) state
 
 -- the transactions of each state that the machine comes to have run
 pub reached_have_run : (setting : Setting) (state : State) → 0 < setting.chunks → IsReached setting state → AllHaveRun setting state

@@ -1,39 +1,35 @@
 -- What a session's turn makes of what its open transaction has run.
-use Rattle.std.proofs.Common.{◌≡◌, ℕ, suc, ◌<◌, ◌≤◌, List, [], Option, None, Some, Bool, true, false, length, map, drop, cond, ltb, refl, ap, sym, subst, inl, inr}
+use Rattle.std.proofs.Common.{◌≡◌, ℕ, suc, ◌<◌, ◌≤◌, List, [], Option, None, Some, true, length, map, drop, refl, ap, sym, subst}
 use Rattle.std.specs.Prelude.{IfSome, slice_get, ◌&&◌, ◌==◌, is_none}
 use Rattle.std.specs.Option.{option_map}
-use Rattle.std.proofs.lemmas.Bool.{cases_Bool, and_from, eq-eqb}
+use Rattle.std.proofs.lemmas.Bool.{and_from, eq-eqb}
 use Rattle.hy_value.specs.declared.Value.{Value}
 use Rattle.hy_bound.specs.declared.Assign.{Assign}
 use Rattle.hy_bound.specs.Condition.{Condition}
 use Rattle.hy_bound.specs.Predicate.{truth_of}
 use Rattle.hy_bound.specs.Assignment.{assigned}
-use Rattle.hy_stamp.specs.declared.Label.{Label}
 use Rattle.hy_bound.specs.declared.Txn.{Txn}
 use Rattle.hy_bound.specs.declared.Bound.{Bound}
 use Rattle.hy_bound.specs.declared.Bound.TheVariants.{Select, Group, Insert, Update, Delete}
 use Rattle.hy_bound.specs.declared.WriteKind.TheVariants as kind
 use Rattle.hy_meaning.specs.Statement.{answer_of, grouped}
 use Rattle.hy_bound.specs.declared.Ending.{Ending}
-use Rattle.hy_bound.specs.declared.Ending.TheVariants.{Read, RolledBack}
+use Rattle.hy_bound.specs.declared.Ending.TheVariants.{RolledBack}
 use Rattle.hy_machine.specs.declared.Setting.{Setting}
 use Rattle.hy_protocol.specs.declared.Phase.{Phase}
 use Rattle.hy_protocol.specs.declared.Phase.TheVariants.{Working, Stamping, Undoing}
 use Rattle.hy_machine.specs.States.{State, Begun}
-use Rattle.hy_protocol.specs.Turns.{Turn, Ends}
-use Rattle.hy_machine.specs.Tables.{Entry, Cell, Tables, Own}
-use Rattle.hy_machine.specs.Writes.{Write, wrote_nothing, written_chunks}
-use Rattle.hy_machine.specs.Sessions.{session_at, snapshot, view, blocker}
-use Rattle.hy_machine.specs.Validation.{committed_of, first_hit}
+use Rattle.hy_protocol.specs.Turns.{Ends}
+use Rattle.hy_machine.specs.Tables.{Cell, Tables, Own}
+use Rattle.hy_machine.specs.Sessions.{session_at, snapshot, view}
 use Rattle.hy_machine.specs.Visits.{swept}
-use Rattle.hy_protocol.specs.Turns.{unless_blocked}
 use Rattle.hy_machine.specs.Turns.{rows_seen, statement_turn}
-use Rattle.hy_protocol.specs.Closing.{validated_turn}
-use Rattle.hy_machine.specs.Turns.{undo_turn, stamp_turn, commit_turn, closing_turn, working_turn, phase_turn}
+use Rattle.hy_machine.specs.Turns.{phase_turn}
 use Rattle.hy_replay.specs.Ran.{Ran, one}
 use Rattle.hy_lawful.proofs.Refusals.{is_invalid}
 use Rattle.hy_lawful.proofs.RunVisits.{At, Undone, Stands, RunTurn, IsNext, Writes, read_run, write_run}
 use Rattle.hy_lawful.proofs.RunInserts.{insert_run}
+use Rattle.hy_machine.specs.TurnCases.{UndoCases, CommitCases, undo_cases, stamp_cases, working_cases}
 
 -- ---- statements
 
@@ -88,11 +84,6 @@ statement_run setting state statements number begun given visited count (Delete 
 
 -- ---- what closes a transaction
 
-unless_run : (setting : Setting) (tables : Tables) (statements : List Bound) (begun : Begun) (given : Ran) (turn : Turn Write) (by : Option Label)
-    → RunTurn setting tables statements begun given turn → RunTurn setting tables statements begun given (unless_blocked by turn)
-unless_run setting tables statements begun given turn None h = h
-unless_run setting tables statements begun given turn (Some by) h = tt
-
 -- what is undone has not committed
 undone_run : (setting : Setting) (tables : Tables) (statements : List Bound) (begun : Begun) (given : Ran) (cause : Ending)
     → Undone setting tables begun given (slice_get statements (length begun.replies)) cause
@@ -102,55 +93,23 @@ undone_run setting tables statements begun given cause h =
 
 undo_run : (setting : Setting) (state : State) (statements : List Bound) (number : ℕ) (begun : Begun) (given : Ran) (visited : ℕ) (cause : Ending)
     → Stands setting (snapshot setting state begun.prefix) statements begun given (Undoing visited cause)
-    → RunTurn setting (snapshot setting state begun.prefix) statements begun given (undo_turn setting state number begun visited cause)
-undo_run setting state statements number begun given visited cause h = elim (cases_Bool (ltb visited (length (written_chunks setting begun.own)))) [
-  | inl t ↦ rw t h
-  | inr f ↦ rw f (unless_run setting (snapshot setting state begun.prefix) statements begun given (Ends cause) (blocker state number)
-      (undone_run setting (snapshot setting state begun.prefix) statements begun given cause h))
-]
-
-stamp_run : (setting : Setting) (state : State) (statements : List Bound) (begun : Begun) (given : Ran) (visited : ℕ) → given.own ≡ begun.own
-    → RunTurn setting (snapshot setting state begun.prefix) statements begun given (stamp_turn setting state begun visited)
-stamp_run setting state statements begun given visited same = elim (cases_Bool (ltb visited (length (written_chunks setting begun.own)))) [
-  | inl t ↦ rw t same
-  | inr f ↦ rw f (same, tt)
-]
-
-validated_run : (setting : Setting) (tables : Tables) (statements : List Bound) (begun : Begun) (given : Ran) → given.own ≡ begun.own
-    → (entries : List Entry) (hit : Option Ending) → first_hit begun.records (map committed_of entries) ≡ hit
-    → RunTurn setting tables statements begun given (validated_turn hit)
-validated_run setting tables statements begun given same entries None e = same
-validated_run setting tables statements begun given same entries (Some cause) e =
-    is_invalid (λ (one : Ending). Undone setting tables begun given (slice_get statements (length begun.replies)) one)
-    begun.records entries cause (λ table pos label statement. (refl, tt)) e
+    → UndoCases setting state number begun (RunTurn setting (snapshot setting state begun.prefix) statements begun given) visited cause
+undo_run setting state statements number begun given visited cause h = record {
+  goes = λ few. h;
+  waits = λ by is. tt;
+  ends = λ free. undone_run setting (snapshot setting state begun.prefix) statements begun given cause h;
+}
 
 commit_run : (setting : Setting) (state : State) (statements : List Bound) (number : ℕ) (begun : Begun) (given : Ran) → given.own ≡ begun.own
-    → RunTurn setting (snapshot setting state begun.prefix) statements begun given (commit_turn setting state number begun)
-commit_run setting state statements number begun given same =
-    unless_run setting (snapshot setting state begun.prefix) statements begun given
-    (cond (wrote_nothing begun.own) (Ends Read) (validated_turn (first_hit begun.records (map committed_of (drop begun.prefix state.order)))))
-    (blocker state number)
-    (elim (cases_Bool (wrote_nothing begun.own)) [
-      | inl t ↦ rw t (tt, tt)
-      | inr f ↦ rw f (validated_run setting (snapshot setting state begun.prefix) statements begun given same (drop begun.prefix state.order)
-          (first_hit begun.records (map committed_of (drop begun.prefix state.order))) refl)
-    ])
-
-closing_run : (setting : Setting) (state : State) (statements : List Bound) (number : ℕ) (begun : Begun) (given : Ran) → given.own ≡ begun.own
-    → (commits : Bool) → RunTurn setting (snapshot setting state begun.prefix) statements begun given (closing_turn setting state number begun commits)
-closing_run setting state statements number begun given same true = commit_run setting state statements number begun given same
-closing_run setting state statements number begun given same false = undo_run setting state statements number begun given 0 RolledBack (refl, tt)
-
-working_run : (setting : Setting) (state : State) (number : ℕ) (txn : Txn) (begun : Begun) (given : Ran) (visited count : ℕ)
-    → Works setting state number begun visited count
-    → (statement : Option Bound) → slice_get txn.statements (length begun.replies) ≡ statement
-    → At setting (snapshot setting state begun.prefix) begun given visited count statement
-    → RunTurn setting (snapshot setting state begun.prefix) txn.statements begun given
-    (working_turn setting state number txn begun visited count statement)
-working_run setting state number txn begun given visited count w None e at =
-    closing_run setting state txn.statements number begun given at txn.commits
-working_run setting state number txn begun given visited count w (Some statement) e at =
-    statement_run setting state txn.statements number begun given visited count statement w (record { here = e }) at
+    → CommitCases state number begun (RunTurn setting (snapshot setting state begun.prefix) statements begun given)
+commit_run setting state statements number begun given same = record {
+  waits = λ by is. tt;
+  reads = λ free nothing. (tt, tt);
+  enters = λ free some e. same;
+  out = λ some cause e.
+      is_invalid (λ (one : Ending). Undone setting (snapshot setting state begun.prefix) begun given (slice_get statements (length begun.replies)) one)
+      begun.records (drop begun.prefix state.order) cause (λ table pos label statement. (refl, tt)) e;
+}
 
 -- the turn of an open transaction
 pub phase_run : (setting : Setting) (state : State) (number : ℕ) (txn : Txn) (begun : Begun) (given : Ran) → 0 < setting.chunks
@@ -159,8 +118,16 @@ pub phase_run : (setting : Setting) (state : State) (number : ℕ) (txn : Txn) (
     → Stands setting (snapshot setting state begun.prefix) txn.statements begun given phase
     → RunTurn setting (snapshot setting state begun.prefix) txn.statements begun given (phase_turn setting state number txn begun phase)
 phase_run setting state number txn begun given chunks low (Working visited count) is h =
-    working_run setting state number txn begun given visited count (record { chunks = chunks; is = is; low = low })
-    (slice_get txn.statements (length begun.replies)) refl h
-phase_run setting state number txn begun given chunks low (Stamping visited) is h = stamp_run setting state txn.statements begun given visited h
+    let tables : Tables = snapshot setting state begun.prefix in
+    let same : slice_get txn.statements (length begun.replies) ≡ None → given.own ≡ begun.own =
+    λ none. subst (At setting tables begun given visited count) none h in
+    working_cases setting state number begun (RunTurn setting tables txn.statements begun given) txn visited count
+    (λ statement e. statement_run setting state txn.statements number begun given visited count statement
+    (record { chunks = chunks; is = is; low = low }) (record { here = e }) (subst (At setting tables begun given visited count) e h))
+    (λ none commits. commit_run setting state txn.statements number begun given (same none))
+    (λ none rolls. undo_run setting state txn.statements number begun given 0 RolledBack (refl, tt))
+phase_run setting state number txn begun given chunks low (Stamping visited) is h =
+    stamp_cases setting state number begun (RunTurn setting (snapshot setting state begun.prefix) txn.statements begun given) visited (λ few. h) (h, tt)
 phase_run setting state number txn begun given chunks low (Undoing visited cause) is h =
-    undo_run setting state txn.statements number begun given visited cause h
+    undo_cases setting state number begun (RunTurn setting (snapshot setting state begun.prefix) txn.statements begun given) visited cause
+    (undo_run setting state txn.statements number begun given visited cause h)

@@ -28,7 +28,8 @@ use Rattle.hy_lawful.proofs.Fits.{Ends, IsCommitted}
 use Rattle.hy_lawful.proofs.Followers.{done_fits}
 use Rattle.hy_lawful.proofs.Over.{IsOver, HasCommitted, entry_committed}
 use Rattle.hy_lawful.proofs.SerialHistory.{RanAt, History, serial_to}
-use Rattle.hy_lawful.proofs.SerialScripts.{statements_behind, transactions_of, transaction_at, has_label, statements_stand}
+use Rattle.hy_lawful.proofs.SerialScripts.{statements_behind, transactions_of, transaction_at, statements_stand}
+use Rattle.hy_lawful.proofs.FullSince.{label_is as has_label}
 use Rattle.hy_lawful.proofs.PrintedTables.{IsOrder}
 use Rattle.hy_lawful.proofs.PassTables.{tables_are}
 use Rattle.hy_lawful.proofs.PassStates.{EndPasses, Passes}

@@ -38,7 +38,8 @@ use Rattle.hy_lawful.proofs.Over.{is_over}
 use Rattle.hy_lawful.proofs.Reached.{reached_fits}
 use Rattle.hy_lawful.proofs.SerialAlone.{first_replies}
 use Rattle.hy_lawful.proofs.SerialHistory.{alone_at_rank}
-use Rattle.hy_lawful.proofs.SerialScripts.{statements_behind, transactions_of, label_within}
+use Rattle.hy_lawful.proofs.SerialScripts.{statements_behind, transactions_of}
+use Rattle.hy_lawful.proofs.Grows.{label_within}
 use Rattle.hy_lawful.proofs.PrintedTables.{changes_at, bags_are}
 use Rattle.hy_lawful.proofs.PassTables.{tables_are}
 use Rattle.hy_lawful.proofs.PassStates.{Passed}

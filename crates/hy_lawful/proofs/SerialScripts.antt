@@ -1,6 +1,6 @@
 -- The statements of the transactions of a script: by their labels, by the commit order, and that they fit.
-use Rattle.std.proofs.Common.{◌≡◌, ℕ, zero, suc, ◌<◌, List, [], ◌∷◌, Option, None, Some, length, map, get_or, refl, ap, ◌∙◌}
-use Rattle.std.proofs.Common.{subst, arith, inl, inr}
+use Rattle.std.proofs.Common.{◌≡◌, ℕ, zero, suc, List, [], ◌∷◌, Option, None, Some, length, map, get_or, refl, ap, ◌∙◌}
+use Rattle.std.proofs.Common.{subst, inl, inr}
 use Rattle.std.specs.Prelude.{slice_get}
 use Rattle.std.specs.List.{All}
 use Rattle.std.proofs.Math.ListN.{get_or-eq_default}
@@ -46,18 +46,6 @@ pub transaction_at : (programs : Programs) (order : List Entry) (rank : ℕ) (la
 transaction_at programs [] rank label e = absurd cc
 transaction_at programs (entry ∷ order) zero label e = ap (statements_of programs) (same_Some entry.label label e)
 transaction_at programs (entry ∷ order) (suc rank) label e = transaction_at programs order rank label e
-
--- each rank of the commit order has its label
-pub has_label : (order : List Entry) (rank : ℕ) → rank < length order → (label : Label) × (label_at order rank ≡ Some label)
-has_label [] rank below = absurd (omega arith)
-has_label (entry ∷ order) zero below = (entry.label, refl)
-has_label (entry ∷ order) (suc rank) below = has_label order rank (omega arith)
-
--- and only those
-pub label_within : (order : List Entry) (rank : ℕ) (label : Label) → label_at order rank ≡ Some label → rank < length order
-label_within [] rank label e = absurd cc
-label_within (entry ∷ order) zero label e = omega arith
-label_within (entry ∷ order) (suc rank) label e = omega (arith, label_within order rank label e)
 
 -- ---- that they fit
 

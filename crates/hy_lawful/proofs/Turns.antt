@@ -1,9 +1,9 @@
 -- What a session's turn makes of its open transaction fits.
-use Rattle.std.proofs.Common.{◌≡◌, ℕ, suc, ◌+◌, ◌-◌, ◌*◌, ◌<◌, ◌≤◌, List, [], ◌∷◌, Option, None, Some, Bool, true, false, not, Result, Ok, Err, length, drop}
+use Rattle.std.proofs.Common.{◌≡◌, ℕ, suc, ◌+◌, ◌-◌, ◌<◌, ◌≤◌, List, [], ◌∷◌, Option, None, Some, Bool, true, false, not, length, drop}
 use Rattle.std.proofs.Common.{map}
-use Rattle.std.proofs.Common.{cond, ltb, refl, ap, sym, ◌∙◌, subst, arith, inl, inr}
+use Rattle.std.proofs.Common.{cond, refl, ap, sym, ◌∙◌, subst, arith}
 use Rattle.std.specs.Prelude.{slice_get, ◌==◌}
-use Rattle.std.proofs.lemmas.Bool.{cases_Bool, eq-eqb, eqb-true, ne_eqb}
+use Rattle.std.proofs.lemmas.Bool.{eq-eqb, eqb-true, ne_eqb}
 use Rattle.std.proofs.lemmas.Option.{same_Some, slice_get_within}
 use Rattle.std.specs.List.{AllByRecursion, flat_map}
 use Rattle.hy_bound.specs.declared.Record.{Record}
@@ -14,13 +14,9 @@ use Rattle.hy_value.specs.declared.ColMask.{ColMask}
 use Rattle.hy_bound.specs.declared.Txn.{Txn}
 use Rattle.hy_bound.specs.declared.Bound.{Bound}
 use Rattle.hy_bound.specs.declared.Bound.TheVariants.{Select, Group, Insert, Update, Delete}
-use Rattle.hy_bound.specs.declared.Reply.{Reply}
 use Rattle.hy_bound.specs.declared.WriteKind.{WriteKind}
 use Rattle.hy_bound.specs.declared.WriteKind.TheVariants as kind
 use Rattle.hy_bound.specs.Condition.{Condition}
-use Rattle.hy_bound.specs.Records.{shape_of}
-use Rattle.hy_meaning.specs.Statement.{answer_of, grouped}
-use Rattle.hy_stamp.specs.declared.Label.{Label}
 use Rattle.hy_bound.specs.declared.Ending.{Ending}
 use Rattle.hy_bound.specs.declared.Ending.TheVariants.{Committed, RolledBack, Conflict, Invalid, Range, Full}
 use Rattle.hy_bound.specs.declared.Ending.TheVariants as ways
@@ -28,18 +24,16 @@ use Rattle.hy_machine.specs.declared.Setting.{Setting}
 use Rattle.hy_protocol.specs.declared.Phase.{Phase}
 use Rattle.hy_protocol.specs.declared.Phase.TheVariants.{Working, Stamping, Undoing}
 use Rattle.hy_machine.specs.States.{State, Begun}
-use Rattle.hy_machine.specs.Writes.{Write, with_writes, wrote_nothing, written_chunks}
+use Rattle.hy_machine.specs.Writes.{Write, with_writes, wrote_nothing}
 use Rattle.hy_protocol.specs.Turns.{Turn, Done, Waits, Begins, Visits, Answers, Enters, Ends}
 use Rattle.hy_machine.specs.Tables.{positions_in}
-use Rattle.hy_machine.specs.Sessions.{session_at, blocker_of, blocker, label_of, view}
+use Rattle.hy_machine.specs.Sessions.{session_at, blocker_of, label_of, view}
 use Rattle.hy_machine.specs.Positions.{item_at}
 use Rattle.hy_machine.specs.Holding.{opponent}
 use Rattle.hy_machine.specs.Validation.{committed_of, first_hit}
-use Rattle.hy_machine.specs.Visits.{verdict_at, swept, sees_key, free_position, checks_of}
-use Rattle.hy_protocol.specs.Turns.{unless_blocked}
-use Rattle.hy_machine.specs.Turns.{rows_seen, read_turn, write_turn, check_turn, place_turn, insert_turn, statement_turn}
-use Rattle.hy_protocol.specs.Closing.{validated_turn}
-use Rattle.hy_machine.specs.Turns.{undo_turn, stamp_turn, commit_turn, closing_turn, working_turn, phase_turn}
+use Rattle.hy_machine.specs.Visits.{verdict_at, swept}
+use Rattle.hy_machine.specs.Turns.{rows_seen}
+use Rattle.hy_machine.specs.Turns.{phase_turn}
 use Rattle.hy_machine.specs.Outcomes.{txn_outcome_of}
 use Rattle.hy_lawful.specs.Scripts.{statements_in, statements_of, txn_of, ClosesWithCommit, ClosesWithRollback}
 use Rattle.hy_lawful.specs.Endings.{updates, changes_rows, inserts, EndsCommitted}
@@ -48,6 +42,7 @@ use Rattle.hy_lawful.proofs.Fits.{IsNumbered, EndsAs, top_of, PhaseFits, Stamps,
 use Rattle.hy_lawful.proofs.Opponents.{label_dropped, IsRival, opponent_is}
 use Rattle.hy_lawful.proofs.Refusals.{IsSet, Refuses, verdict_refuses, sweep_refuses, first_hit_is}
 use Rattle.hy_lawful.proofs.Tables.{nothing_written, something_written}
+use Rattle.hy_machine.specs.TurnCases.{WriteCases, StatementCases, UndoCases, CommitCases, statement_cases, undo_cases, stamp_cases, working_cases}
 
 -- how many transactions of a session have ended
 abbrev pub before_of : State → ℕ → ℕ
@@ -139,14 +134,6 @@ answers_fit : (setting : Setting) (state : State) (number : ℕ) (begun : Begun)
 answers_fit setting state number begun statement gathered n =
     (may_answer setting state number begun statement n, recorded_reads (suc (length begun.replies)) (reads_of setting.shapes statement gathered))
 
-read_fits : (setting : Setting) (state : State) (number : ℕ) (begun : Begun) (visited tables : ℕ) (statement : Bound) (gathered : List (List (List Value)))
-    (reply : Reply) → IsNext setting state number begun statement → FitsTurn setting state number begun
-    (read_turn setting begun visited tables statement gathered reply)
-read_fits setting state number begun visited tables statement gathered reply n = elim (cases_Bool (ltb (suc visited) (setting.chunks * tables))) [
-  | inl t ↦ rw t (goes_on_fits setting state number begun statement [] (suc visited) 0 n)
-  | inr f ↦ rw f (answers_fit setting state number begun statement gathered n)
-]
-
 -- a refusal of an UPDATE or a DELETE
 refusal_ends : (setting : Setting) (state : State) (number : ℕ) (begun : Begun) (statement : Bound) (kind : WriteKind) (table pos : ℕ)
     → IsNext setting state number begun statement → changes_rows table (Some statement) ≡ true → (IsSet kind → updates table (Some statement) ≡ true)
@@ -168,64 +155,44 @@ refusal_ends setting state number begun statement kind table pos n changes sets 
     ap (updates of) n.here ∙ (ap (λ (t : ℕ). updates t (Some statement)) (sym r.0) ∙ sets r.1)
 refusal_ends setting state number begun statement kind table pos n changes sets (Full of) r = absurd r
 
-write_fits : (setting : Setting) (state : State) (number : ℕ) (begun : Begun) (visited count : ℕ) (statement : Bound) (kind : WriteKind) (pred : Condition)
+writes_fit : (setting : Setting) (state : State) (number : ℕ) (begun : Begun) (visited count : ℕ) (statement : Bound) (kind : WriteKind) (pred : Condition)
     (table : ℕ)
     → IsNext setting state number begun statement → changes_rows table (Some statement) ≡ true → (IsSet kind → updates table (Some statement) ≡ true)
-    → (writes : Result (List Write) Ending) → swept setting state number begun kind pred table visited ≡ writes
-    → FitsTurn setting state number begun (write_turn setting begun visited count statement kind writes)
-write_fits setting state number begun visited count statement kind pred table n changes sets (Err cause) e =
-    refused_fits setting state number begun 0 cause n.works
-    (sweep_refuses (λ (one : Ending). WouldEnd setting state number begun one) table (verdict_at setting state number begun kind pred table)
-    (positions_in setting visited) cause
-    (λ pos one refused. refusal_ends setting state number begun statement kind table pos n changes sets one
-    (verdict_refuses kind pred table pos (opponent setting state number begun.prefix table pos) (item_at (view setting state begun) table pos) one refused))
-    e)
-write_fits setting state number begun visited count statement kind pred table n changes sets (Ok writes) e =
-    elim (cases_Bool (ltb (suc visited) setting.chunks)) [
-      | inl t ↦ rw t (goes_on_fits setting state number begun statement writes (suc visited) (count + length writes) n)
-      | inr f ↦ rw f (answers_fit setting state number begun statement [] n)
-    ]
-
-check_fits : (setting : Setting) (state : State) (number : ℕ) (begun : Begun) (visited : ℕ) (statement : Bound) (found : Bool)
-    → IsNext setting state number begun statement → FitsTurn setting state number begun (check_turn setting begun visited statement found)
-check_fits setting state number begun visited statement true n = answers_fit setting state number begun statement [] n
-check_fits setting state number begun visited statement false n = goes_on_fits setting state number begun statement [] (suc visited) 0 n
-
-place_fits : (setting : Setting) (state : State) (number : ℕ) (begun : Begun) (visited chunk table : ℕ) (row : List Value) (pos : Option ℕ)
-    → IsNext setting state number begun (Insert table row) → FitsTurn setting state number begun
-    (place_turn setting begun visited chunk (Insert table row) table row pos)
-place_fits setting state number begun visited chunk table row (Some pos) n = answers_fit setting state number begun (Insert table row) [] n
-place_fits setting state number begun visited chunk table row None n = elim (cases_Bool (ltb (suc chunk) setting.chunks)) [
-  | inl t ↦ rw t (goes_on_fits setting state number begun (Insert table row) [] (suc visited) 0 n)
-  | inr f ↦ rw f (refused_fits setting state number begun 0 (Full table) n.works (ap (inserts table) n.here ∙ eq-eqb table table refl))
-]
-
-insert_fits : (setting : Setting) (state : State) (number : ℕ) (begun : Begun) (visited table : ℕ) (row : List Value) (key : Option ℕ)
-    → IsNext setting state number begun (Insert table row) → FitsTurn setting state number begun
-    (insert_turn setting state begun visited (Insert table row) table row key)
-insert_fits setting state number begun visited table row key n = elim (cases_Bool (ltb visited (checks_of setting key))) [
-  | inl t ↦ rw t (check_fits setting state number begun visited (Insert table row) (sees_key setting state begun table row key visited) n)
-  | inr f ↦ rw f (place_fits setting state number begun visited (visited - checks_of setting key) table row
-      (free_position setting state begun table (visited - checks_of setting key)) n)
-]
+    → WriteCases setting begun (FitsTurn setting state number begun) visited count statement kind
+    (swept setting state number begun kind pred table visited)
+writes_fit setting state number begun visited count statement kind pred table n changes sets = record {
+  out = λ cause e. refused_fits setting state number begun 0 cause n.works
+      (sweep_refuses (λ (one : Ending). WouldEnd setting state number begun one) table (verdict_at setting state number begun kind pred table)
+      (positions_in setting visited) cause
+      (λ pos one refused. refusal_ends setting state number begun statement kind table pos n changes sets one
+      (verdict_refuses kind pred table pos (opponent setting state number begun.prefix table pos) (item_at (view setting state begun) table pos) one refused))
+      e);
+  goes = λ writes e few. goes_on_fits setting state number begun statement writes (suc visited) (count + length writes) n;
+  ends = λ writes e. answers_fit setting state number begun statement [] n;
+}
 
 statement_fits : (setting : Setting) (state : State) (number : ℕ) (begun : Begun) (visited count : ℕ) (statement : Bound)
-    → IsNext setting state number begun statement → FitsTurn setting state number begun (statement_turn setting state number begun visited count statement)
-statement_fits setting state number begun visited count (Select tables ons pred items) n =
-    read_fits setting state number begun visited (length tables) (Select tables ons pred items)
-    (map (rows_seen (view setting state begun)) tables) (answer_of ons pred items (map (rows_seen (view setting state begun)) tables)) n
-statement_fits setting state number begun visited count (Group table pred key aggregate) n =
-    read_fits setting state number begun visited 1 (Group table pred key aggregate)
-    [] (grouped pred key aggregate (rows_seen (view setting state begun) table)) n
-statement_fits setting state number begun visited count (Insert table row) n =
-    insert_fits setting state number begun visited table row (shape_of setting.shapes table).key n
+    → IsNext setting state number begun statement → StatementCases setting state number begun (FitsTurn setting state number begun) visited count statement
+statement_fits setting state number begun visited count (Select tables ons pred items) n = record {
+  goes = λ few. goes_on_fits setting state number begun (Select tables ons pred items) [] (suc visited) 0 n;
+  ends = answers_fit setting state number begun (Select tables ons pred items) (map (rows_seen (view setting state begun)) tables) n;
+}
+statement_fits setting state number begun visited count (Group table pred key aggregate) n = record {
+  goes = λ few. goes_on_fits setting state number begun (Group table pred key aggregate) [] (suc visited) 0 n;
+  ends = answers_fit setting state number begun (Group table pred key aggregate) [] n;
+}
+statement_fits setting state number begun visited count (Insert table row) n = record {
+  checked = λ few. goes_on_fits setting state number begun (Insert table row) [] (suc visited) 0 n;
+  twice = answers_fit setting state number begun (Insert table row) [] n;
+  takes = λ pos e. answers_fit setting state number begun (Insert table row) [] n;
+  goes = λ past e few. goes_on_fits setting state number begun (Insert table row) [] (suc visited) 0 n;
+  full = λ past e most. refused_fits setting state number begun 0 (Full table) n.works (ap (inserts table) n.here ∙ eq-eqb table table refl);
+}
 statement_fits setting state number begun visited count (Update table sets pred) n =
-    write_fits setting state number begun visited count (Update table sets pred) (kind.Set sets) pred table n (eq-eqb table table refl)
+    writes_fit setting state number begun visited count (Update table sets pred) (kind.Set sets) pred table n (eq-eqb table table refl)
     (λ s. eq-eqb table table refl)
-    (swept setting state number begun (kind.Set sets) pred table visited) refl
 statement_fits setting state number begun visited count (Delete table pred) n =
-    write_fits setting state number begun visited count (Delete table pred) kind.Delete pred table n (eq-eqb table table refl) (λ s. absurd s)
-    (swept setting state number begun kind.Delete pred table visited) refl
+    writes_fit setting state number begun visited count (Delete table pred) kind.Delete pred table n (eq-eqb table table refl) (λ s. absurd s)
 
 -- ---- what closes a transaction
 
@@ -237,27 +204,13 @@ unblocked state number (Some marked) e other m = by_number (marked == number) re
     by_number true t h = sym (same_Some marked other m) ∙ eqb-true marked number t
     by_number false t h = absurd cc
 
-unless_fits : (setting : Setting) (state : State) (number : ℕ) (begun : Begun) (turn : Turn Write) (by : Option Label)
-    → (by ≡ None → FitsTurn setting state number begun turn)
-    → FitsTurn setting state number begun (unless_blocked by turn)
-unless_fits setting state number begun turn None f = f refl
-unless_fits setting state number begun turn (Some by) f = tt
-
 undo_fits : (setting : Setting) (state : State) (number : ℕ) (begun : Begun) (visited : ℕ) (cause : Ending) → Works setting state number begun
-    → WouldEnd setting state number begun cause → FitsTurn setting state number begun (undo_turn setting state number begun visited cause)
-undo_fits setting state number begun visited cause w h = elim (cases_Bool (ltb visited (length (written_chunks setting begun.own)))) [
-  | inl t ↦ rw t (refused_fits setting state number begun (suc visited) cause w h)
-  | inr f ↦ rw f (unless_fits setting state number begun (Ends cause) (blocker state number)
-      (λ e. (h, unblocked state number state.mark e, λ m. absurd (w.free m))))
-]
-
-stamp_fits : (setting : Setting) (state : State) (number : ℕ) (begun : Begun) (visited : ℕ) → state.mark ≡ Some number
-    → WouldEnd setting state number begun (Committed (length state.order - 1)) → FitsTurn setting state number begun
-    (stamp_turn setting state begun visited)
-stamp_fits setting state number begun visited m h = elim (cases_Bool (ltb visited (length (written_chunks setting begun.own)))) [
-  | inl t ↦ rw t ((m, h), λ e. tt)
-  | inr f ↦ rw f (h, λ other e. same_Some other number (sym e ∙ m), λ e. refl)
-]
+    → WouldEnd setting state number begun cause → UndoCases setting state number begun (FitsTurn setting state number begun) visited cause
+undo_fits setting state number begun visited cause w h = record {
+  goes = λ few. refused_fits setting state number begun (suc visited) cause w h;
+  waits = λ by is. tt;
+  ends = λ free. (h, unblocked state number state.mark free, λ m. absurd (w.free m));
+}
 
 -- a transaction of which all is answered
 record IsAnswered (setting : Setting) (state : State) (number : ℕ) (begun : Begun) (txn : Txn) : Type 0 where
@@ -283,55 +236,32 @@ invalid_ends setting state number begun txn a commits wrote cause e =
     })
     e
 
-validated_fits : (setting : Setting) (state : State) (number : ℕ) (begun : Begun) (txn : Txn) → IsAnswered setting state number begun txn → txn.commits ≡ true
-    → wrote_nothing begun.own ≡ false → blocker state number ≡ None → (hit : Option Ending)
-    → first_hit begun.records (map committed_of (drop begun.prefix state.order)) ≡ hit → FitsTurn setting state number begun (validated_turn hit)
-validated_fits setting state number begun txn a commits wrote unblocked_now None e = (
-  record { answers = a.all; closes = subst ClosesWithCommit (sym a.is) commits; wrote = something_written begun.own wrote },
-  λ other m. a.works.free (m ∙ ap Some (unblocked state number state.mark unblocked_now other m)),
-)
-validated_fits setting state number begun txn a commits wrote unblocked_now (Some cause) e =
-    refused_fits setting state number begun 0 cause a.works (invalid_ends setting state number begun txn a commits wrote cause e)
-
 commit_fits : (setting : Setting) (state : State) (number : ℕ) (begun : Begun) (txn : Txn) → IsAnswered setting state number begun txn → txn.commits ≡ true
-    → FitsTurn setting state number begun (commit_turn setting state number begun)
-commit_fits setting state number begun txn a commits = unless_fits setting state number begun
-    (cond (wrote_nothing begun.own) (Ends ways.Read) (validated_turn (first_hit begun.records (map committed_of (drop begun.prefix state.order)))))
-    (blocker state number)
-    (λ b. elim (cases_Bool (wrote_nothing begun.own)) [
-      | inl t ↦ rw t (
-        record { answers = a.all; closes = subst ClosesWithCommit (sym a.is) commits; wrote = nothing_written begun.own t },
-        unblocked state number state.mark b,
-        λ m. absurd (a.works.free m),
-      )
-      | inr f ↦ rw f (validated_fits setting state number begun txn a commits f b
-          (first_hit begun.records (map committed_of (drop begun.prefix state.order))) refl)
-    ])
+    → CommitCases state number begun (FitsTurn setting state number begun)
+commit_fits setting state number begun txn a commits = record {
+  waits = λ by is. tt;
+  reads = λ free nothing. (
+    record { answers = a.all; closes = subst ClosesWithCommit (sym a.is) commits; wrote = nothing_written begun.own nothing },
+    unblocked state number state.mark free,
+    λ m. absurd (a.works.free m),
+  );
+  enters = λ free some e. (
+    record { answers = a.all; closes = subst ClosesWithCommit (sym a.is) commits; wrote = something_written begun.own some },
+    λ other m. a.works.free (m ∙ ap Some (unblocked state number state.mark free other m)),
+  );
+  out = λ some cause e. refused_fits setting state number begun 0 cause a.works (invalid_ends setting state number begun txn a commits some cause e);
+}
 
-closing_fits : (setting : Setting) (state : State) (number : ℕ) (begun : Begun) (txn : Txn) → IsAnswered setting state number begun txn
-    → (commits : Bool) → txn.commits ≡ commits → FitsTurn setting state number begun (closing_turn setting state number begun commits)
-closing_fits setting state number begun txn a true e = commit_fits setting state number begun txn a e
-closing_fits setting state number begun txn a false e = undo_fits setting state number begun 0 RolledBack a.works
-    (record { answers = a.all; closes = subst ClosesWithRollback (sym a.is) (ap not e) })
-
-working_fits : (setting : Setting) (state : State) (number : ℕ) (txn : Txn) (begun : Begun) (visited count : ℕ) → Works setting state number begun
+all_answered : (setting : Setting) (state : State) (number : ℕ) (txn : Txn) (begun : Begun) → Works setting state number begun
     → txn_of setting.programs (label_of number (session_at state number)) ≡ Some txn → length begun.replies ≤ length (statements_at setting state number)
-    → (statement : Option Bound) → slice_get txn.statements (length begun.replies) ≡ statement
-    → FitsTurn setting state number begun (working_turn setting state number txn begun visited count statement)
-working_fits setting state number txn begun visited count w is few None e =
-    let same : statements_at setting state number ≡ txn.statements = ap statements_in is in
-    closing_fits setting state number begun txn (record {
-      works = w;
-      is = is;
-      all = let over : length txn.statements ≤ length begun.replies = over_past txn.statements (length begun.replies) e in
-          let count : length (statements_at setting state number) ≡ length txn.statements = ap length same in
-          omega arith;
-    }) txn.commits refl
-working_fits setting state number txn begun visited count w is few (Some statement) e =
-    statement_fits setting state number begun visited count statement (record {
-      works = w;
-      here = ap (λ (t : Option Txn). slice_get (statements_in t) (length begun.replies)) is ∙ e;
-    })
+    → slice_get txn.statements (length begun.replies) ≡ None → IsAnswered setting state number begun txn
+all_answered setting state number txn begun w is few e = record {
+  works = w;
+  is = is;
+  all = let over : length txn.statements ≤ length begun.replies = over_past txn.statements (length begun.replies) e in
+      let count : length (statements_at setting state number) ≡ length txn.statements = ap (λ (t : Option Txn). length (statements_in t)) is in
+      omega arith;
+}
 
 -- the turn of an open transaction
 pub phase_fits : (setting : Setting) (state : State) → Fits setting state → (number : ℕ) (txn : Txn) (begun : Begun)
@@ -340,8 +270,21 @@ pub phase_fits : (setting : Setting) (state : State) → Fits setting state → 
     → (phase : Phase) → PhaseFits setting state.order state.mark number (before_of state number) begun phase → (state.mark ≡ Some number → Stamps phase)
     → FitsTurn setting state number begun (phase_turn setting state number txn begun phase)
 phase_fits setting state fits number txn begun is above records (Working visited count) h m =
-    working_fits setting state number txn begun visited count (record { fits = fits; above = above; free = m; records = records }) is h
-    (slice_get txn.statements (length begun.replies)) refl
-phase_fits setting state fits number txn begun is above records (Stamping visited) h m = stamp_fits setting state number begun visited h.0 h.1
+    let works : Works setting state number begun = record { fits = fits; above = above; free = m; records = records } in
+    working_cases setting state number begun (FitsTurn setting state number begun) txn visited count
+    (λ statement e. statement_cases setting state number begun (FitsTurn setting state number begun) visited count statement
+    (statement_fits setting state number begun visited count statement (record {
+      works = works;
+      here = ap (λ (t : Option Txn). slice_get (statements_in t) (length begun.replies)) is ∙ e;
+    })))
+    (λ none commits. commit_fits setting state number begun txn (all_answered setting state number txn begun works is h none) commits)
+    (λ none rolls. undo_fits setting state number begun 0 RolledBack works (record {
+      answers = (all_answered setting state number txn begun works is h none).all;
+      closes = subst ClosesWithRollback (sym is) (ap not rolls);
+    }))
+phase_fits setting state fits number txn begun is above records (Stamping visited) h m =
+    stamp_cases setting state number begun (FitsTurn setting state number begun) visited (λ few. (h, λ e. tt))
+    (h.1, λ other e. same_Some other number (sym e ∙ h.0), λ e. refl)
 phase_fits setting state fits number txn begun is above records (Undoing visited cause) h m =
-    undo_fits setting state number begun visited cause (record { fits = fits; above = above; free = m; records = records }) h
+    undo_cases setting state number begun (FitsTurn setting state number begun) visited cause
+    (undo_fits setting state number begun visited cause (record { fits = fits; above = above; free = m; records = records }) h)

@@ -1,29 +1,29 @@
 -- In each state that the machine comes to, the rows that entries and open transactions have written meet a demand, where the
 -- first rows and the statements do: what holds of the opening and stays true along steps.
-use Rattle.std.proofs.Common.{◌≡◌, ℕ, ◌<◌, List, [], ◌∷◌, Option, None, Some, length, refl, sym, subst, ◌∙◌}
+use Rattle.std.proofs.Common.{◌≡◌, ℕ, ◌<◌, List, [], ◌∷◌, Option, None, Some, length, sym, subst, ◌∙◌}
 use Rattle.std.specs.Prelude.{slice_get, IfSome}
 use Rattle.std.specs.Option.{option_map}
 use Rattle.std.specs.List.{All, AllByRecursion}
 use Rattle.std.proofs.lemmas.List.Elements.{recursion_from_All}
 use Rattle.hy_bound.specs.declared.Txn.{Txn}
-use Rattle.hy_stamp.specs.declared.Label.{Label}
 use Rattle.hy_machine.specs.Writes.{Write}
 use Rattle.hy_machine.specs.declared.Setting.{Setting}
 use Rattle.hy_protocol.specs.declared.Phase.TheVariants.{Working, Stamping}
 use Rattle.hy_machine.specs.States.{State, Session, Open, Begun}
 use Rattle.hy_machine.specs.Tables.{Entry, Cell}
-use Rattle.hy_protocol.specs.Turns.{Turn, Done, Waits, Begins, Visits, Answers, Enters, Ends, unless_blocked}
-use Rattle.hy_machine.specs.Turns.{session_turn, phase_turn}
-use Rattle.hy_machine.specs.Sessions.{session_at, program_of, txn_at, blocker, snapshot, view, entry_of}
-use Rattle.hy_machine.specs.Steps.{with_session, beginning, after_visit, after_answer, done_with, order_with, after_turn, step_of}
-use Rattle.hy_machine.specs.Runs.{opening_of, after_steps, IsReached}
+use Rattle.hy_protocol.specs.Turns.{Turn, Done, Waits, Begins, Visits, Answers, Enters, Ends}
+use Rattle.hy_machine.specs.Turns.{phase_turn}
+use Rattle.hy_machine.specs.Sessions.{session_at, program_of, snapshot, view, entry_of}
+use Rattle.hy_machine.specs.Steps.{with_session, beginning, after_visit, after_answer, done_with, order_with, after_turn}
+use Rattle.hy_machine.specs.Runs.{IsReached}
 use Rattle.hy_lawful.specs.Rows.{Demand, StatementMeets, SettingMeets, RowsMeet, ReachedEntriesStand}
-use Rattle.hy_lawful.proofs.Fits.{Fits, FitsTables}
+use Rattle.hy_lawful.proofs.Fits.{FitsTables}
 use Rattle.hy_lawful.proofs.Lists.{all_more, one_of}
 use Rattle.hy_lawful.proofs.Moves.{moved_to, sessions_moved}
 use Rattle.hy_lawful.proofs.PassSteps.{reached_passes}
 use Rattle.hy_lawful.proofs.PrintedTables.{pair_there}
-use Rattle.hy_lawful.proofs.Reached.{fresh_at, is_there, opening_fits, reached_fits, step_fits}
+use Rattle.hy_lawful.proofs.Reached.{fresh_at, reached_fits}
+use Rattle.hy_lawful.proofs.ReachedBy.{reached_by}
 use Rattle.hy_lawful.proofs.Tables.{got_of}
 use Rattle.hy_lawful.proofs.ViewRows.{TablesMeet, OwnMeets, EntryMeets, writes_meet, blank_meets, over_meets, snapshot_meets, entry_meets}
 use Rattle.hy_lawful.proofs.ViewRows.{cell_meets, after_meets}
@@ -88,16 +88,6 @@ turn_meets P setting state number current all there is own (Ends ending) h =
     moves_meet P state state.order None number
     (record { done = done_with ending (session_at state number).done (session_at state number).now; now = None }) all there all.order tt
 
--- ---- a transaction begins
-
-begins_meet : (P : Demand) (setting : Setting) (state : State) (number : ℕ) (by : Option Label) → StateMeets P state → number < length state.sessions
-    → StateMeets P (after_turn setting state number (unless_blocked by Begins)).0
-begins_meet P setting state number None all there =
-    moves_meet P state state.order state.mark number
-    (record { done = (session_at state number).done; now = Some (record { begun = beginning setting state; phase = Working 0 0 }) }) all there all.order
-    (blank_meets P setting)
-begins_meet P setting state number (Some by) all there = all
-
 -- ---- steps
 
 -- the statements of a session's transaction meet it
@@ -117,41 +107,19 @@ statements_meet P setting number before txn fit e =
     sessions = each setting.programs
         (recursion_from_All (λ (txns : List Txn). All (λ (txn : Txn). All (StatementMeets P) txn.statements) txns) setting.programs fit.statements)
 
-session_meets : (P : Demand) (setting : Setting) (state : State) (number : ℕ) (txn : Txn) → SettingMeets P setting → Fits setting state → StateMeets P state
-    → txn_at setting number (session_at state number) ≡ Some txn → (now : Option Open) → (session_at state number).now ≡ now
-    → StateMeets P (after_turn setting state number (session_turn setting state number (Some txn) now)).0
-session_meets P setting state number txn fit fits all e None is =
-    begins_meet P setting state number (blocker state number) all (is_there setting state number txn fits e)
-session_meets P setting state number txn fit fits all e (Some current) is =
-    let own : OwnMeets P current.begun.own = subst (NowMeets P) is (all.opens number) in
-    turn_meets P setting state number current all (is_there setting state number txn fits e) is own
-    (phase_turn setting state number txn current.begun current.phase)
-    (phase_meets P setting state number txn current.begun current.phase
-    (statements_meet P setting number (length (session_at state number).done) txn fit e)
-    (view_meets P setting state current.begun fit all own))
-
-by_txn : (P : Demand) (setting : Setting) (state : State) (number : ℕ) → SettingMeets P setting → Fits setting state → StateMeets P state → (txn : Option Txn)
-    → txn_at setting number (session_at state number) ≡ txn
-    → StateMeets P (after_turn setting state number (session_turn setting state number txn (session_at state number).now)).0
-by_txn P setting state number fit fits all None e = all
-by_txn P setting state number fit fits all (Some txn) e = session_meets P setting state number txn fit fits all e (session_at state number).now refl
-
-steps_meet : (P : Demand) (setting : Setting) (state : State) (numbers : List ℕ) → SettingMeets P setting → Fits setting state → StateMeets P state
-    → StateMeets P (after_steps setting state numbers)
-steps_meet P setting state [] fit fits all = all
-steps_meet P setting state (number ∷ numbers) fit fits all =
-    steps_meet P setting (step_of setting state number).0 numbers fit (step_fits setting state number fits)
-    (by_txn P setting state number fit fits all (txn_at setting number (session_at state number)) refl)
-
-opening_meets : (P : Demand) (setting : Setting) → StateMeets P (opening_of setting)
-opening_meets P setting = record {
-  order = tt;
-  opens = λ number. subst (λ (session : Session). NowMeets P session.now) (sym (fresh_at setting number)) tt;
-}
-
 pub reached_state_meets : (P : Demand) (setting : Setting) (state : State) → SettingMeets P setting → IsReached setting state → StateMeets P state
-reached_state_meets P setting state fit r =
-    subst (StateMeets P) (sym r.1) (steps_meet P setting (opening_of setting) r.0 fit (opening_fits setting) (opening_meets P setting))
+reached_state_meets P setting state fit = reached_by setting (StateMeets P) (record {
+  begins = λ state number txn all may.
+      moves_meet P state state.order state.mark number
+      (record { done = (session_at state number).done; now = Some (record { begun = beginning setting state; phase = Working 0 0 }) }) all may.there all.order
+      (blank_meets P setting);
+  turns = λ state number txn current all takes.
+      let own : OwnMeets P current.begun.own = subst (NowMeets P) takes.is (all.opens number) in
+      turn_meets P setting state number current all takes.there takes.is own (phase_turn setting state number txn current.begun current.phase)
+      (phase_meets P setting state number txn current.begun current.phase
+      (statements_meet P setting number (length (session_at state number).done) txn fit takes.at) (view_meets P setting state current.begun fit all own));
+})
+    (record { order = tt; opens = λ number. subst (λ (session : Session). NowMeets P session.now) (sym (fresh_at setting number)) tt }) state
 
 -- ---- what is told of a state
 

@@ -1,31 +1,30 @@
 -- In each state that the machine comes to it is known what its transactions had written by their end.
-use Rattle.std.proofs.Common.{◌≡◌, ℕ, ◌<◌, ◌≤◌, List, [], ◌∷◌, ◌++◌, Option, None, Some, length, take, refl, ap, sym, ◌∙◌, subst, inl, inr}
+use Rattle.std.proofs.Common.{◌≡◌, ℕ, ◌<◌, ◌≤◌, List, [], ◌∷◌, ◌++◌, Option, None, Some, length, take, ap, sym, ◌∙◌, subst, inl, inr}
 use Rattle.std.specs.Prelude.{slice_get}
 use Rattle.std.specs.Option.{option_map}
 use Rattle.std.proofs.lemmas.Option.{same_Some}
-use Rattle.hy_stamp.specs.declared.Label.{Label}
-use Rattle.hy_bound.specs.declared.Txn.{Txn}
 use Rattle.hy_bound.specs.declared.Bound.{Bound}
 use Rattle.hy_bound.specs.declared.Ending.{Ending}
 use Rattle.hy_machine.specs.declared.Setting.{Setting}
 use Rattle.hy_protocol.specs.declared.Phase.TheVariants.{Working, Stamping}
 use Rattle.hy_machine.specs.States.{State, Session, Open, Finished}
 use Rattle.hy_machine.specs.Tables.{Entry, Tables}
-use Rattle.hy_protocol.specs.Turns.{Turn, Done, Waits, Begins, Visits, Answers, Enters, Ends, unless_blocked}
-use Rattle.hy_machine.specs.Turns.{session_turn, phase_turn}
+use Rattle.hy_protocol.specs.Turns.{Turn, Done, Waits, Begins, Visits, Answers, Enters, Ends}
+use Rattle.hy_machine.specs.Turns.{phase_turn}
 use Rattle.hy_machine.specs.Writes.{Write, with_writes}
-use Rattle.hy_machine.specs.Sessions.{session_at, txn_at, blocker, entry_of}
+use Rattle.hy_machine.specs.Sessions.{session_at, entry_of}
 use Rattle.hy_machine.specs.Outcomes.{statements_in}
-use Rattle.hy_machine.specs.Steps.{with_session, beginning, after_visit, after_answer, done_with, order_with, after_turn, step_of}
-use Rattle.hy_machine.specs.Runs.{opening_of, after_steps, IsReached}
+use Rattle.hy_machine.specs.Steps.{with_session, beginning, after_visit, after_answer, done_with, order_with, after_turn}
+use Rattle.hy_machine.specs.Runs.{IsReached}
 use Rattle.hy_replay.specs.Ran.{Ran, ran}
 use Rattle.hy_lawful.specs.Reached.{statements_at}
-use Rattle.hy_lawful.proofs.Fits.{Fits}
 use Rattle.hy_lawful.proofs.Moves.{moved_to, sessions_moved}
-use Rattle.hy_lawful.proofs.Reached.{fresh_at, is_there, opening_fits, step_fits}
+use Rattle.hy_lawful.proofs.Reached.{fresh_at}
+use Rattle.hy_lawful.proofs.ReachedBy.{reached_by}
 use Rattle.hy_lawful.proofs.RunAnswers.{IsRun}
 use Rattle.hy_lawful.proofs.RunVisits.{Stands}
-use Rattle.hy_lawful.proofs.RunStates.{tables_at, OpenRun, NowRun, SessionRun, AllRun, statements_now, tables_kept, item_of_more, by_txn, opening_run}
+use Rattle.hy_lawful.proofs.RunStates.{tables_at, OpenRun, NowRun, SessionRun, AllRun, statements_now, item_of_more, reached_run}
+use Rattle.hy_lawful.proofs.PassTables.{tables_grow as tables_kept}
 use Rattle.hy_lawful.proofs.WroteSweeps.{HadWritten, WrotePhase, WroteTurn, phase_wrote}
 
 -- an ended transaction, by what its answered statements came to
@@ -159,59 +158,30 @@ turn_wrote setting state number current o (Ends ending) h =
     (moved_to state state.order None number (record { done = done_with ending (session_at state number).done now; now = None })))
     (sym o.is) (ends setting state number current o ending h)
 
-begins_unless : (setting : Setting) (state : State) (number : ℕ) (by : Option Label) → AllWrote setting state
-    → AllWrote setting (after_turn setting state number Begins).0
-    → AllWrote setting (after_turn setting state number (unless_blocked by Begins)).0
-begins_unless setting state number None all h = h
-begins_unless setting state number (Some by) all h = all
-
 -- ---- steps
 
-session_wrote : (setting : Setting) (state : State) (number : ℕ) (txn : Txn) → Fits setting state → AllRun setting state → AllWrote setting state
-    → txn_at setting number (session_at state number) ≡ Some txn → (now : Option Open) → (session_at state number).now ≡ now
-    → AllWrote setting (after_turn setting state number (session_turn setting state number (Some txn) now)).0
-session_wrote setting state number txn fits runs all e None is =
-    begins_unless setting state number (blocker state number) all
-    (goes_on setting state number (record { begun = beginning setting state; phase = Working 0 0 }) all (is_there setting state number txn fits e)
-    (λ given h. tt))
-session_wrote setting state number txn fits runs all e (Some current) is =
-    let tables : Tables = tables_at setting state.order current.begun.prefix in
-    let statements : List Bound = statements_now setting state number in
-    let same : statements ≡ txn.statements = ap statements_in e in
-    let present : OpenRun setting state.order statements current = subst (NowRun setting state.order statements) is (runs number).now in
-    let wrote : OpenWrote setting state.order statements current = subst (NowWrote setting state.order statements) is (all number).now in
-    turn_wrote setting state number current
-    (record { runs = runs; all = all; there = is_there setting state number txn fits e; is = is; run = present })
-    (phase_turn setting state number txn current.begun current.phase)
-    (subst (λ (of : List Bound). WroteTurn setting tables of current.begun present.given
-    (phase_turn setting state number txn current.begun current.phase)) (sym same)
-    (phase_wrote setting state number txn current.begun present.given current.phase
-    (subst (λ (of : List Bound). Stands setting tables of current.begun present.given current.phase) same present.stands)
-    (subst (λ (of : List Bound). WrotePhase setting tables of current.begun present.given current.phase) same
-    (wrote present.given present.run.came_to))))
-
-wrote_by_txn : (setting : Setting) (state : State) (number : ℕ) → Fits setting state → AllRun setting state → AllWrote setting state
-    → (txn : Option Txn) → txn_at setting number (session_at state number) ≡ txn
-    → AllWrote setting (after_turn setting state number (session_turn setting state number txn (session_at state number).now)).0
-wrote_by_txn setting state number fits runs all None e = all
-wrote_by_txn setting state number fits runs all (Some txn) e =
-    session_wrote setting state number txn fits runs all e (session_at state number).now refl
-
-steps_wrote : (setting : Setting) (state : State) (numbers : List ℕ) → 0 < setting.chunks → Fits setting state → AllRun setting state
-    → AllWrote setting state → AllWrote setting (after_steps setting state numbers)
-steps_wrote setting state [] chunks fits runs all = all
-steps_wrote setting state (number ∷ numbers) chunks fits runs all =
-    steps_wrote setting (step_of setting state number).0 numbers chunks (step_fits setting state number fits)
-    (by_txn setting state number chunks fits runs (txn_at setting number (session_at state number)) refl)
-    (wrote_by_txn setting state number fits runs all (txn_at setting number (session_at state number)) refl)
-
-opening_wrote : (setting : Setting) → AllWrote setting (opening_of setting)
-opening_wrote setting number = subst (SessionWrote setting [] number) (sym (fresh_at setting number))
-    (record { done = λ before finished e. absurd cc; now = tt })
-
 reached_wrote : (setting : Setting) (state : State) → 0 < setting.chunks → IsReached setting state → AllWrote setting state
-reached_wrote setting state chunks r = subst (AllWrote setting) (sym r.1)
-    (steps_wrote setting (opening_of setting) r.0 chunks (opening_fits setting) (opening_run setting) (opening_wrote setting))
+reached_wrote setting state chunks = reached_by setting (AllWrote setting) (record {
+  begins = λ state number txn all may.
+      goes_on setting state number (record { begun = beginning setting state; phase = Working 0 0 }) all may.there (λ given h. tt);
+  turns = λ state number txn current all takes.
+      let runs : AllRun setting state = reached_run setting state chunks takes.reached in
+      let tables : Tables = tables_at setting state.order current.begun.prefix in
+      let statements : List Bound = statements_now setting state number in
+      let same : statements ≡ txn.statements = ap statements_in takes.at in
+      let present : OpenRun setting state.order statements current = subst (NowRun setting state.order statements) takes.is (runs number).now in
+      let wrote : OpenWrote setting state.order statements current = subst (NowWrote setting state.order statements) takes.is (all number).now in
+      turn_wrote setting state number current
+      (record { runs = runs; all = all; there = takes.there; is = takes.is; run = present })
+      (phase_turn setting state number txn current.begun current.phase)
+      (subst (λ (of : List Bound). WroteTurn setting tables of current.begun present.given
+      (phase_turn setting state number txn current.begun current.phase)) (sym same)
+      (phase_wrote setting state number txn current.begun present.given current.phase
+      (subst (λ (of : List Bound). Stands setting tables of current.begun present.given current.phase) same present.stands)
+      (subst (λ (of : List Bound). WrotePhase setting tables of current.begun present.given current.phase) same
+      (wrote present.given present.run.came_to))));
+})
+    (λ number. subst (SessionWrote setting [] number) (sym (fresh_at setting number)) (record { done = λ before finished e. absurd cc; now = tt })) state
 
 -- what the ended transactions of a state had written
 abbrev pub EndedAllWrote : Setting → State → Type 0

@@ -11,14 +11,14 @@ use Rattle.hy_machine.specs.declared.Setting.{Setting}
 use Rattle.hy_protocol.specs.declared.Phase.{Phase}
 use Rattle.hy_protocol.specs.declared.Phase.TheVariants.{Stamping}
 use Rattle.hy_machine.specs.States.{State, Session, Finished, Open}
-use Rattle.hy_protocol.specs.Turns.{Turn, Done, Waits, Begins, Visits, Answers, Enters, Ends, unless_blocked}
+use Rattle.hy_protocol.specs.Turns.{Turn, Done, Waits, Begins, Visits, Answers, Enters, Ends, unless_blocked, is_stamping}
 use Rattle.hy_machine.specs.Turns.{turn, phase_turn, session_turn}
 use Rattle.hy_machine.specs.Sessions.{fresh, session_at, program_of, txn_at, has_ended, blocker_of, blocker}
 use Rattle.hy_machine.specs.Steps.{after_turn, step_of, with_open, beginning, after_visit, after_answer, with_changed, with_ended}
 use Rattle.hy_machine.specs.Measures.{later_left, txns_left, steps_left, all_left, measure_of}
 use Rattle.hy_machine.specs.Runs.{is_moved, moves, whole_of, round_from, round_of, all_ended_from, repeated, opening_of, items_of, RunsEnd}
 use Rattle.hy_machine.proofs.Falls.{IsActing, phase_falls, drop_at, left_is, session_set, whole_first}
-use Rattle.hy_machine.proofs.Marks.{IsKept, Follows, Fits, is_marked, has_entered, is_stamping, phase_follows, has_script, kept_step, kept_opening, kept_steps}
+use Rattle.hy_machine.proofs.Marks.{IsKept, Follows, Fits, is_marked, has_entered, phase_follows, has_script, kept_step, kept_opening, kept_steps}
 use Rattle.hy_machine.proofs.Reached.{IsAfter, whole_is_after, items_after, round_after}
 
 -- ---- what one turn does to the steps that are left

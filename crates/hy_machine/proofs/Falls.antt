@@ -1,39 +1,33 @@
 -- A step that goes on brings its session nearer to its end.
-use Rattle.std.proofs.Common.{◌≡◌, ℕ, ◌+◌, ◌-◌, ◌*◌, ◌<◌, ◌≤◌, List, [], ◌∷◌, ◌++◌, length, drop, map, get_or, refl, ap, ◌∙◌, sym, arith, zero, suc, Option, None, Some, Bool, true, false, cond, inl, inr, ltb, Result, Ok, Err}
+use Rattle.std.proofs.Common.{◌≡◌, ℕ, ◌+◌, ◌-◌, ◌*◌, ◌<◌, ◌≤◌, List, [], ◌∷◌, ◌++◌, length, drop, get_or, refl, ap, ◌∙◌, sym, arith, zero, suc, Option, None, Some, Bool, true, cond, inl, inr}
 use Rattle.std.proofs.Math.ListN.{set}
 use Rattle.std.specs.Prelude.{slice_get}
 use Rattle.std.specs.List.{filter, range_with_len}
-use Rattle.std.proofs.lemmas.Bool.{cases_Bool, cases_lt, ltb-true}
+use Rattle.std.proofs.lemmas.Bool.{cases_Bool, cases_lt}
 use Rattle.std.proofs.lemmas.List.{length-append, length-map, length-set, get_or-set_same, get_or_past}
 use Rattle.std.proofs.lemmas.Option.{same_Some, none-some}
 use Rattle.hy_bound.specs.declared.Txn.{Txn}
 use Rattle.hy_bound.specs.declared.Bound.{Bound}
 use Rattle.hy_bound.specs.declared.Bound.TheVariants.{Select, Group, Insert, Update, Delete}
-use Rattle.hy_bound.specs.declared.WriteKind.{WriteKind}
-use Rattle.hy_bound.specs.declared.WriteKind.TheVariants as kind
-use Rattle.hy_bound.specs.declared.Reply.{Reply}
 use Rattle.hy_bound.specs.Records.{shape_of}
-use Rattle.hy_meaning.specs.Statement.{answer_of, grouped}
-use Rattle.hy_value.specs.declared.Value.{Value}
 use Rattle.hy_stamp.specs.declared.Label.{Label}
 use Rattle.hy_bound.specs.declared.Ending.{Ending}
-use Rattle.hy_bound.specs.declared.Ending.TheVariants.{Read, RolledBack}
+use Rattle.hy_bound.specs.declared.Ending.TheVariants.{RolledBack}
 use Rattle.hy_machine.specs.declared.Setting.{Setting}
 use Rattle.hy_protocol.specs.declared.Phase.{Phase}
 use Rattle.hy_protocol.specs.declared.Phase.TheVariants.{Working, Stamping, Undoing}
 use Rattle.hy_machine.specs.States.{State, Session, Finished, Open, Begun}
-use Rattle.hy_machine.specs.Writes.{Write, with_write, with_writes, chunks_in_table, chunks_from, written_chunks, has_written_in, wrote_nothing}
+use Rattle.hy_machine.specs.Writes.{Write, with_write, with_writes, chunks_in_table, chunks_from, written_chunks, has_written_in}
 use Rattle.hy_protocol.specs.Turns.{Turn, Done, Waits, Begins, Visits, Answers, Enters, Ends}
 use Rattle.hy_machine.specs.Tables.{Own}
-use Rattle.hy_machine.specs.Sessions.{fresh, session_at, program_of, txn_at, blocker, view}
+use Rattle.hy_machine.specs.Sessions.{fresh, session_at, program_of, txn_at, blocker}
 use Rattle.hy_protocol.specs.declared.Progress.TheVariants.{Ended}
 use Rattle.hy_machine.specs.Runs.{is_moved, moves, whole_of}
-use Rattle.hy_machine.specs.Visits.{visits_of, checks_of, swept, sees_key, free_position}
-use Rattle.hy_machine.specs.Validation.{committed_of, first_hit}
+use Rattle.hy_machine.specs.Visits.{visits_of, checks_of}
 use Rattle.hy_protocol.specs.Turns.{unless_blocked}
-use Rattle.hy_protocol.specs.Closing.{validated_turn}
-use Rattle.hy_machine.specs.Turns.{read_turn, write_turn, check_turn, place_turn, insert_turn, statement_turn, undo_turn, stamp_turn, commit_turn, closing_turn, working_turn, phase_turn, session_turn, rows_seen}
+use Rattle.hy_machine.specs.Turns.{statement_turn, phase_turn, session_turn}
 use Rattle.hy_machine.specs.Steps.{with_session, after_turn, step_of, after_visit, after_answer, with_changed, with_ended}
+use Rattle.hy_machine.specs.TurnCases.{StatementCases, UndoCases, CommitCases, statement_cases, undo_cases, stamp_cases, working_cases}
 use Rattle.hy_machine.specs.Measures.{parts_of, open_left, later_left, txns_left, steps_left}
 
 -- ---- what a statement's turn may be
@@ -50,56 +44,32 @@ Advances visited most (Answers writes reply took records) = Unit {0}
 Advances visited most Enters = ⊥
 Advances visited most (Ends ending) = ⊥
 
-read_advances : (setting : Setting) (begun : Begun) (visited tables most : ℕ) (statement : Bound) (gathered : List (List (List Value))) (reply : Reply) → setting.chunks * tables ≤ most
-    → Advances visited most (read_turn setting begun visited tables statement gathered reply)
-read_advances setting begun visited tables most statement gathered reply h = elim (cases_Bool (ltb (suc visited) (setting.chunks * tables))) [
-  | inl t ↦ rw t (refl, omega (arith, h, ltb-true (suc visited) (setting.chunks * tables) t))
-  | inr f ↦ rw f tt
-]
-
-write_advances : (setting : Setting) (begun : Begun) (visited count : ℕ) (statement : Bound) (kind : WriteKind) (writes : Result (List Write) Ending)
-    → Advances visited setting.chunks (write_turn setting begun visited count statement kind writes)
-write_advances setting begun visited count statement kind (Err cause) = refl
-write_advances setting begun visited count statement kind (Ok writes) = elim (cases_Bool (ltb (suc visited) setting.chunks)) [
-  | inl t ↦ rw t (refl, omega (arith, ltb-true (suc visited) setting.chunks t))
-  | inr f ↦ rw f tt
-]
-
-place_advances : (setting : Setting) (begun : Begun) (visited chunk most : ℕ) (statement : Bound) (table : ℕ) (row : List Value) (pos : Option ℕ) → (suc chunk < setting.chunks → visited < most)
-    → Advances visited most (place_turn setting begun visited chunk statement table row pos)
-place_advances setting begun visited chunk most statement table row (Some pos) h = tt
-place_advances setting begun visited chunk most statement table row None h = elim (cases_Bool (ltb (suc chunk) setting.chunks)) [
-  | inl t ↦ rw t (refl, h (ltb-true (suc chunk) setting.chunks t))
-  | inr f ↦ rw f refl
-]
-
-check_advances : (setting : Setting) (begun : Begun) (visited most : ℕ) (statement : Bound) (found : Bool) → visited < most → Advances visited most (check_turn setting begun visited statement found)
-check_advances setting begun visited most statement true h = tt
-check_advances setting begun visited most statement false h = (refl, h)
-
-insert_advances : (setting : Setting) (state : State) (begun : Begun) (visited checks : ℕ) (statement : Bound) (table : ℕ) (row : List Value) (key : Option ℕ) → checks_of setting key ≤ setting.chunks
-    → Advances visited (2 * setting.chunks) (insert_turn setting state begun visited statement table row key)
-insert_advances setting state begun visited checks statement table row key h = elim (cases_Bool (ltb visited (checks_of setting key))) [
-  | inl t ↦ rw t (check_advances setting begun visited (2 * setting.chunks) statement (sees_key setting state begun table row key visited) (omega (arith, h, ltb-true visited (checks_of setting key) t)))
-  | inr f ↦ rw f (place_advances setting begun visited (visited - checks_of setting key) (2 * setting.chunks) statement table row (free_position setting state begun table (visited - checks_of setting key)) (λ more. omega (arith, more, h)))
-]
-
 few_checks : (setting : Setting) (key : Option ℕ) → checks_of setting key ≤ setting.chunks
 few_checks setting None = omega arith
 few_checks setting (Some key) = omega arith
 
+advances_in : (setting : Setting) (state : State) (number : ℕ) (begun : Begun) (visited count : ℕ) (statement : Bound)
+    → StatementCases setting state number begun (Advances visited (visits_of setting statement)) visited count statement
+advances_in setting state number begun visited count (Select tables ons pred items) = record { goes = λ few. (refl, omega (arith, few)); ends = tt }
+advances_in setting state number begun visited count (Group table pred key aggregate) = record { goes = λ few. (refl, omega (arith, few)); ends = tt }
+advances_in setting state number begun visited count (Insert table row) =
+    let most = few_checks setting (shape_of setting.shapes table).key in record {
+      checked = λ few. (refl, omega (arith, few, most));
+      twice = tt;
+      takes = λ pos e. tt;
+      goes = λ past e few. (refl, omega (arith, few, most));
+      full = λ past e all. refl;
+    }
+advances_in setting state number begun visited count (Update table sets pred) =
+    record { out = λ cause e. refl; goes = λ writes e few. (refl, omega (arith, few)); ends = λ writes e. tt }
+advances_in setting state number begun visited count (Delete table pred) =
+    record { out = λ cause e. refl; goes = λ writes e few. (refl, omega (arith, few)); ends = λ writes e. tt }
+
 pub statement_advances : (setting : Setting) (state : State) (number : ℕ) (begun : Begun) (visited count : ℕ) (statement : Bound)
     → Advances visited (visits_of setting statement) (statement_turn setting state number begun visited count statement)
-statement_advances setting state number begun visited count (Select tables ons pred items) =
-    read_advances setting begun visited (length tables) (setting.chunks * length tables) (Select tables ons pred items) (map (rows_seen (view setting state begun)) tables) (answer_of ons pred items (map (rows_seen (view setting state begun)) tables)) (omega arith)
-statement_advances setting state number begun visited count (Group table pred key aggregate) =
-    read_advances setting begun visited 1 setting.chunks (Group table pred key aggregate) [] (grouped pred key aggregate (rows_seen (view setting state begun) table)) (omega arith)
-statement_advances setting state number begun visited count (Insert table row) =
-    insert_advances setting state begun visited 0 (Insert table row) table row (shape_of setting.shapes table).key (few_checks setting (shape_of setting.shapes table).key)
-statement_advances setting state number begun visited count (Update table sets pred) =
-    write_advances setting begun visited count (Update table sets pred) (kind.Set sets) (swept setting state number begun (kind.Set sets) pred table visited)
-statement_advances setting state number begun visited count (Delete table pred) =
-    write_advances setting begun visited count (Delete table pred) kind.Delete (swept setting state number begun kind.Delete pred table visited)
+statement_advances setting state number begun visited count statement =
+    statement_cases setting state number begun (Advances visited (visits_of setting statement)) visited count statement
+    (advances_in setting state number begun visited count statement)
 
 -- ---- how many chunks may be written
 
@@ -176,63 +146,42 @@ advance_falls setting txn begun visited count rest statement (Visits writes (Sta
 advance_falls setting txn begun visited count rest statement Enters e a = absurd a
 advance_falls setting txn begun visited count rest statement (Ends how) e a = absurd a
 
-undo_falls : (setting : Setting) (state : State) (number : ℕ) (txn : Txn) (begun : Begun) (visited rest bound : ℕ) (cause : Ending) → suc (parts_of setting begun - visited) ≤ bound
-    → IsActing (undo_turn setting state number begun visited cause) → left_after setting txn begun rest (undo_turn setting state number begun visited cause) < bound + rest
-undo_falls setting state number txn begun visited rest bound cause h a = elim (cases_Bool (ltb visited (length (written_chunks setting begun.own)))) [
-  | inl t ↦
-      let within : visited < parts_of setting begun = omega (arith, written_few setting begun, ltb-true visited (length (written_chunks setting begun.own)) t) in
-      rw t (omega (arith, h, within))
-  | inr f ↦ rw f (ended (blocker state number) (rw f at a))
-]
-  where
-    ended : (by : Option Label) → IsActing (unless_blocked by (Ends cause)) → left_after setting txn begun rest (unless_blocked by (Ends cause)) < bound + rest
-    ended None a = omega (arith, h)
-    ended (Some by) a = absurd a
+-- a turn that changes something leaves less than so many steps and the rest
+abbrev FallsBelow : Setting → Txn → Begun → ℕ → ℕ → Turn Write → Type 0
+FallsBelow setting txn begun rest bound turn = IsActing turn → left_after setting txn begun rest turn < bound + rest
 
-stamp_falls : (setting : Setting) (state : State) (txn : Txn) (begun : Begun) (visited rest : ℕ)
-    → left_after setting txn begun rest (stamp_turn setting state begun visited) < suc (parts_of setting begun - visited) + rest
-stamp_falls setting state txn begun visited rest = elim (cases_Bool (ltb visited (length (written_chunks setting begun.own)))) [
-  | inl t ↦
-      let within : visited < parts_of setting begun = omega (arith, written_few setting begun, ltb-true visited (length (written_chunks setting begun.own)) t) in
-      rw t (omega (arith, within))
-  | inr f ↦ rw f (omega arith)
-]
+undo_falls : (setting : Setting) (state : State) (number : ℕ) (txn : Txn) (begun : Begun) (visited rest bound : ℕ) (cause : Ending)
+    → suc (parts_of setting begun - visited) ≤ bound → UndoCases setting state number begun (FallsBelow setting txn begun rest bound) visited cause
+undo_falls setting state number txn begun visited rest bound cause h = record {
+  goes = λ few a. let within : visited < parts_of setting begun = omega (arith, written_few setting begun, few) in omega (arith, h, within);
+  waits = λ by is a. absurd a;
+  ends = λ free a. omega (arith, h);
+}
 
 commit_falls : (setting : Setting) (state : State) (number : ℕ) (txn : Txn) (begun : Begun) (rest bound : ℕ) → suc (suc (parts_of setting begun)) ≤ bound
-    → IsActing (commit_turn setting state number begun) → left_after setting txn begun rest (commit_turn setting state number begun) < bound + rest
-commit_falls setting state number txn begun rest bound h = by_blocker (blocker state number)
-  where
-    validated : (cause : Option Ending) → left_after setting txn begun rest (validated_turn cause) < bound + rest
-    validated None = omega (arith, h)
-    validated (Some cause) = omega (arith, h)
-
-    closed : (nothing : Bool) → left_after setting txn begun rest (cond nothing (Ends Read) (validated_turn (first_hit begun.records (map committed_of (drop begun.prefix state.order))))) < bound + rest
-    closed true = omega (arith, h)
-    closed false = validated (first_hit begun.records (map committed_of (drop begun.prefix state.order)))
-
-    by_blocker : (by : Option Label) → IsActing (unless_blocked by (cond (wrote_nothing begun.own) (Ends Read) (validated_turn (first_hit begun.records (map committed_of (drop begun.prefix state.order))))))
-        → left_after setting txn begun rest (unless_blocked by (cond (wrote_nothing begun.own) (Ends Read) (validated_turn (first_hit begun.records (map committed_of (drop begun.prefix state.order)))))) < bound + rest
-    by_blocker None a = closed (wrote_nothing begun.own)
-    by_blocker (Some by) a = absurd a
-
-working_falls : (setting : Setting) (state : State) (number : ℕ) (txn : Txn) (begun : Begun) (visited count rest : ℕ) (statement : Option Bound) → slice_get txn.statements (length begun.replies) ≡ statement
-    → IsActing (working_turn setting state number txn begun visited count statement)
-    → left_after setting txn begun rest (working_turn setting state number txn begun visited count statement) < open_left setting txn begun (Working visited count) + rest
-working_falls setting state number txn begun visited count rest (Some statement) e a =
-    advance_falls setting txn begun visited count rest statement (statement_turn setting state number begun visited count statement) e (statement_advances setting state number begun visited count statement)
-working_falls setting state number txn begun visited count rest None e a = closing txn.commits a
-  where
-    closing : (commits : Bool) → IsActing (closing_turn setting state number begun commits)
-        → left_after setting txn begun rest (closing_turn setting state number begun commits) < open_left setting txn begun (Working visited count) + rest
-    closing true a = commit_falls setting state number txn begun rest (open_left setting txn begun (Working visited count)) (omega arith) a
-    closing false a = undo_falls setting state number txn begun 0 rest (open_left setting txn begun (Working visited count)) RolledBack (omega arith) a
+    → CommitCases state number begun (FallsBelow setting txn begun rest bound)
+commit_falls setting state number txn begun rest bound h = record {
+  waits = λ by is a. absurd a;
+  reads = λ free nothing a. omega (arith, h);
+  enters = λ free some e a. omega (arith, h);
+  out = λ some cause e a. omega (arith, h);
+}
 
 pub phase_falls : (setting : Setting) (state : State) (number : ℕ) (txn : Txn) (begun : Begun) (phase : Phase) (rest : ℕ)
     → IsActing (phase_turn setting state number txn begun phase) → left_after setting txn begun rest (phase_turn setting state number txn begun phase) < open_left setting txn begun phase + rest
-phase_falls setting state number txn begun (Working visited count) rest a =
-    working_falls setting state number txn begun visited count rest (slice_get txn.statements (length begun.replies)) refl a
-phase_falls setting state number txn begun (Stamping visited) rest a = stamp_falls setting state txn begun visited rest
-phase_falls setting state number txn begun (Undoing visited cause) rest a = undo_falls setting state number txn begun visited rest (suc (parts_of setting begun - visited)) cause (omega arith) a
+phase_falls setting state number txn begun (Working visited count) rest =
+    let most : ℕ = open_left setting txn begun (Working visited count) in
+    working_cases setting state number begun (FallsBelow setting txn begun rest most) txn visited count
+    (λ statement e a. advance_falls setting txn begun visited count rest statement (statement_turn setting state number begun visited count statement) e
+    (statement_advances setting state number begun visited count statement))
+    (λ none commits. commit_falls setting state number txn begun rest most (omega arith))
+    (λ none rolls. undo_falls setting state number txn begun 0 rest most RolledBack (omega arith))
+phase_falls setting state number txn begun (Stamping visited) rest =
+    stamp_cases setting state number begun (FallsBelow setting txn begun rest (suc (parts_of setting begun - visited))) visited
+    (λ few a. let within : visited < parts_of setting begun = omega (arith, written_few setting begun, few) in omega (arith, within)) (λ a. omega arith)
+phase_falls setting state number txn begun (Undoing visited cause) rest =
+    undo_cases setting state number begun (FallsBelow setting txn begun rest (suc (parts_of setting begun - visited))) visited cause
+    (undo_falls setting state number txn begun visited rest (suc (parts_of setting begun - visited)) cause (omega arith))
 
 -- ---- what is left of the session after a step
 

@@ -1,29 +1,26 @@
 -- What holds of each state that the machine comes to: where its sessions stand in their scripts, and which of them is marked.
-use Rattle.std.proofs.Common.{◌≡◌, ℕ, ◌<◌, ◌≤◌, List, [], ◌∷◌, ◌++◌, length, drop, map, get_or, refl, ap, ◌∙◌, sym, arith, zero, suc, Option, None, Some, Bool, true, false, cond, inl, inr, ltb}
+use Rattle.std.proofs.Common.{◌≡◌, ℕ, ◌<◌, ◌≤◌, List, [], ◌∷◌, ◌++◌, length, map, get_or, refl, ap, ◌∙◌, sym, arith, zero, suc, Option, None, Some, Bool, true, false, inl, inr}
 use Rattle.std.proofs.Math.ListN.{set}
 use Rattle.std.specs.Prelude.{slice_get, ◌==◌}
 use Rattle.std.proofs.lemmas.Bool.{cases_Bool, cases_eq, eqb-true, eq-eqb, ne_eqb}
 use Rattle.std.proofs.lemmas.List.{length-append, length-map, length-set, get_or-set_same, get_or-set_other}
 use Rattle.std.proofs.lemmas.Option.{slice_get_within}
 use Rattle.hy_bound.specs.declared.Txn.{Txn}
-use Rattle.hy_bound.specs.declared.Bound.{Bound}
 use Rattle.hy_stamp.specs.declared.Label.{Label}
 use Rattle.hy_bound.specs.declared.Ending.{Ending}
-use Rattle.hy_bound.specs.declared.Ending.TheVariants.{Read, RolledBack}
+use Rattle.hy_bound.specs.declared.Ending.TheVariants.{RolledBack}
 use Rattle.hy_machine.specs.declared.Setting.{Setting}
 use Rattle.hy_protocol.specs.declared.Phase.{Phase}
 use Rattle.hy_protocol.specs.declared.Phase.TheVariants.{Working, Stamping, Undoing}
 use Rattle.hy_machine.specs.States.{State, Session, Finished, Open, Begun}
-use Rattle.hy_protocol.specs.Turns.{Turn, Done, Waits, Begins, Visits, Answers, Enters, Ends}
-use Rattle.hy_machine.specs.Writes.{Write, written_chunks, wrote_nothing}
+use Rattle.hy_protocol.specs.Turns.{Turn, Done, Waits, Begins, Visits, Answers, Enters, Ends, unless_blocked, is_stamping}
+use Rattle.hy_machine.specs.Writes.{Write}
 use Rattle.hy_machine.specs.Sessions.{fresh, session_at, program_of, txn_at, blocker_of, blocker}
-use Rattle.hy_machine.specs.Validation.{committed_of, first_hit}
 use Rattle.hy_machine.specs.Visits.{visits_of}
-use Rattle.hy_protocol.specs.Turns.{unless_blocked}
-use Rattle.hy_protocol.specs.Closing.{validated_turn}
-use Rattle.hy_machine.specs.Turns.{statement_turn, undo_turn, stamp_turn, commit_turn, closing_turn, working_turn, phase_turn, session_turn}
+use Rattle.hy_machine.specs.Turns.{statement_turn, phase_turn, session_turn}
 use Rattle.hy_machine.specs.Steps.{after_turn, step_of, with_open, beginning, after_visit, after_answer, with_changed, with_ended}
 use Rattle.hy_machine.specs.Runs.{opening_of, after_steps}
+use Rattle.hy_machine.specs.TurnCases.{UndoCases, undo_cases, stamp_cases, working_cases}
 use Rattle.hy_machine.proofs.Falls.{Advances, statement_advances}
 
 -- ---- the invariant
@@ -32,12 +29,6 @@ use Rattle.hy_machine.proofs.Falls.{Advances, statement_advances}
 abbrev pub Fits : Option Open → ℕ → ℕ → Type 0
 Fits None done most = done ≤ most
 Fits (Some current) done most = done < most
-
--- whether a transaction at this phase stands between its entry and its end
-abbrev pub is_stamping : Phase → Bool
-is_stamping (Working visited count) = false
-is_stamping (Stamping visited) = true
-is_stamping (Undoing visited cause) = false
 
 abbrev pub has_entered : Option Open → Bool
 has_entered None = false
@@ -80,59 +71,23 @@ advance_follows by visited count most Enters a = absurd a
 advance_follows by visited count most (Ends how) a = absurd a
 
 undo_follows : (setting : Setting) (state : State) (number : ℕ) (begun : Begun) (visited : ℕ) (cause : Ending) (phase : Phase) → is_stamping phase ≡ false
-    → Follows (blocker state number) phase (undo_turn setting state number begun visited cause)
-undo_follows setting state number begun visited cause phase p = elim (cases_Bool (ltb visited (length (written_chunks setting begun.own)))) [
-  | inl t ↦ rw t (sym p)
-  | inr f ↦ rw f (ended (blocker state number))
-]
-  where
-    ended : (by : Option Label) → Follows by phase (unless_blocked by (Ends cause))
-    ended None = λ _. refl
-    ended (Some by) = (refl, p)
-
-stamp_follows : (setting : Setting) (state : State) (by : Option Label) (begun : Begun) (visited : ℕ)
-    → Follows by (Stamping visited) (stamp_turn setting state begun visited)
-stamp_follows setting state by begun visited = elim (cases_Bool (ltb visited (length (written_chunks setting begun.own)))) [
-  | inl t ↦ rw t refl
-  | inr f ↦ rw f (λ p. absurd (cc p))
-]
-
-commit_follows : (setting : Setting) (state : State) (number : ℕ) (begun : Begun) (phase : Phase) → is_stamping phase ≡ false
-    → Follows (blocker state number) phase (commit_turn setting state number begun)
-commit_follows setting state number begun phase p = by_blocker (blocker state number)
-  where
-    validated : (cause : Option Ending) → Follows None phase (validated_turn cause)
-    validated None = refl
-    validated (Some cause) = sym p
-
-    hit : Option Ending
-    hit = first_hit begun.records (map committed_of (drop begun.prefix state.order))
-
-    closed : (nothing : Bool) → Follows None phase (cond nothing (Ends Read) (validated_turn hit))
-    closed true = λ _. refl
-    closed false = validated hit
-
-    by_blocker : (by : Option Label) → Follows by phase (unless_blocked by (cond (wrote_nothing begun.own) (Ends Read) (validated_turn hit)))
-    by_blocker None = closed (wrote_nothing begun.own)
-    by_blocker (Some by) = (refl, p)
-
-working_follows : (setting : Setting) (state : State) (number : ℕ) (txn : Txn) (begun : Begun) (visited count : ℕ) (statement : Option Bound)
-    → Follows (blocker state number) (Working visited count) (working_turn setting state number txn begun visited count statement)
-working_follows setting state number txn begun visited count (Some statement) =
-    advance_follows (blocker state number) visited count (visits_of setting statement) (statement_turn setting state number begun visited count statement)
-    (statement_advances setting state number begun visited count statement)
-working_follows setting state number txn begun visited count None = closing txn.commits
-  where
-    closing : (commits : Bool) → Follows (blocker state number) (Working visited count) (closing_turn setting state number begun commits)
-    closing true = commit_follows setting state number begun (Working visited count) refl
-    closing false = undo_follows setting state number begun 0 RolledBack (Working visited count) refl
+    → UndoCases setting state number begun (Follows (blocker state number) phase) visited cause
+undo_follows setting state number begun visited cause phase p =
+    record { goes = λ few. sym p; waits = λ by is. (is, p); ends = λ free q. free }
 
 pub phase_follows : (setting : Setting) (state : State) (number : ℕ) (txn : Txn) (begun : Begun) (phase : Phase)
     → Follows (blocker state number) phase (phase_turn setting state number txn begun phase)
 phase_follows setting state number txn begun (Working visited count) =
-    working_follows setting state number txn begun visited count (slice_get txn.statements (length begun.replies))
-phase_follows setting state number txn begun (Stamping visited) = stamp_follows setting state (blocker state number) begun visited
-phase_follows setting state number txn begun (Undoing visited cause) = undo_follows setting state number begun visited cause (Undoing visited cause) refl
+    working_cases setting state number begun (Follows (blocker state number) (Working visited count)) txn visited count
+    (λ statement e. advance_follows (blocker state number) visited count (visits_of setting statement)
+    (statement_turn setting state number begun visited count statement) (statement_advances setting state number begun visited count statement))
+    (λ none commits. record { waits = λ by is. (is, refl); reads = λ free nothing q. free; enters = λ free some e. free; out = λ some cause e. refl })
+    (λ none rolls. undo_follows setting state number begun 0 RolledBack (Working visited count) refl)
+phase_follows setting state number txn begun (Stamping visited) =
+    stamp_cases setting state number begun (Follows (blocker state number) (Stamping visited)) visited (λ few. refl) (λ p. absurd (cc p))
+phase_follows setting state number txn begun (Undoing visited cause) =
+    undo_cases setting state number begun (Follows (blocker state number) (Undoing visited cause)) visited cause
+    (undo_follows setting state number begun visited cause (Undoing visited cause) refl)
 
 -- ---- a step keeps it
 

@@ -1,5 +1,5 @@
 -- What is taken of the machine alone: it holds of every state that the machine comes to.
-use Rattle.std.specs.Prelude.{◌≡◌, ◌≢◌, ◌⊎◌, ℕ, suc, ◌+◌, ◌-◌, ◌*◌, ◌<◌, ◌≤◌, Bool, true, false, Option, None, Some, is_some, slice_get, length}
+use Rattle.std.specs.Prelude.{◌≡◌, ◌≢◌, ◌⊎◌, ℕ, suc, ◌+◌, ◌-◌, ◌*◌, ◌<◌, ◌≤◌, true, false, Option, None, Some, is_some, slice_get, length}
 use Rattle.std.specs.List.{AllByRecursion}
 use Rattle.hy_stamp.specs.declared.Label.{Label}
 use Rattle.hy_bound.specs.declared.Txn.{Txn}
@@ -10,6 +10,7 @@ use Rattle.hy_bound.specs.declared.Ending.TheVariants.{Committed}
 use Rattle.hy_machine.specs.declared.Setting.{Setting}
 use Rattle.hy_protocol.specs.declared.Phase.{Phase}
 use Rattle.hy_protocol.specs.declared.Phase.TheVariants.{Working, Stamping, Undoing}
+use Rattle.hy_protocol.specs.Turns.{is_stamping}
 use Rattle.hy_machine.specs.States.{State, Open, Begun, Finished}
 use Rattle.hy_machine.specs.Tables.{Entry, Own, capacity}
 use Rattle.hy_machine.specs.Positions.{item_at}
@@ -96,12 +97,6 @@ pub data IsRanked (state : State) (rank : ℕ) (label : Label) : Begun → Type 
       → IsRanked state rank label finished.begun
   entered : (current : Open) → state.mark ≡ Some label.session → label ≡ label_of label.session (session_at state label.session)
       → IsNow state label.session current → suc rank ≡ length state.order → IsRanked state rank label current.begun
-
--- whether a transaction stands between its entry and its end
-abbrev pub is_stamping : Phase → Bool
-is_stamping (Working visited count) = false
-is_stamping (Stamping visited) = true
-is_stamping (Undoing visited cause) = false
 
 -- each entry is of a transaction that committed at its rank, or of the marked one
 pub record Ranks (state : State) : Type 0 where

@@ -7,6 +7,7 @@ pub mod Holding
 pub mod Validation
 pub mod Visits
 pub mod Turns
+pub mod TurnCases
 pub mod Steps
 pub mod Outcomes
 pub mod Measures

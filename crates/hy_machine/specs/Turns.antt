@@ -119,12 +119,12 @@ closing_turn setting state number begun = by_closing.closing_turn (found_at_core
 -- a visit of the present statement, or what closes the transaction where all are answered
 abbrev pub working_turn : Setting → State → ℕ → Txn → Begun → ℕ → ℕ → Option Bound → Turn Write
 working_turn setting state number txn begun =
-    by_phase.working_turn (layout_of setting) (found_in_chunks setting state number begun) (found_at_core setting state number begun) txn (length begun.replies)
+    by_phase.working_turn (statement_turn setting state number begun) (found_at_core setting state number begun) txn
 
 -- what an open transaction does, by where it stands
 abbrev pub phase_turn : Setting → State → ℕ → Txn → Begun → Phase → Turn Write
 phase_turn setting state number txn begun =
-    by_phase.phase_turn (layout_of setting) (found_in_chunks setting state number begun) (found_at_core setting state number begun) txn (length begun.replies)
+    by_phase.phase_turn (statement_turn setting state number begun) (found_at_core setting state number begun) txn (length begun.replies)
 
 -- what a session does that is at this transaction of its script, which is open or not
 abbrev pub session_turn : Setting → State → ℕ → Option Txn → Option Open → Turn Write

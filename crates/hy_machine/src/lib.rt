@@ -10,7 +10,7 @@
 //! Locks", SIGMOD 1981). The machine has no times, before-images, pruning or locks.
 #![tactic(auto)]
 
-use hy_bound::{Rows, Shapes, Txns};
+use hy_bound::{Shapes, StoredRows, Txns};
 use hy_value::Seq;
 
 mod laws;
@@ -27,7 +27,7 @@ pub struct Setting {
     /// The columns of each table.
     pub shapes: Shapes,
     /// The first rows of each table.
-    pub first: Seq<Rows>,
+    pub first: Seq<StoredRows>,
     /// The transactions of each session.
     pub programs: Seq<Txns>,
 }

@@ -22,9 +22,13 @@ abbrev pub validated_turn : {W : Type 0} → Option Ending → Turn W
 validated_turn None = Enters
 validated_turn (Some ending) = refused ending
 
--- COMMIT: a transaction that wrote nothing ends, any other is validated by the entries since its start
+-- COMMIT where nobody is in the way: a transaction that wrote nothing ends, any other is validated by the entries since its
+-- start
+abbrev pub free_commit_turn : {W : Type 0} → AtCore → Turn W
+free_commit_turn core = if core.wrote_nothing then Ends Read else validated_turn core.hit
+
 abbrev pub commit_turn : {W : Type 0} → AtCore → Turn W
-commit_turn core = unless_blocked core.blocked (if core.wrote_nothing then Ends Read else validated_turn core.hit)
+commit_turn core = unless_blocked core.blocked (free_commit_turn core)
 
 -- what closes a transaction: COMMIT, or ROLLBACK, which undoes from the first chunk
 abbrev pub closing_turn : {W : Type 0} → AtCore → Bool → Turn W

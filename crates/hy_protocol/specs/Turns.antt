@@ -1,11 +1,17 @@
 -- What a session does in a step, as a value, over whatever is told of a write.
-use Rattle.std.specs.Prelude.{ℕ, suc, List, [], Option, None, Some}
+use Rattle.std.specs.Prelude.{ℕ, suc, List, [], Bool, true, false, Option, None, Some}
 use Rattle.hy_bound.specs.declared.Record.{Record}
 use Rattle.hy_bound.specs.declared.Reply.{Reply}
 use Rattle.hy_bound.specs.declared.Ending.{Ending}
 use Rattle.hy_stamp.specs.declared.Label.{Label}
 use Rattle.hy_protocol.specs.declared.Phase.{Phase}
-use Rattle.hy_protocol.specs.declared.Phase.TheVariants.{Working, Undoing}
+use Rattle.hy_protocol.specs.declared.Phase.TheVariants.{Working, Stamping, Undoing}
+
+-- whether a transaction that stands so has its entry, and not its end
+abbrev pub is_stamping : Phase → Bool
+is_stamping (Working visited count) = false
+is_stamping (Stamping visited) = true
+is_stamping (Undoing visited cause) = false
 
 -- what a session does next: nothing, its script being at its end; it waits for a transaction that stands between the
 -- entry of its commit and its end; it begins its next transaction; its open transaction writes, and goes on to a phase

@@ -1,11 +1,11 @@
-//! What a session does next: the turns of its statements, told once for the machine, which defines what a run comes to,
-//! and for the engine, which runs.
+//! What a session does next, told once for the machine, which defines what a run comes to, and for the engine, which
+//! runs.
 //!
 //! A session asks where it stands (Asking): who is in its way, what a statement selects, whether a key is there, which
 //! position is free, what its records are hit by. What it does then, its turn (Turns), follows from the answers: in a
-//! visit of its statement (Statements), where it closes (Closing), and by where it stands (Sessions). The machine has all
-//! of these from here. The engine has the turns of statements; what it does at the core it tells itself (hy_event), as
-//! it has to say what becomes of the core besides.
+//! visit of its statement (Statements), where it closes (Closing), and by where it stands (Sessions). The machine answers
+//! from its snapshots; the engine answers in a visit from the chunk or the core that is visited (hy_event), which also
+//! says what the turn makes of it.
 #![tactic(auto)]
 
 use hy_bound::Ending;

@@ -1,24 +1,24 @@
 -- A BEGIN is the machine's.
-use Rattle.std.proofs.Common.{◌≡◌, ℕ, ◌+◌, ◌*◌, List, Option, None, Some, refl, sym, ap, ◌∙◌, subst}
+use Rattle.std.proofs.Common.{◌≡◌, ℕ, ◌+◌, ◌*◌, List, Option, None, Some, refl, sym, ◌∙◌, subst}
 use Rattle.std.specs.Prelude.{slice_set}
 use Rattle.hy_stamp.specs.declared.Label.{Label}
 use Rattle.hy_stamp.specs.Times.{IsLabel, id_of}
 use Rattle.hy_journal.specs.declared.CoreData.{CoreData}
 use Rattle.hy_journal.specs.Core.{core_begun}
 use Rattle.hy_event.specs.declared.SessionData.{SessionData}
-use Rattle.hy_protocol.specs.declared.Progress.{Progress}
-use Rattle.hy_protocol.specs.declared.Progress.TheVariants as came_to
 use Rattle.hy_event.specs.declared.Open.{Open}
 use Rattle.hy_event.specs.Turns.{beginning}
 use Rattle.hy_event.specs.Events.{Part, CorePart}
 use Rattle.hy_machine.specs.declared.Setting.{Setting}
 use Rattle.hy_machine.specs.States.{State, Open as MachineOpen}
+use Rattle.hy_protocol.specs.Turns.{Begins}
 use Rattle.hy_machine.specs.Sessions.{session_at}
 use Rattle.hy_refinement.specs.Sessions.{NowShows}
 use Rattle.hy_refinement.specs.Shows.{Shows}
 use Rattle.hy_refinement.specs.Taken.{core_number}
 use Rattle.hy_refinement.specs.Frames.{went_on, sessions_on}
 use Rattle.hy_refinement.specs.CoreVisits.{AtRest, IsFreeToGo, BeginsAreTaken}
+use Rattle.hy_refinement.proofs.CoreTaken.{core_taken}
 use Rattle.hy_refinement.proofs.Closes.{nobody_marked}
 use Rattle.hy_refinement.proofs.Endings.{chunk_before, parts_after}
 use Rattle.hy_refinement.proofs.BegunStates.{begun_state, rests_there}
@@ -78,12 +78,5 @@ module _ (setting : Setting) (state : State) (parts : List Part) (sessions : Lis
 
 pub begins_are : OneId → BeginsAreTaken
 begins_are one_id setting state parts sessions number session progress after new at free takes =
-    let after_is : after ≡ went_on session (beginning at.shown.shows.core) = ap (λ (step : SessionData × Progress). step.0) takes.0 in
-    let progress_is : progress ≡ came_to.Answered = ap (λ (step : SessionData × Progress). step.1) takes.0 in record {
-      answer = sym progress_is;
-      shows = subst (λ (s : SessionData). Shows setting (begun_state setting state number)
-          (slice_set parts (core_number setting) (CorePart new)) (slice_set sessions number s)) (sym after_is)
-          (subst (λ (c : CoreData). Shows setting (begun_state setting state number)
-          (slice_set parts (core_number setting) (CorePart c)) (sessions_on sessions number session (beginning at.shown.shows.core))) (sym takes.1)
-          (shows_after setting state parts sessions number session one_id at free));
-    }
+    core_taken setting state parts sessions number Begins (went_on session (beginning at.shown.shows.core)) (core_begun at.shown.shows.core)
+    (shows_after setting state parts sessions number session one_id at free) progress after new takes.0 takes.1

@@ -1,6 +1,6 @@
 -- The end of a transaction that has no entry is the machine's.
 use Rattle.std.proofs.Common.{◌≡◌, ◌≢◌, ℕ, ◌+◌, ◌-◌, ◌*◌, List, length, map, Option, None, Some}
-use Rattle.std.proofs.Common.{Bool, true, false, refl, sym, ap, ◌∙◌, subst, arith, cond, inl, inr}
+use Rattle.std.proofs.Common.{Bool, true, false, refl, sym, ap, ◌∙◌, arith, cond, inl, inr}
 use Rattle.std.specs.Prelude.{slice_set}
 use Rattle.std.specs.Option.{option_map}
 use Rattle.std.proofs.lemmas.Bool.{cases_eq, ne_eqb}
@@ -13,20 +13,17 @@ use Rattle.hy_event.specs.declared.SessionData.{SessionData}
 use Rattle.hy_event.specs.declared.Open.{Open}
 use Rattle.hy_protocol.specs.declared.Phase.{Phase}
 use Rattle.hy_protocol.specs.declared.Phase.TheVariants as phase
-use Rattle.hy_protocol.specs.declared.Progress.{Progress}
-use Rattle.hy_protocol.specs.declared.Progress.TheVariants as came_to
 use Rattle.hy_event.specs.Sessions.{place_noted, written_in, written}
 use Rattle.hy_event.specs.Turns.{with_ended as ended_here}
+use Rattle.hy_event.specs.CoreTurns.{ended_by}
 use Rattle.hy_event.specs.Events.{Part, CorePart}
 use Rattle.hy_machine.specs.declared.Setting.{Setting}
 use Rattle.hy_machine.specs.States.{State, Open as MachineOpen}
-use Rattle.hy_protocol.specs.Turns.{Ends}
+use Rattle.hy_protocol.specs.Turns.{Ends, is_stamping}
 use Rattle.hy_machine.specs.Writes.{written as written_there}
 use Rattle.hy_machine.specs.Sessions.{session_at, label_of, blocker_of}
-use Rattle.hy_machine.specs.Steps.{after_turn}
 use Rattle.hy_refinement.specs.Sessions.{OpenShows}
 use Rattle.hy_refinement.specs.Shows.{Shows}
-use Rattle.hy_machine.specs.Kept.{is_stamping}
 use Rattle.hy_refinement.specs.Stamped.{is_unstamped, is_unstamped_by, entries_counted}
 use Rattle.hy_refinement.specs.Taken.{AtOpen, core_number}
 use Rattle.hy_refinement.specs.CoreVisits.{IsFreeToGo, ClosesAreTaken}
@@ -35,6 +32,7 @@ use Rattle.hy_refinement.proofs.NotedPlaces.{not_marked, places_are, written_pla
 use Rattle.hy_refinement.proofs.SamePlaces.{InOrder, same_places, notes_in_order, written_in_order}
 use Rattle.hy_refinement.proofs.EndedOpens.{ended, sessions_ended}
 use Rattle.hy_refinement.proofs.Endings.{ended_shown}
+use Rattle.hy_refinement.proofs.CoreTaken.{core_taken}
 
 -- ---- what it wrote
 
@@ -76,21 +74,16 @@ nobody_marked state number free other = by state.mark refl free
     ]
 
 -- a core where nobody is marked is left as it is closed
-left_is_closed : (core : CoreData) (start : ℕ) → core.mark ≡ None → core_left core start ≡ core_closed core start
-left_is_closed core start none =
-    ap (λ (mark : Option Label). record { next = core.next; active = without start core.active; entries = core.entries; mark = mark }) (sym none)
+unmarked_left : (core : CoreData) (now : Open) (b : Bool) → core.mark ≡ None → cond b (core_left core now.start) (core_closed core now.start) ≡ core_left core now.start
+unmarked_left core now true none = refl
+unmarked_left core now false none =
+    ap (λ (mark : Option Label). record { next = core.next; active = without now.start core.active; entries = core.entries; mark = mark }) none
 
 pub closes_are : ClosesAreTaken
 closes_are setting state parts sessions number session now current ending progress after new at free quiet holds_nothing takes =
-    let after_is : after ≡ ended_here ending session = ap (λ (step : SessionData × Progress). step.0) takes.0 in
-    let progress_is : progress ≡ came_to.Answered = ap (λ (step : SessionData × Progress). step.1) takes.0 in record {
-      answer = sym progress_is;
-      shows = subst (λ (s : SessionData). Shows setting (after_turn setting state number (Ends ending)).0
-          (slice_set parts (core_number setting) (CorePart new)) (slice_set sessions number s)) (sym after_is)
-          (subst (λ (c : CoreData). Shows setting (after_turn setting state number (Ends ending)).0
-          (slice_set parts (core_number setting) (CorePart c)) (slice_set sessions number (ended_here ending session)))
-          (left_is_closed at.shown.shows.core now.start core_unmarked ∙ sym takes.1) shows_after);
-    }
+    core_taken setting state parts sessions number (Ends ending) (ended_here ending session) (core_left at.shown.shows.core now.start)
+    shows_after progress after new takes.0
+    (takes.1 ∙ (ap (ended_by at.shown.shows.core) at.is_open.open_here ∙ unmarked_left at.shown.shows.core now (is_stamping now.phase) core_unmarked))
   where
     unmarked : state.mark ≡ None
     unmarked = nobody_marked state number free (not_marked setting state number current at.shown.kept at.is_open.open_there quiet)

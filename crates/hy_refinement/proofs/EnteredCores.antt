@@ -11,13 +11,14 @@ use Rattle.hy_journal.specs.Core.{core_entered, entry_of as note_of}
 use Rattle.hy_event.specs.declared.SessionData.{SessionData}
 use Rattle.hy_event.specs.declared.Open.{Open}
 use Rattle.hy_protocol.specs.declared.Phase.TheVariants as phase
+use Rattle.hy_protocol.specs.Turns.{is_stamping}
 use Rattle.hy_event.specs.Sessions.{label_of as label_here, written}
 use Rattle.hy_machine.specs.declared.Setting.{Setting}
 use Rattle.hy_machine.specs.States.{State, Finished, Open as MachineOpen}
 use Rattle.hy_machine.specs.Tables.{Entry}
 use Rattle.hy_machine.specs.Writes.{written as written_there}
 use Rattle.hy_machine.specs.Sessions.{snapshot, entry_of}
-use Rattle.hy_machine.specs.Kept.{Kept, is_stamping}
+use Rattle.hy_machine.specs.Kept.{Kept}
 use Rattle.hy_refinement.specs.Transactions.{IsOpen}
 use Rattle.hy_refinement.specs.Numbers.{EntryShows, EntriesShow, TimesRise, TimesApart, ActiveIs, StampingShows, MarkShows, CoreShows, noted}
 use Rattle.hy_refinement.specs.Sessions.{NotesShow, OpenShows}

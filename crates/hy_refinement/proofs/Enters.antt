@@ -1,5 +1,5 @@
 -- The entry of a transaction into the journal is the machine's.
-use Rattle.std.proofs.Common.{◌≡◌, ℕ, ◌+◌, ◌*◌, List, [], Option, None, Some, false, refl, sym, ap, ◌∙◌, subst}
+use Rattle.std.proofs.Common.{◌≡◌, ℕ, ◌+◌, ◌*◌, List, [], Option, None, Some, false, sym, ap, ◌∙◌, subst}
 use Rattle.std.specs.Prelude.{slice_set}
 use Rattle.std.specs.Option.{option_map}
 use Rattle.hy_journal.specs.declared.CoreData.{CoreData}
@@ -7,19 +7,18 @@ use Rattle.hy_journal.specs.Core.{core_entered}
 use Rattle.hy_event.specs.declared.SessionData.{SessionData}
 use Rattle.hy_event.specs.declared.Open.{Open}
 use Rattle.hy_protocol.specs.declared.Phase.TheVariants as phase
-use Rattle.hy_protocol.specs.declared.Progress.{Progress}
 use Rattle.hy_protocol.specs.declared.Progress.TheVariants as came_to
 use Rattle.hy_event.specs.Sessions.{label_of as label_here, written}
-use Rattle.hy_event.specs.Turns.{after_entry}
+use Rattle.hy_event.specs.Turns.{Step, after_entry}
+use Rattle.hy_event.specs.CoreTurns.{entered_by}
 use Rattle.hy_event.specs.Events.{Part, CorePart}
 use Rattle.hy_machine.specs.declared.Setting.{Setting}
 use Rattle.hy_machine.specs.States.{State, Open as MachineOpen}
-use Rattle.hy_protocol.specs.Turns.{Enters}
+use Rattle.hy_protocol.specs.Turns.{Enters, is_stamping}
 use Rattle.hy_machine.specs.Writes.{written as written_there}
 use Rattle.hy_machine.specs.Sessions.{session_at}
 use Rattle.hy_machine.specs.Holding.{undone}
 use Rattle.hy_machine.specs.Steps.{order_with, after_visit, after_turn}
-use Rattle.hy_machine.specs.Kept.{is_stamping}
 use Rattle.hy_refinement.specs.Shows.{Shows}
 use Rattle.hy_refinement.specs.Frames.{went_on, sessions_on}
 use Rattle.hy_refinement.specs.Taken.{AtOpen, core_number}
@@ -30,6 +29,7 @@ use Rattle.hy_refinement.proofs.Closes.{wrote_is, nobody_marked}
 use Rattle.hy_refinement.proofs.Endings.{chunk_before, parts_after}
 use Rattle.hy_refinement.proofs.EnteredStates.{entered_here, with_entry_of}
 use Rattle.hy_refinement.proofs.EnteredCores.{core_entered_shows}
+use Rattle.hy_refinement.proofs.CoreTaken.{core_taken}
 use Rattle.hy_refinement.proofs.EnteredSessions.{sessions_entered_show}
 use Rattle.hy_refinement.proofs.EnteredPlaces.{entered_shows}
 
@@ -87,19 +87,12 @@ module _ (setting : Setting) (state : State) (parts : List Part) (sessions : Lis
 
 pub enters_are : EntersAreTaken
 enters_are setting state parts sessions number session now current visited count progress after new at free stands takes =
-    let after_is : after ≡ went_on session (entered_here at.shown.shows.core.next now) =
-    ap (λ (step : SessionData × Progress). step.0) takes.0
-    ∙ (let by : Option Open → SessionData = λ (o : Option Open). record session { now = option_map (after_entry at.shown.shows.core.next) o } in
-    ap by at.is_open.open_here) in
-    let progress_is : progress ≡ came_to.Moved = ap (λ (step : SessionData × Progress). step.1) takes.0 in record {
-      answer = sym progress_is;
-      shows = subst (λ (s : SessionData). Shows setting (after_turn setting state number Enters).0
-          (slice_set parts (core_number setting) (CorePart new)) (slice_set sessions number s)) (sym after_is)
-          (subst (λ (c : CoreData). Shows setting (after_turn setting state number Enters).0
-          (slice_set parts (core_number setting) (CorePart c)) (sessions_on sessions number session (entered_here at.shown.shows.core.next now))) (sym takes.1)
-          (subst (λ (s : State). Shows setting s
-          (slice_set parts (core_number setting) (CorePart (core_entered at.shown.shows.core (label_here session) now.start now.notes)))
-          (sessions_on sessions number session (entered_here at.shown.shows.core.next now)))
-          (state_is setting state parts sessions number session now current at free visited count stands.phase_is)
-          (shows_after setting state parts sessions number session now current at free visited count stands.phase_is)));
-    }
+    let core = at.shown.shows.core in
+    let entered : CoreData = core_entered core (label_here session) now.start now.notes in
+    let left : Option Open → Step = λ (o : Option Open). (record session { now = option_map (after_entry core.next) o }, came_to.Moved) in
+    core_taken setting state parts sessions number Enters (went_on session (entered_here core.next now)) entered
+    (subst (λ (s : State). Shows setting s (slice_set parts (core_number setting) (CorePart entered))
+    (sessions_on sessions number session (entered_here core.next now)))
+    (state_is setting state parts sessions number session now current at free visited count stands.phase_is)
+    (shows_after setting state parts sessions number session now current at free visited count stands.phase_is))
+    progress after new (takes.0 ∙ ap left at.is_open.open_here) (takes.1 ∙ ap (entered_by session core) at.is_open.open_here)

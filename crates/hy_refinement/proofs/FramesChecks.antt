@@ -1,27 +1,22 @@
 -- A visit of an INSERT that looks for its key is the machine's.
-use Rattle.std.proofs.Common.{◌≡◌, ℕ, suc, List, [], ◌∷◌, length, map, Option, None, Some, Bool, cond, refl, sym, ap, ◌∙◌, subst, inl, inr}
+use Rattle.std.proofs.Common.{◌≡◌, ℕ, suc, List, [], ◌∷◌, length, map, Option, None, Some, Bool, true, false, cond, refl, sym, ap, ◌∙◌, subst}
 use Rattle.std.specs.Prelude.{◌||◌}
 use Rattle.std.specs.List.{list_any}
-use Rattle.std.proofs.lemmas.Bool.{cases_Bool}
 use Rattle.hy_value.specs.declared.Value.{Value}
 use Rattle.hy_bound.specs.declared.Bound.{Bound}
 use Rattle.hy_bound.specs.declared.Bound.TheVariants.{Insert}
-use Rattle.hy_bound.specs.declared.Reply.{Reply}
 use Rattle.hy_bound.specs.declared.Reply.TheVariants as reply
 use Rattle.hy_bound.specs.Predicate.{column_of, truth_at}
-use Rattle.hy_meaning.specs.Statement.{Table}
 use Rattle.hy_plan.specs.Reads.{key_is_value, records_of}
 use Rattle.hy_undo.specs.Places.{Cell}
 use Rattle.hy_undo.specs.Chunks.{ChunkData}
 use Rattle.hy_event.specs.declared.SessionData.{SessionData}
 use Rattle.hy_event.specs.declared.Open.{Open}
 use Rattle.hy_protocol.specs.declared.Progress.{Progress}
-use Rattle.hy_protocol.specs.declared.Progress.TheVariants as came
 use Rattle.hy_event.specs.Events.{Part, ChunkPart}
 use Rattle.hy_event.specs.Sessions.{viewer_of}
 use Rattle.hy_protocol.specs.Turns.{goes_on}
-use Rattle.hy_event.specs.Turns.{Step, after_turn, answer_turn, after_visit as visited_by, after_answer as answered_by, with_changed}
-use Rattle.hy_protocol.specs.declared.Phase.TheVariants as phase
+use Rattle.hy_event.specs.Turns.{Takes, answer_turn}
 use Rattle.hy_event.specs.Inserting.{sees_key, CheckVisit}
 use Rattle.hy_machine.specs.declared.Setting.{Setting}
 use Rattle.hy_machine.specs.States.{State, Open as MachineOpen}
@@ -33,10 +28,10 @@ use Rattle.hy_machine.specs.Turns.{answers as answers_there}
 use Rattle.hy_machine.specs.Visits.{has_key_in, sees_key as sees_key_there}
 use Rattle.hy_refinement.specs.Sessions.{OpenShows, GatheredBy, statement_at}
 use Rattle.hy_refinement.specs.Taken.{AtChunk, AtStatement, IsTaken, chunk_number}
-use Rattle.hy_refinement.specs.Frames.{went_on, OwnStepsShow}
+use Rattle.hy_refinement.specs.Frames.{OwnStepsShow}
 use Rattle.hy_refinement.specs.Visits.{ChecksAreTaken}
 use Rattle.hy_refinement.proofs.FramesSeen.{was_shown, seen_cells}
-use Rattle.hy_refinement.proofs.FramesReads.{same_records, read_on, read_out, read_moves, read_answers}
+use Rattle.hy_refinement.proofs.FramesReads.{same_records, on_now, out_now, read_moves, read_answers}
 
 -- ---- the key
 
@@ -50,28 +45,6 @@ any_same row key cell [] = refl
 any_same row key cell (pos ∷ positions) =
     ap (λ (b : Bool). b || list_any (truth_at (key_is_value key (column_of row key))) (map cell positions)) (same_test row key (cell pos))
     ∙ ap (λ (b : Bool). has_key_in row (Some key) (cell pos) || b) (any_same row key cell positions)
-
--- ---- sessions after a turn
-
--- a session after a visit that goes on
-pub on_now : (session : SessionData) (now : Open) (visited : ℕ) → session.now ≡ Some now
-    → ◌≡◌ {A = Step} (after_turn None session (goes_on visited)) (went_on session (read_on visited now.gathered now), came.Moved)
-on_now session now visited e =
-    ap (λ (here : Option Open). let step : Step = (
-      with_changed (visited_by [] (phase.Working (suc visited) 0))
-          (record session { now = here }),
-      came.Moved,
-    ) in step) e
-
-pub out_now : (session : SessionData) (now : Open) (statement : Bound) (gathered : List Table) (reply : Reply) → session.now ≡ Some now
-    → ◌≡◌ {A = Step} (after_turn None session (answer_turn session now statement gathered [] reply None))
-    (went_on session (read_out reply (records_of session.shapes (suc (length now.replies)) statement gathered) now), came.Answered)
-out_now session now statement gathered reply e =
-    ap (λ (here : Option Open). let step : Step = (
-      with_changed (answered_by [] reply None
-          (records_of session.shapes (suc (length now.replies)) statement gathered)) (record session { now = here }),
-      came.Answered,
-    ) in step) e
 
 -- ---- the visit
 
@@ -107,32 +80,27 @@ module _ (own : OwnStepsShow) (setting : Setting) (state : State) (parts : List 
   taken : IsTaken setting state parts sessions number
       (cond found_there (answers_there setting current.begun (Insert table row) [] [] reply.Duplicate None) (goes_on_there visited))
       (chunk_number setting table chunk) progress after (ChunkPart new)
-  taken = elim (cases_Bool found_there) [
-    | inl yes' ↦
-        subst (λ (b : Bool). IsTaken setting state parts sessions number
-        (cond b (answers_there setting current.begun (Insert table row) [] [] reply.Duplicate None) (goes_on_there visited))
-        (chunk_number setting table chunk) progress after (ChunkPart new)) (sym yes')
-        (read_answers own setting state parts sessions number session now current table chunk old at visited count stands.phase_is progress after new
-        visit.chunk
-        reply.Duplicate (records_of session.shapes (suc (length now.replies)) (Insert table row) [])
-        (records_of setting.shapes (suc (length current.begun.replies)) (Insert table row) [])
-        (same_records setting session now current (Insert table row) []
-        (at.at_open.shown.shows.sessions_show.each number session at.at_open.is_open.found).session_is.shapes was.open_shows.replies)
-        (visit.turn
-        ∙ (ap (λ (b : Bool). after_turn None session (cond b (answer_turn session now (Insert table row) [] [] reply.Duplicate None) (goes_on visited)))
-        (found_same ∙ yes')
-        ∙ out_now session now (Insert table row) [] reply.Duplicate at.at_open.is_open.open_here)))
-    | inr isnt ↦
-        subst (λ (b : Bool). IsTaken setting state parts sessions number
-        (cond b (answers_there setting current.begun (Insert table row) [] [] reply.Duplicate None) (goes_on_there visited))
-        (chunk_number setting table chunk) progress after (ChunkPart new)) (sym isnt)
-        (read_moves own setting state parts sessions number session now current table chunk old at visited count stands.phase_is progress after new visit.chunk
-        now.gathered nothing_gathered
-        (visit.turn
-        ∙ (ap (λ (b : Bool). after_turn None session (cond b (answer_turn session now (Insert table row) [] [] reply.Duplicate None) (goes_on visited)))
-        (found_same ∙ isnt)
-        ∙ on_now session now visited at.at_open.is_open.open_here)))
-  ]
+  taken =
+      by_found found_there
+      (subst (λ (b : Bool). Takes session (cond b (answer_turn session now (Insert table row) [] [] reply.Duplicate None) (goes_on visited)) progress after)
+      found_same visit.turn)
+    where
+      by_found : (found : Bool)
+          → Takes session (cond found (answer_turn session now (Insert table row) [] [] reply.Duplicate None) (goes_on visited)) progress after
+          → IsTaken setting state parts sessions number
+          (cond found (answers_there setting current.begun (Insert table row) [] [] reply.Duplicate None) (goes_on_there visited))
+          (chunk_number setting table chunk) progress after (ChunkPart new)
+      by_found true takes =
+          read_answers own setting state parts sessions number session now current table chunk old at visited count stands.phase_is progress after new
+          visit.chunk
+          reply.Duplicate (records_of session.shapes (suc (length now.replies)) (Insert table row) [])
+          (records_of setting.shapes (suc (length current.begun.replies)) (Insert table row) [])
+          (same_records setting session now current (Insert table row) []
+          (at.at_open.shown.shows.sessions_show.each number session at.at_open.is_open.found).session_is.shapes was.open_shows.replies)
+          (takes ∙ out_now session now (Insert table row) [] reply.Duplicate at.at_open.is_open.open_here)
+      by_found false takes =
+          read_moves own setting state parts sessions number session now current table chunk old at visited count stands.phase_is progress after new
+          visit.chunk now.gathered nothing_gathered (takes ∙ on_now session now visited at.at_open.is_open.open_here)
 
 pub checks : OwnStepsShow → ChecksAreTaken
 checks own setting state parts sessions number session now current table chunk old visited count row key progress after new at stands chunk_is visit =

@@ -18,10 +18,10 @@ use Rattle.hy_protocol.specs.declared.Progress.{Progress}
 use Rattle.hy_protocol.specs.declared.Progress.TheVariants as came
 use Rattle.hy_event.specs.Events.{Part, ChunkPart}
 use Rattle.hy_event.specs.Gathering.{select_read_plan, group_read_plan}
-use Rattle.hy_event.specs.Turns.{Step, after_visit as visited_by, after_answer as answered_by}
+use Rattle.hy_event.specs.Turns.{Step, after_turn, answer_turn, with_changed, after_visit as visited_by, after_answer as answered_by}
 use Rattle.hy_machine.specs.declared.Setting.{Setting}
 use Rattle.hy_machine.specs.States.{State, Open as MachineOpen}
-use Rattle.hy_protocol.specs.Turns.{Visits, Answers}
+use Rattle.hy_protocol.specs.Turns.{Visits, Answers, goes_on}
 use Rattle.hy_machine.specs.Tables.{Tables}
 use Rattle.hy_machine.specs.Sessions.{session_at, txn_at, view}
 use Rattle.hy_machine.specs.Steps.{after_visit, after_answer}
@@ -67,6 +67,26 @@ read_on visited gathered now = visited_by [] (phase.Working (suc visited) 0) (re
 -- and after the last one
 abbrev pub read_out : Reply → List Record → Open → Open
 read_out reply records now = answered_by [] reply None records now
+
+-- a session after a visit that goes on
+pub on_now : (session : SessionData) (now : Open) (visited : ℕ) → session.now ≡ Some now
+    → ◌≡◌ {A = Step} (after_turn None session (goes_on visited)) (went_on session (read_on visited now.gathered now), came.Moved)
+on_now session now visited e =
+    ap (λ (here : Option Open). let step : Step = (
+      with_changed (visited_by [] (phase.Working (suc visited) 0))
+          (record session { now = here }),
+      came.Moved,
+    ) in step) e
+
+pub out_now : (session : SessionData) (now : Open) (statement : Bound) (gathered : List Table) (reply : Reply) → session.now ≡ Some now
+    → ◌≡◌ {A = Step} (after_turn None session (answer_turn session now statement gathered [] reply None))
+    (went_on session (read_out reply (records_of session.shapes (suc (length now.replies)) statement gathered) now), came.Answered)
+out_now session now statement gathered reply e =
+    ap (λ (here : Option Open). let step : Step = (
+      with_changed (answered_by [] reply None
+          (records_of session.shapes (suc (length now.replies)) statement gathered)) (record session { now = here }),
+      came.Answered,
+    ) in step) e
 
 next_of : (a b c d : ℕ) → ◌≡◌ {A = Phase} (phase.Working a b) (phase.Working c d) → c ≡ a
 next_of a b c d e = cc

@@ -1,6 +1,6 @@
 -- What an open transaction that works sees in a chunk is what its view has there.
 use Rattle.std.proofs.Common.{◌≡◌, ◌≢◌, ℕ, zero, suc, ◌+◌, ◌*◌, List, [], ◌∷◌, length, map, drop, Option, None, Some, Bool, true, false, cond}
-use Rattle.std.proofs.Common.{refl, sym, ap, ◌∙◌, arith, inl, inr, is_some, subst}
+use Rattle.std.proofs.Common.{refl, sym, ap, ◌∙◌, arith, inl, inr, is_some}
 use Rattle.std.specs.Prelude.{slice_get, ◌&&◌}
 use Rattle.std.specs.List.{range_with_len}
 use Rattle.std.proofs.lemmas.Bool.{cases_Bool, and_from}
@@ -10,6 +10,7 @@ use Rattle.hy_undo.specs.Chunks.{ChunkData, rows_seen}
 use Rattle.hy_event.specs.declared.SessionData.{SessionData}
 use Rattle.hy_event.specs.declared.Open.{Open}
 use Rattle.hy_protocol.specs.declared.Phase.TheVariants as phase
+use Rattle.hy_protocol.specs.Turns.{is_stamping}
 use Rattle.hy_event.specs.Sessions.{viewer_of}
 use Rattle.hy_event.specs.Events.{Part}
 use Rattle.hy_machine.specs.declared.Setting.{Setting}
@@ -19,7 +20,7 @@ use Rattle.hy_machine.specs.Tables.{chunk_of, positions_in}
 use Rattle.hy_machine.specs.Writes.{written_chunks, is_among}
 use Rattle.hy_machine.specs.Sessions.{snapshot, view}
 use Rattle.hy_machine.specs.Holding.{holds, undone}
-use Rattle.hy_machine.specs.Kept.{OwnFits, is_stamping}
+use Rattle.hy_machine.specs.Kept.{OwnFits}
 use Rattle.hy_refinement.specs.Sessions.{OpenShows}
 use Rattle.hy_refinement.specs.Places.{cell_held}
 use Rattle.hy_refinement.specs.Taken.{AtChunk}

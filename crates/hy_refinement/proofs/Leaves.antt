@@ -1,6 +1,6 @@
 -- The end of a transaction whose chunks are stamped is the machine's.
 use Rattle.std.proofs.Common.{◌≡◌, ℕ, ◌+◌, ◌-◌, ◌*◌, ◌<◌, ◌≤◌, List, length, drop, Some, Bool, true, false, cond, not, is_some}
-use Rattle.std.proofs.Common.{sym, ap, ◌∙◌, subst, arith, inl, inr}
+use Rattle.std.proofs.Common.{sym, ap, ◌∙◌, arith, inl, inr}
 use Rattle.std.specs.Prelude.{slice_get, slice_set}
 use Rattle.std.proofs.lemmas.Bool.{cases_Bool, and_parts}
 use Rattle.std.proofs.lemmas.List.{take_all}
@@ -13,26 +13,24 @@ use Rattle.hy_chain.specs.Chains.{newest}
 use Rattle.hy_undo.specs.Places.{Place}
 use Rattle.hy_undo.specs.Chunks.{is_own}
 use Rattle.hy_journal.specs.declared.CoreData.{CoreData}
-use Rattle.hy_journal.specs.Core.{core_left}
+use Rattle.hy_journal.specs.Core.{core_left, core_closed}
 use Rattle.hy_event.specs.declared.SessionData.{SessionData}
 use Rattle.hy_event.specs.declared.Open.{Open}
+use Rattle.hy_protocol.specs.declared.Phase.{Phase}
 use Rattle.hy_protocol.specs.declared.Phase.TheVariants as phase
 use Rattle.hy_protocol.specs.declared.Progress.{Progress}
-use Rattle.hy_protocol.specs.declared.Progress.TheVariants as came_to
 use Rattle.hy_event.specs.Sessions.{label_of as label_here, written_in, written}
 use Rattle.hy_event.specs.Turns.{with_ended as ended_here}
-use Rattle.hy_event.specs.CoreTurns.{TakesAtCore, leave_turn}
+use Rattle.hy_event.specs.CoreTurns.{TakesAtCore, ended_by}
 use Rattle.hy_event.specs.Events.{Part, CorePart}
 use Rattle.hy_machine.specs.declared.Setting.{Setting}
 use Rattle.hy_machine.specs.States.{State, Open as MachineOpen}
 use Rattle.hy_machine.specs.Tables.{Entry, chunk_of}
-use Rattle.hy_protocol.specs.Turns.{Ends}
+use Rattle.hy_protocol.specs.Turns.{Ends, is_stamping}
 use Rattle.hy_machine.specs.Positions.{item_at}
 use Rattle.hy_machine.specs.Writes.{written_chunks, is_among, written as written_there}
 use Rattle.hy_machine.specs.Sessions.{snapshot}
 use Rattle.hy_machine.specs.Holding.{holds, has_pair, undone}
-use Rattle.hy_machine.specs.Steps.{after_turn}
-use Rattle.hy_machine.specs.Kept.{is_stamping}
 use Rattle.hy_refinement.specs.Stamped.{HasNotStamped, is_unstamped, entries_counted}
 use Rattle.hy_refinement.specs.Numbers.{StampingShows}
 use Rattle.hy_refinement.specs.Sessions.{OpenShows}
@@ -49,6 +47,7 @@ use Rattle.hy_refinement.proofs.StampedStages.{unstamped_is}
 use Rattle.hy_refinement.proofs.EndedOpens.{ended, sessions_ended}
 use Rattle.hy_refinement.proofs.EndedPlaces.{LeavesNothing}
 use Rattle.hy_refinement.proofs.Endings.{ended_shown}
+use Rattle.hy_refinement.proofs.CoreTaken.{core_taken}
 
 module _ (setting : Setting) (state : State) (parts : List Part) (sessions : List SessionData) (number : ℕ) (session : SessionData)
     (now : Open) (current : MachineOpen) (visited : ℕ) (at : AtOpen setting state parts sessions number session now current)
@@ -153,19 +152,13 @@ module _ (setting : Setting) (state : State) (parts : List Part) (sessions : Lis
         let long = is.places in
         leaves_nothing table chunk index (omega (arith, within, long)) place shown)
 
-    left_taken : (progress : Progress) (after : SessionData) (new : CoreData) → TakesAtCore session core (Some (leave_turn core now)) progress after new
+    left_taken : (progress : Progress) (after : SessionData) (new : CoreData) → TakesAtCore session core (Some (Ends ending)) progress after new
         → IsTaken setting state parts sessions number (Ends ending) (core_number setting) progress after (CorePart new)
     left_taken progress after new takes =
-        let after_is : after ≡ ended_here ending session =
-        ap (λ (step : SessionData × Progress). step.0) takes.0
-        ∙ ap (λ (n : ℕ). ended_here (Committed (n - 1)) session) at.shown.shows.core_shows.entries_show.count in
-        let progress_is : progress ≡ came_to.Answered = ap (λ (step : SessionData × Progress). step.1) takes.0 in record {
-          answer = sym progress_is;
-          shows = subst (λ (s : SessionData). Shows setting (after_turn setting state number (Ends ending)).0
-              (slice_set parts (core_number setting) (CorePart new)) (slice_set sessions number s)) (sym after_is)
-              (subst (λ (c : CoreData). Shows setting (after_turn setting state number (Ends ending)).0
-              (slice_set parts (core_number setting) (CorePart c)) (slice_set sessions number (ended_here ending session))) (sym takes.1) shows_after);
-        }
+        core_taken setting state parts sessions number (Ends ending) (ended_here ending session) (core_left core now.start) shows_after
+        progress after new takes.0
+        (takes.1 ∙ (ap (ended_by core) at.is_open.open_here
+        ∙ ap (λ (stands : Phase). cond (is_stamping stands) (core_left core now.start) (core_closed core now.start)) phase_is))
 
 pub leaves_are : VisitedChunksShow → LeavesAreTaken
 leaves_are visited_show setting state parts sessions number session now current visited progress after new at phase_is all_visited takes =

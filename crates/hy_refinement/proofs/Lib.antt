@@ -56,6 +56,7 @@ mod EndedStarts
 mod EndedOpens
 mod EndedPlaces
 mod EndedCores
+mod CoreTaken
 mod Closes
 mod Endings
 mod Leaves

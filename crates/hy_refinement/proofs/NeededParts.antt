@@ -131,8 +131,5 @@ core_is_no_chunk table chunk e = absurd (let f : 0 ≡ 1 = ap kind_of_need e in 
 pub chunk_is_no_core : (table chunk : ℕ) → Chunk table chunk ≡ Core → ⊥
 chunk_is_no_core table chunk e = absurd (let f : 1 ≡ 0 = ap kind_of_need e in cc)
 
-pub done_is_no_chunk : (table chunk : ℕ) → Done ≡ Chunk table chunk → ⊥
-done_is_no_chunk table chunk e = absurd (let f : 2 ≡ 1 = ap kind_of_need e in cc)
-
 pub done_is_no_core : Done ≡ Core → ⊥
 done_is_no_core e = absurd (let f : 2 ≡ 0 = ap kind_of_need e in cc)

@@ -14,6 +14,7 @@ use Rattle.hy_event.specs.declared.SessionData.{SessionData}
 use Rattle.hy_event.specs.declared.Open.{Open}
 use Rattle.hy_protocol.specs.declared.Phase.{Phase}
 use Rattle.hy_protocol.specs.declared.Phase.TheVariants as phase
+use Rattle.hy_protocol.specs.Turns.{is_stamping}
 use Rattle.hy_event.specs.Sessions.{place_noted, written_in, written}
 use Rattle.hy_event.specs.Events.{Part}
 use Rattle.hy_machine.specs.declared.Setting.{Setting}
@@ -24,7 +25,7 @@ use Rattle.hy_machine.specs.Writes.{place_at, written as written_there}
 use Rattle.hy_machine.specs.Sessions.{session_at, snapshot, pair_of}
 use Rattle.hy_refinement.specs.Numbers.{noted}
 use Rattle.hy_refinement.specs.Sessions.{OpenShows}
-use Rattle.hy_machine.specs.Kept.{Kept, is_stamping}
+use Rattle.hy_machine.specs.Kept.{Kept}
 use Rattle.hy_refinement.specs.Taken.{AtOpen}
 use Rattle.hy_refinement.proofs.RivalTops.{open_shown}
 

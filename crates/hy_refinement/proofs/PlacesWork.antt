@@ -1,5 +1,5 @@
 -- An open transaction at work in a chunk that it visits, and what it has gathered before its next statement.
-use Rattle.std.proofs.Common.{◌≡◌, ℕ, List, [], ◌∷◌, Option, None, Some, true, false, refl, sym, ap, ◌∙◌, subst, arith}
+use Rattle.std.proofs.Common.{◌≡◌, ℕ, List, [], ◌∷◌, Option, None, Some, true, false, refl, sym, ap, ◌∙◌, arith}
 use Rattle.std.proofs.lemmas.Option.{same_Some}
 use Rattle.hy_stamp.specs.declared.Label.{Label}
 use Rattle.hy_stamp.specs.Times.{IsLabel, id_of}
@@ -11,6 +11,7 @@ use Rattle.hy_journal.specs.declared.CoreData.{CoreData}
 use Rattle.hy_event.specs.declared.SessionData.{SessionData}
 use Rattle.hy_event.specs.declared.Open.{Open}
 use Rattle.hy_protocol.specs.declared.Phase.TheVariants as phase
+use Rattle.hy_protocol.specs.Turns.{is_stamping}
 use Rattle.hy_event.specs.Gathering.{select_read_plan, group_read_plan}
 use Rattle.hy_event.specs.Sessions.{label_of}
 use Rattle.hy_event.specs.Events.{Part}
@@ -18,7 +19,6 @@ use Rattle.hy_machine.specs.declared.Setting.{Setting}
 use Rattle.hy_machine.specs.States.{State, Open as MachineOpen}
 use Rattle.hy_machine.specs.Tables.{Tables}
 use Rattle.hy_machine.specs.Holding.{undone}
-use Rattle.hy_machine.specs.Kept.{is_stamping}
 use Rattle.hy_refinement.specs.Transactions.{IsOpen}
 use Rattle.hy_refinement.specs.Sessions.{GatheredBy, tables_taken}
 use Rattle.hy_refinement.specs.Taken.{AtChunk}

@@ -19,6 +19,7 @@ use Rattle.hy_event.specs.Sessions.{viewer_of, label_of as label_here}
 use Rattle.hy_machine.specs.declared.Setting.{Setting}
 use Rattle.hy_protocol.specs.declared.Phase.{Phase}
 use Rattle.hy_protocol.specs.declared.Phase.TheVariants.{Working, Stamping, Undoing}
+use Rattle.hy_protocol.specs.Turns.{is_stamping}
 use Rattle.hy_machine.specs.States.{State, Session, Open as MachineOpen}
 use Rattle.hy_machine.specs.Tables.{Entry, Cell, chunk_of}
 use Rattle.hy_machine.specs.Positions.{item_at, last_some}
@@ -28,7 +29,7 @@ use Rattle.hy_machine.specs.Holding.{holds, holder_from, has_pair, changer_at, u
 use Rattle.hy_refinement.specs.Stamped.{HasNotStamped, is_unstamped, entries_counted, is_unstamped_by}
 use Rattle.hy_refinement.specs.Transactions.{IsOpen}
 use Rattle.hy_refinement.specs.Places.{IsOwnStamp}
-use Rattle.hy_machine.specs.Kept.{Kept, is_stamping, entered}
+use Rattle.hy_machine.specs.Kept.{Kept, entered}
 use Rattle.hy_refinement.specs.Rivals.{ShownAt, RivalsAreOpponents}
 use Rattle.hy_refinement.proofs.WrittenPlaces.{own_among}
 use Rattle.hy_refinement.proofs.Orders.{IsLastOf, last_or_none, last_some_none, last_some_at, dropped_get, changes_none, changes_some}

@@ -1,5 +1,5 @@
 -- Which chunks the marked transaction has not stamped.
-use Rattle.std.proofs.Common.{◌≡◌, ℕ, Option, Some, take, not, sym, ap, ◌∙◌, subst}
+use Rattle.std.proofs.Common.{◌≡◌, ℕ, Option, Some, take, not, ap, ◌∙◌}
 use Rattle.hy_protocol.specs.declared.Phase.{Phase}
 use Rattle.hy_protocol.specs.declared.Phase.TheVariants as phase
 use Rattle.hy_machine.specs.declared.Setting.{Setting}

@@ -22,12 +22,11 @@ use Rattle.hy_event.specs.Events.{Part, ChunkPart}
 use Rattle.hy_machine.specs.declared.Setting.{Setting}
 use Rattle.hy_machine.specs.States.{State, Session, Open as MachineOpen}
 use Rattle.hy_machine.specs.Tables.{Entry, opening_tables, chunk_of}
-use Rattle.hy_protocol.specs.Turns.{Visits}
+use Rattle.hy_protocol.specs.Turns.{Visits, is_stamping}
 use Rattle.hy_machine.specs.Positions.{item_at}
 use Rattle.hy_machine.specs.Writes.{written_chunks, is_among}
 use Rattle.hy_machine.specs.Sessions.{session_at, snapshot, view}
 use Rattle.hy_machine.specs.Holding.{holds, is_held, has_pair, undone}
-use Rattle.hy_machine.specs.Kept.{is_stamping}
 use Rattle.hy_refinement.specs.Stamped.{is_unstamped, entries_counted}
 use Rattle.hy_refinement.specs.Transactions.{IsOpen}
 use Rattle.hy_refinement.specs.Numbers.{CoreShows, StampingShows}

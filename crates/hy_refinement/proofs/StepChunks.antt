@@ -1,10 +1,16 @@
--- Chunks that an open transaction wrote are chunks, and where none are left it holds nothing.
+-- Chunks that an open transaction wrote are chunks, its stamp and undo visits need them one after another, and where none
+-- are left it holds nothing.
 use Rattle.std.proofs.Common.{◌≡◌, ℕ, zero, suc, ◌+◌, ◌<◌, ◌≤◌, List, [], ◌∷◌, ◌++◌, length, map, drop, get_or, Option, None, Some, Bool, true, false}
-use Rattle.std.proofs.Common.{not, refl, ap, subst, arith}
+use Rattle.std.proofs.Common.{not, refl, sym, ap, ◌∙◌, subst, arith}
 use Rattle.std.specs.Prelude.{slice_get, filter, is_some}
 use Rattle.std.specs.List.{AllByRecursion, list_any, range_with_len}
 use Rattle.std.proofs.lemmas.Bool.{cond_both, and_left, and_right, or_parts}
 use Rattle.std.proofs.lemmas.Option.{same_Some}
+use Rattle.hy_event.specs.declared.SessionData.{SessionData}
+use Rattle.hy_event.specs.declared.Open.{Open}
+use Rattle.hy_event.specs.declared.Need.TheVariants.{Core, Chunk}
+use Rattle.hy_event.specs.Sessions.{written_chunks as chunks_written}
+use Rattle.hy_event.specs.Needs.{written_need, chunk_or_core}
 use Rattle.hy_machine.specs.declared.Setting.{Setting}
 use Rattle.hy_machine.specs.States.{Open as MachineOpen}
 use Rattle.hy_machine.specs.Positions.{item_at}
@@ -12,6 +18,7 @@ use Rattle.hy_machine.specs.Tables.{Cell, Own, chunk_of}
 use Rattle.hy_machine.specs.Writes.{chunks_in_table, chunks_from, written_chunks, has_written_in, is_among, wrote_nothing}
 use Rattle.hy_machine.specs.Holding.{undone}
 use Rattle.hy_refinement.specs.CoreVisits.{HoldsNothing}
+use Rattle.hy_refinement.proofs.NeededParts.{same_chunk, core_is_no_chunk, chunk_is_no_core}
 
 -- ---- chunks
 
@@ -47,6 +54,34 @@ pub written_below : (setting : Setting) (own : Own) (index table chunk : ℕ) �
     → chunk < setting.chunks
 written_below setting own index table chunk e =
     all_at setting.chunks (written_chunks setting own) index (table, chunk) (all_from setting 0 own) e
+
+-- ---- which chunk is needed
+
+-- the chunk that a stamp or an undo visit needs, or the core where none is left
+needs_chunk : (one : Option (ℕ × ℕ)) (table chunk : ℕ) → chunk_or_core one ≡ Chunk table chunk → one ≡ Some (table, chunk)
+needs_chunk None table chunk e = absurd (core_is_no_chunk table chunk e)
+needs_chunk (Some one) table chunk e =
+    let same = same_chunk one.0 one.1 table chunk e in
+    ap (λ (t : ℕ). Some (t, one.1)) same.0 ∙ ap (λ (c : ℕ). Some (table, c)) same.1
+
+needs_core : (ones : List (ℕ × ℕ)) (visited : ℕ) → chunk_or_core (slice_get ones visited) ≡ Core → length ones ≤ visited
+needs_core [] visited e = omega arith
+needs_core (one ∷ ones) zero e = absurd (chunk_is_no_core one.0 one.1 e)
+needs_core (one ∷ ones) (suc visited) e = let le = needs_core ones visited e in omega (arith, le)
+
+pub chunk_left : (setting : Setting) (session : SessionData) (now : Open) (current : MachineOpen) (visited table chunk : ℕ)
+    → chunks_written session now ≡ written_chunks setting current.begun.own → written_need session now visited ≡ Chunk table chunk
+    → slice_get (written_chunks setting current.begun.own) visited ≡ Some (table, chunk)
+chunk_left setting session now current visited table chunk same need =
+    needs_chunk (slice_get (written_chunks setting current.begun.own) visited) table chunk
+    (ap (λ (ones : List (ℕ × ℕ)). chunk_or_core (slice_get ones visited)) (sym same) ∙ need)
+
+pub none_left : (setting : Setting) (session : SessionData) (now : Open) (current : MachineOpen) (visited : ℕ)
+    → chunks_written session now ≡ written_chunks setting current.begun.own → written_need session now visited ≡ Core
+    → length (written_chunks setting current.begun.own) ≤ visited
+none_left setting session now current visited same need =
+    needs_core (written_chunks setting current.begun.own) visited
+    (ap (λ (ones : List (ℕ × ℕ)). chunk_or_core (slice_get ones visited)) (sym same) ∙ need)
 
 -- ---- nothing is held
 

@@ -1,167 +1,189 @@
--- A visit of the core by a session with an open transaction is the machine's turn.
-use Rattle.std.proofs.Common.{◌≡◌, ℕ, suc, ◌≤◌, List, [], ◌∷◌, length, map, drop, Option, None, Some, Bool, true, false}
-use Rattle.std.proofs.Common.{refl, sym, ap, ◌∙◌, subst, arith, cond}
-use Rattle.std.specs.Prelude.{slice_get, ◌==◌}
-use Rattle.std.specs.Option.{option_map}
-use Rattle.std.proofs.lemmas.Bool.{le-ltb, ne_eqb}
-use Rattle.std.proofs.lemmas.Option.{same_Some}
+-- A visit of the core is the machine's turn: what a session finds out there is what the machine's finds out.
+use Rattle.std.proofs.Common.{◌≡◌, ℕ, suc, ◌-◌, ◌≤◌, List, [], length, Option, None, Some, Bool, true, false}
+use Rattle.std.proofs.Common.{refl, sym, ap, ◌∙◌, subst, cond}
+use Rattle.std.specs.Prelude.{slice_get, nat_lt}
+use Rattle.std.proofs.lemmas.Bool.{le-ltb, cond_both}
 use Rattle.hy_value.specs.declared.change.Change.{Change}
+use Rattle.hy_bound.specs.declared.Bound.{Bound}
+use Rattle.hy_bound.specs.declared.Bound.TheVariants.{Select, Group, Insert, Update, Delete}
 use Rattle.hy_bound.specs.declared.Ending.{Ending}
-use Rattle.hy_bound.specs.declared.Ending.TheVariants.{Read}
+use Rattle.hy_bound.specs.declared.Ending.TheVariants.{Committed, Read, RolledBack}
+use Rattle.hy_bound.specs.declared.Txn.{Txn}
+use Rattle.hy_bound.specs.Records.{shape_of}
 use Rattle.hy_stamp.specs.declared.Label.{Label}
-use Rattle.hy_validate.specs.declared.Invalid.{Invalid}
-use Rattle.hy_validate.specs.Hits.{first_invalid}
 use Rattle.hy_journal.specs.declared.CoreData.{CoreData}
-use Rattle.hy_journal.specs.Core.{blocked_by}
 use Rattle.hy_event.specs.declared.SessionData.{SessionData}
 use Rattle.hy_event.specs.declared.Open.{Open}
-use Rattle.hy_protocol.specs.declared.Progress.{Progress}
-use Rattle.hy_event.specs.Sessions.{label_of}
-use Rattle.hy_protocol.specs.Turns.{refused as refuses}
-use Rattle.hy_event.specs.Turns.{Takes}
-use Rattle.hy_event.specs.CoreTurns.{CoreTurn, TakesAtCore, unless_blocked as unless_waits, closing_turn as closes_at, commit_turn as commits_at, validated_turn as validates, close_turn, invalid_by}
+use Rattle.hy_event.specs.declared.Need.{Need}
+use Rattle.hy_event.specs.declared.Need.TheVariants.{Core, Chunk}
+use Rattle.hy_event.specs.Sessions.{written_chunks as chunks_written}
+use Rattle.hy_event.specs.Needs.{checks_of, phase_need, working_need, closing_need, statement_need}
+use Rattle.hy_event.specs.CoreTurns.{TakesAtCore, found_at_core as found_here, no_statement, open_turn}
 use Rattle.hy_event.specs.Events.{Part, CorePart}
 use Rattle.hy_machine.specs.declared.Setting.{Setting}
 use Rattle.hy_machine.specs.States.{State, Open as MachineOpen}
-use Rattle.hy_protocol.specs.Turns.{Turn, Ends, Visits, unless_blocked}
-use Rattle.hy_protocol.specs.Closing.{validated_turn}
-use Rattle.hy_machine.specs.Turns.{commit_turn, undo_turn}
-use Rattle.hy_protocol.specs.declared.Phase.TheVariants as stage
 use Rattle.hy_machine.specs.Writes.{Write, written_chunks, wrote_nothing}
-use Rattle.hy_machine.specs.Sessions.{blocker}
+use Rattle.hy_machine.specs.Sessions.{session_at, txn_at, blocker, view}
 use Rattle.hy_machine.specs.Holding.{undone}
-use Rattle.hy_machine.specs.Validation.{first_hit, committed_of}
-use Rattle.hy_machine.specs.Kept.{is_stamping}
-use Rattle.hy_refinement.specs.Taken.{AtOpen, AtStatement, IsTaken, core_number}
+use Rattle.hy_machine.specs.Turns.{found_at_core, working_turn, phase_turn}
+use Rattle.hy_protocol.specs.declared.Phase.{Phase}
+use Rattle.hy_protocol.specs.declared.Phase.TheVariants as phase
+use Rattle.hy_protocol.specs.declared.Progress.{Progress}
+use Rattle.hy_protocol.specs.Asking.{AtCore}
+use Rattle.hy_protocol.specs.Turns.{Turn, Visits, Ends, unless_blocked, is_stamping}
+use Rattle.hy_protocol.specs.Closing.{undo_turn, stamp_turn, validated_turn, free_commit_turn, commit_turn, closing_turn}
+use Rattle.hy_protocol.specs.Sessions as by_phase
+use Rattle.hy_refinement.specs.Sessions.{statement_at}
+use Rattle.hy_refinement.specs.Steps.{ReadsFit}
+use Rattle.hy_refinement.specs.Taken.{ShownState, AtOpen, AtStatement, IsTaken, core_number}
+use Rattle.hy_refinement.specs.CoreVisits.{IsFreeToGo}
+use Rattle.hy_refinement.proofs.NeededParts.{chunk_is_no_core}
 use Rattle.hy_refinement.proofs.StepLaws.{StepLaws}
-use Rattle.hy_refinement.proofs.StepChunks.{nothing_held, undone_all}
+use Rattle.hy_refinement.proofs.StepChunks.{nothing_held, undone_all, none_left}
 
--- a session at the core: who blocks it there blocks it in the machine
-pub record AtTheCore (setting : Setting) (state : State) (parts : List Part) (sessions : List SessionData) (number : ℕ)
-    (session : SessionData) (now : Open) (current : MachineOpen) : Type 0 where
+-- what is known of an open session before its visit
+pub record Opening (setting : Setting) (state : State) (parts : List Part) (sessions : List SessionData) (number : ℕ)
+    (session : SessionData) (now : Open) (current : MachineOpen) (txn : Txn) : Type 0 where
   pub at_open : AtOpen setting state parts sessions number session now current
-  pub found : slice_get parts (core_number setting) ≡ Some (CorePart at_open.shown.shows.core)
-  pub blocked : blocked_by at_open.shown.shows.core (label_of session) ≡ blocker state number
+  pub txn_is : txn_at setting number (session_at state number) ≡ Some txn
+  pub replies : now.replies ≡ current.begun.replies
+  pub reads_fit : ReadsFit setting (view setting state current.begun) (slice_get txn.statements (length now.replies))
+  pub shapes : session.shapes ≡ setting.shapes
+  pub chunks : session.chunks ≡ setting.chunks
+  pub written : chunks_written session now ≡ written_chunks setting current.begun.own
 
--- it takes this turn at the core, unless it is blocked
-unless_step : StepLaws
-    → (setting : Setting) (state : State) (parts : List Part) (sessions : List SessionData) (number : ℕ)
-    (session : SessionData) (now : Open) (current : MachineOpen)
-    → (at : AtTheCore setting state parts sessions number session now current)
-    → (here : CoreTurn) (there : Turn Write)
-    → ((progress : Progress) (after : SessionData) (new : CoreData) → blocker state number ≡ None → TakesAtCore session at.at_open.shown.shows.core (Some here) progress after new
-    → IsTaken setting state parts sessions number there (core_number setting) progress after (CorePart new))
-    → (progress : Progress) (after : SessionData) (new : CoreData)
-    → TakesAtCore session at.at_open.shown.shows.core (Some (unless_waits at.at_open.shown.shows.core (blocked_by at.at_open.shown.shows.core (label_of session)) here)) progress after new
-    → IsTaken setting state parts sessions number (unless_blocked (blocker state number) there) (core_number setting) progress after (CorePart new)
-unless_step laws setting state parts sessions number session now current at here there taken progress after new takes =
-    by_blocker (blocker state number) refl
-    (subst (λ (by : Option Label). TakesAtCore session at.at_open.shown.shows.core (Some (unless_waits at.at_open.shown.shows.core by here)) progress after new) at.blocked takes)
-  where
-    by_blocker : (by : Option Label) → blocker state number ≡ by
-        → TakesAtCore session at.at_open.shown.shows.core (Some (unless_waits at.at_open.shown.shows.core by here)) progress after new
-        → IsTaken setting state parts sessions number (unless_blocked by there) (core_number setting) progress after (CorePart new)
-    by_blocker None is takes = taken progress after new is takes
-    by_blocker (Some by) is takes =
-        laws.waits setting state parts sessions number session by (core_number setting) (CorePart new) progress after
-        at.at_open.shown.shows at.at_open.is_open.found
-        (at.found ∙ ap (λ (core : CoreData). Some (CorePart core)) (sym takes.1)) takes.0
+-- a statement needs a chunk
+statement_no_core : (session : SessionData) (visited : ℕ) (statement : Bound) → statement_need session visited statement ≡ Core → ⊥
+statement_no_core session visited (Select tables ons pred items) e = chunk_is_no_core _ _ e
+statement_no_core session visited (Group table pred key aggregate) e = chunk_is_no_core _ _ e
+statement_no_core session visited (Insert table row) e =
+    let checks = checks_of session (shape_of session.shapes table).key in
+    cond_both (nat_lt visited checks) (Chunk table visited) (Chunk table (visited - checks)) (λ (need : Need). need ≡ Core → ⊥)
+    (λ b. chunk_is_no_core _ _) (λ b. chunk_is_no_core _ _) e
+statement_no_core session visited (Update table sets pred) e = chunk_is_no_core _ _ e
+statement_no_core session visited (Delete table pred) e = chunk_is_no_core _ _ e
 
--- ---- COMMIT
+-- ---- a turn, unless the session is blocked
 
--- as long as another list, or empty as it
-empty_is : (notes : List Change) (b : Bool) → (length notes == 0) ≡ b → notes ≡ [] → b ≡ true
-empty_is [] b e f = sym e
-empty_is (note ∷ notes) b e f = absurd cc
+module _ (laws : StepLaws) (setting : Setting) (state : State) (parts : List Part) (sessions : List SessionData) (number : ℕ) (session : SessionData)
+    (shown : ShownState setting state parts sessions) (found : slice_get sessions number ≡ Some session)
+    (progress : Progress) (after : SessionData) (new : CoreData) where
+  abbrev TakesHere : Turn Change → Type 0
+  TakesHere turn = TakesAtCore session shown.shows.core (Some turn) progress after new
 
-full_is : (note : Change) (notes : List Change) (b : Bool) → (length (note ∷ notes) == 0) ≡ b → b ≡ false
-full_is note notes b e = sym e ∙ ne_eqb (suc (length notes)) 0 (λ f. absurd (omega (arith, f)))
+  abbrev IsTakenThere : Turn Write → Type 0
+  IsTakenThere turn = IsTaken setting state parts sessions number turn (core_number setting) progress after (CorePart new)
 
-pub commit_step : StepLaws
-    → (setting : Setting) (state : State) (parts : List Part) (sessions : List SessionData) (number : ℕ)
-    (session : SessionData) (now : Open) (current : MachineOpen)
-    → (at : AtTheCore setting state parts sessions number session now current)
-    → (visited count : ℕ) → AtStatement setting state number now visited count None → is_stamping current.phase ≡ false
-    → (progress : Progress) (after : SessionData) (new : CoreData)
-    → TakesAtCore session at.at_open.shown.shows.core (Some (unless_waits at.at_open.shown.shows.core (blocked_by at.at_open.shown.shows.core (label_of session))
-    (closes_at session at.at_open.shown.shows.core now true))) progress after new
-    → IsTaken setting state parts sessions number (commit_turn setting state number current.begun) (core_number setting) progress after (CorePart new)
-commit_step laws setting state parts sessions number session now current at visited count stands working progress after new takes =
-    unless_step laws setting state parts sessions number session now current at
-    (commits_at session core now now.notes)
-    (cond (wrote_nothing current.begun.own) (Ends Read)
-    (validated_turn (first_hit current.begun.records (map committed_of (drop current.begun.prefix state.order)))))
-    (λ progress after new free takes. by_notes progress after new free now.notes refl takes)
-    progress after new takes
-  where
-    core : CoreData
-    core = at.at_open.shown.shows.core
+  core_stays : new ≡ shown.shows.core → slice_get parts (core_number setting) ≡ Some (CorePart new)
+  core_stays same = shown.shows.parts_are.core_last ∙ ap (λ (core : CoreData). Some (CorePart core)) (sym same)
 
-    hit : Option Ending
-    hit = first_hit current.begun.records (map committed_of (drop current.begun.prefix state.order))
+  pub unless_step : (here : Turn Change) (there : Turn Write) → (IsFreeToGo state number → TakesHere here → IsTakenThere there)
+      → TakesHere (unless_blocked (blocker state number) here) → IsTakenThere (unless_blocked (blocker state number) there)
+  unless_step here there step takes = by_blocker (blocker state number) refl takes
+    where
+      by_blocker : (by : Option Label) → blocker state number ≡ by → TakesHere (unless_blocked by here) → IsTakenThere (unless_blocked by there)
+      by_blocker None is takes = step is takes
+      by_blocker (Some by) is takes =
+          laws.waits setting state parts sessions number session by (core_number setting) (CorePart new) progress after shown.shows found
+          (core_stays takes.1) takes.0
 
-    by_hit : (progress : Progress) (after : SessionData) (new : CoreData) → blocker state number ≡ None
-        → (here : Option Invalid) (there : Option Ending)
-        → option_map (invalid_by now.records) here ≡ there
-        → TakesAtCore session core (Some (validates session core now here)) progress after new
-        → IsTaken setting state parts sessions number (validated_turn there) (core_number setting) progress after (CorePart new)
-    by_hit progress after new free None None e takes =
-        laws.enters setting state parts sessions number session now current visited count progress after new at.at_open free stands takes
-    by_hit progress after new free None (Some cause) e takes = absurd cc
-    by_hit progress after new free (Some invalid) None e takes = absurd cc
-    by_hit progress after new free (Some invalid) (Some cause) e takes =
-        laws.refusals setting state parts sessions number session now current visited count cause (core_number setting) (CorePart new) progress after
-        at.at_open stands.phase_is (at.found ∙ ap (λ (core : CoreData). Some (CorePart core)) (sym takes.1))
-        (subst (λ (cause : Ending). Takes session (refuses cause) progress after) (same_Some (invalid_by now.records invalid) cause e) takes.0)
+-- ---- an open transaction
 
-    by_notes : (progress : Progress) (after : SessionData) (new : CoreData) → blocker state number ≡ None
-        → (notes : List Change) → now.notes ≡ notes
-        → TakesAtCore session core (Some (commits_at session core now notes)) progress after new
-        → IsTaken setting state parts sessions number (cond (wrote_nothing current.begun.own) (Ends Read) (validated_turn hit))
-        (core_number setting) progress after (CorePart new)
-    by_notes progress after new free [] is takes =
-        let none : wrote_nothing current.begun.own ≡ true =
-        empty_is now.notes (wrote_nothing current.begun.own)
-        (laws.notes setting state parts sessions number session now current at.at_open working) is in
-        subst (λ (b : Bool). IsTaken setting state parts sessions number (cond b (Ends Read) (validated_turn hit))
-        (core_number setting) progress after (CorePart new)) (sym none)
-        (laws.closes setting state parts sessions number session now current Read progress after new at.at_open free working
-        (nothing_held setting current none) takes)
-    by_notes progress after new free (note ∷ notes) is takes =
-        let some : wrote_nothing current.begun.own ≡ false =
-        full_is note notes (wrote_nothing current.begun.own)
-        (ap (λ (all : List Change). length all == 0) (sym is) ∙ laws.notes setting state parts sessions number session now current at.at_open working) in
-        subst (λ (b : Bool). IsTaken setting state parts sessions number (cond b (Ends Read) (validated_turn hit))
-        (core_number setting) progress after (CorePart new)) (sym some)
-        (by_hit progress after new free (first_invalid now.records (drop now.prefix core.entries)) hit
-        (laws.hits setting state parts sessions number session now current at.at_open) takes)
+module _ (laws : StepLaws) (setting : Setting) (state : State) (parts : List Part) (sessions : List SessionData) (number : ℕ) (session : SessionData)
+    (now : Open) (current : MachineOpen) (txn : Txn) (is : Opening setting state parts sessions number session now current txn)
+    (progress : Progress) (after : SessionData) (new : CoreData) where
+  abbrev core : CoreData
+  core = is.at_open.shown.shows.core
 
--- ---- an end
+  abbrev TakesTurn : Turn Change → Type 0
+  TakesTurn turn = TakesAtCore session core (Some turn) progress after new
 
--- the machine's undo visits are over
-undo_over : (setting : Setting) (state : State) (number : ℕ) (current : MachineOpen) (visited : ℕ) (cause : Ending)
-    → length (written_chunks setting current.begun.own) ≤ visited
-    → unless_blocked (blocker state number) (Ends cause) ≡ undo_turn setting state number current.begun visited cause
-undo_over setting state number current visited cause le =
-    ap (λ (b : Bool). cond b (Visits [] (stage.Undoing (suc visited) cause)) (unless_blocked (blocker state number) (Ends cause)))
-    (sym (le-ltb visited (length (written_chunks setting current.begun.own)) le))
+  abbrev TurnIsTaken : Turn Write → Type 0
+  TurnIsTaken turn = IsTaken setting state parts sessions number turn (core_number setting) progress after (CorePart new)
 
--- a transaction that is undone whole ends
-pub end_step : StepLaws
-    → (setting : Setting) (state : State) (parts : List Part) (sessions : List SessionData) (number : ℕ)
-    (session : SessionData) (now : Open) (current : MachineOpen)
-    → (at : AtTheCore setting state parts sessions number session now current)
-    → (visited : ℕ) (cause : Ending) → is_stamping current.phase ≡ false → undone current.phase ≡ visited
-    → length (written_chunks setting current.begun.own) ≤ visited
-    → (progress : Progress) (after : SessionData) (new : CoreData)
-    → TakesAtCore session at.at_open.shown.shows.core (Some (unless_waits at.at_open.shown.shows.core (blocked_by at.at_open.shown.shows.core (label_of session))
-    (close_turn at.at_open.shown.shows.core now cause))) progress after new
-    → IsTaken setting state parts sessions number (undo_turn setting state number current.begun visited cause) (core_number setting) progress after (CorePart new)
-end_step laws setting state parts sessions number session now current at visited cause working so_far over progress after new takes =
-    subst (λ (turn : Turn Write). IsTaken setting state parts sessions number turn (core_number setting) progress after (CorePart new))
-    (undo_over setting state number current visited cause over)
-    (unless_step laws setting state parts sessions number session now current at (close_turn at.at_open.shown.shows.core now cause) (Ends cause)
-    (λ progress after new free takes.
-    laws.closes setting state parts sessions number session now current cause progress after new at.at_open free working
-    (undone_all setting current (subst (λ (n : ℕ). length (written_chunks setting current.begun.own) ≤ n) (sym so_far) over)) takes)
-    progress after new takes)
+  unless : (here : Turn Change) (there : Turn Write) → (IsFreeToGo state number → TakesTurn here → TurnIsTaken there)
+      → TakesTurn (unless_blocked (blocker state number) here) → TurnIsTaken (unless_blocked (blocker state number) there)
+  unless = unless_step laws setting state parts sessions number session is.at_open.shown is.at_open.is_open.found progress after new
+
+  abbrev there : AtCore
+  there = found_at_core setting state number current.begun
+
+  -- until it has its entry
+  found_same : is_stamping current.phase ≡ false → found_here session core now ≡ there
+  found_same working =
+      let shown = is.at_open.shown.shows in
+      let blocked = laws.blockers setting state core sessions number session shown.core_shows shown.sessions_show is.at_open.is_open.found in
+      let nothing = laws.notes setting state parts sessions number session now current is.at_open working in
+      let written = is.written in
+      let hit = laws.hits setting state parts sessions number session now current is.at_open in
+      let count = shown.core_shows.entries_show.count in
+      cc
+
+  -- COMMIT
+  commits : (visited count : ℕ) → AtStatement setting state number now visited count None → is_stamping current.phase ≡ false
+      → TakesTurn (commit_turn there) → TurnIsTaken (commit_turn there)
+  commits visited count stands working =
+      unless (free_commit_turn there) (free_commit_turn there) (λ free takes. by_found free (wrote_nothing current.begun.own) refl there.hit takes)
+    where
+      by_found : IsFreeToGo state number → (nothing : Bool) → wrote_nothing current.begun.own ≡ nothing → (hit : Option Ending)
+          → TakesTurn (cond nothing (Ends Read) (validated_turn hit)) → TurnIsTaken (cond nothing (Ends Read) (validated_turn hit))
+      by_found free true none hit takes =
+          laws.closes setting state parts sessions number session now current Read progress after new is.at_open free working
+          (nothing_held setting current none) takes
+      by_found free false some None takes =
+          laws.enters setting state parts sessions number session now current visited count progress after new is.at_open free stands takes
+      by_found free false some (Some cause) takes =
+          laws.refusals setting state parts sessions number session now current visited count cause (core_number setting) (CorePart new)
+          progress after is.at_open stands.phase_is
+          (core_stays laws setting state parts sessions number session is.at_open.shown is.at_open.is_open.found progress after new takes.1) takes.0
+
+  -- the end of what is undone whole
+  ends : (visited : ℕ) (cause : Ending) → is_stamping current.phase ≡ false → undone current.phase ≡ visited
+      → length (written_chunks setting current.begun.own) ≤ visited → TakesTurn (undo_turn there visited cause) → TurnIsTaken (undo_turn there visited cause)
+  ends visited cause working so_far over =
+      subst (λ (b : Bool). TakesTurn (cond b (Visits [] (phase.Undoing (suc visited) cause)) (unless_blocked (blocker state number) (Ends cause)))
+      → TurnIsTaken (cond b (Visits [] (phase.Undoing (suc visited) cause)) (unless_blocked (blocker state number) (Ends cause))))
+      (sym (le-ltb visited (length (written_chunks setting current.begun.own)) over))
+      (unless (Ends cause) (Ends cause) (λ free takes.
+      laws.closes setting state parts sessions number session now current cause progress after new is.at_open free working
+      (undone_all setting current (subst (λ (n : ℕ). length (written_chunks setting current.begun.own) ≤ n) (sym so_far) over)) takes))
+
+  -- the end of what is stamped whole
+  leaves : (visited : ℕ) → now.phase ≡ phase.Stamping visited → length (written_chunks setting current.begun.own) ≤ visited
+      → TakesTurn (stamp_turn there.written there.last visited) → TurnIsTaken (stamp_turn there.written there.last visited)
+  leaves visited at_here over =
+      subst (λ (b : Bool). TakesTurn (cond b (Visits [] (phase.Stamping (suc visited))) (Ends (Committed there.last)))
+      → TurnIsTaken (cond b (Visits [] (phase.Stamping (suc visited))) (Ends (Committed there.last))))
+      (sym (le-ltb visited (length (written_chunks setting current.begun.own)) over))
+      (laws.leaves setting state parts sessions number session now current visited progress after new is.at_open at_here over)
+
+  closes : (visited count : ℕ) → AtStatement setting state number now visited count None → is_stamping current.phase ≡ false → undone current.phase ≡ 0
+      → (commits : Bool) → closing_need session now commits ≡ Core → TakesTurn (closing_turn there commits) → TurnIsTaken (closing_turn there commits)
+  closes visited count stands working so_far true need takes = commits visited count stands working takes
+  closes visited count stands working so_far false need takes =
+      ends 0 RolledBack working so_far (none_left setting session now current 0 is.written need) takes
+
+  works : (visited count : ℕ) → now.phase ≡ phase.Working visited count → current.phase ≡ phase.Working visited count
+      → (statement : Option Bound) → slice_get txn.statements (length now.replies) ≡ statement → working_need session txn now visited statement ≡ Core
+      → TakesTurn (by_phase.working_turn no_statement there txn visited count statement)
+      → TurnIsTaken (working_turn setting state number txn current.begun visited count statement)
+  works visited count at_here at_there None at need takes =
+      closes visited count
+      (record { phase_is = at_here; statement_is = ap (λ (txn : Option Txn). statement_at txn (length now.replies)) is.txn_is ∙ at })
+      (ap is_stamping at_there) (ap undone at_there) txn.commits need takes
+  works visited count at_here at_there (Some statement) at need takes = absurd (statement_no_core session visited statement need)
+
+  pub core_step : (stands : Phase) → now.phase ≡ stands → current.phase ≡ stands → phase_need session txn now stands ≡ Core
+      → TakesTurn (open_turn session core txn now stands) → TurnIsTaken (phase_turn setting state number txn current.begun stands)
+  core_step (phase.Working visited count) at_here at_there need takes =
+      let statement = slice_get txn.statements (length now.replies) in
+      subst (λ replies. TurnIsTaken (working_turn setting state number txn current.begun visited count (slice_get txn.statements (length replies)))) is.replies
+      (works visited count at_here at_there statement refl need
+      (subst (λ (found : AtCore). TakesTurn (by_phase.working_turn no_statement found txn visited count statement)) (found_same (ap is_stamping at_there)) takes))
+  core_step (phase.Stamping visited) at_here at_there need takes =
+      leaves visited at_here (none_left setting session now current visited is.written need)
+      (subst (λ (n : ℕ). TakesTurn (stamp_turn there.written (n - 1) visited)) is.at_open.shown.shows.core_shows.entries_show.count
+      (subst (λ chunks. TakesTurn (stamp_turn chunks (length core.entries - 1) visited)) is.written takes))
+  core_step (phase.Undoing visited cause) at_here at_there need takes =
+      ends visited cause (ap is_stamping at_there) (ap undone at_there) (none_left setting session now current visited is.written need)
+      (subst (λ (found : AtCore). TakesTurn (undo_turn found visited cause)) (found_same (ap is_stamping at_there)) takes)

@@ -7,27 +7,32 @@ use Rattle.hy_bound.specs.declared.Shape.{Shape}
 use Rattle.hy_bound.specs.declared.Txn.{Txn}
 use Rattle.hy_undo.specs.Chunks.{ChunkData}
 use Rattle.hy_stamp.specs.declared.Label.{Label}
+use Rattle.hy_value.specs.declared.change.Change.{Change}
 use Rattle.hy_journal.specs.declared.CoreData.{CoreData}
+use Rattle.hy_journal.specs.Core.{blocked_by}
 use Rattle.hy_event.specs.declared.SessionData.{SessionData}
 use Rattle.hy_event.specs.declared.Open.{Open}
+use Rattle.hy_event.specs.declared.Need.{Need}
 use Rattle.hy_event.specs.declared.Need.TheVariants.{Core, Chunk}
-use Rattle.hy_event.specs.Sessions.{txn_at as txn_here}
+use Rattle.hy_event.specs.Sessions.{label_of, txn_at as txn_here}
 use Rattle.hy_event.specs.Needs.{session_need, phase_need}
-use Rattle.hy_event.specs.CoreTurns.{TakesAtCore, session_turn as session_at_core, phase_turn as phase_at_core, unless_blocked as unless_waits, begin_turn}
+use Rattle.hy_event.specs.CoreTurns.{TakesAtCore, if_core, open_turn}
 use Rattle.hy_event.specs.Events.{Part, ChunkPart, CorePart, SessionVisit, PhaseVisit}
 use Rattle.hy_protocol.specs.declared.Phase.{Phase}
 use Rattle.hy_machine.specs.declared.Setting.{Setting}
 use Rattle.hy_machine.specs.States.{State, Open as MachineOpen}
-use Rattle.hy_protocol.specs.Turns.{Begins, unless_blocked}
+use Rattle.hy_protocol.specs.Turns.{Turn, Begins, unless_blocked}
+use Rattle.hy_protocol.specs.Sessions.{session_turn as turn_here}
 use Rattle.hy_machine.specs.Turns.{turn, session_turn}
-use Rattle.hy_machine.specs.Sessions.{session_at, txn_at, blocker, view}
+use Rattle.hy_machine.specs.Sessions.{session_at, txn_at, view}
 use Rattle.hy_machine.specs.Kept.{PhaseFits}
 use Rattle.hy_refinement.specs.Sessions.{SessionShows, NowShows, OpenShows, statement_at}
 use Rattle.hy_refinement.specs.Steps.{ReadsFit, ViewsFit, EventsAreSteps}
 use Rattle.hy_refinement.specs.Taken.{ShownState, AtOpen, IsTaken, core_number, chunk_number}
 use Rattle.hy_refinement.proofs.StepLaws.{StepLaws}
-use Rattle.hy_refinement.proofs.StepOpens.{Opening, chunk_step, core_step}
-use Rattle.hy_refinement.proofs.NeededParts.{same_txn, Visited, of_chunk, of_core, visited_cases}
+use Rattle.hy_refinement.proofs.StepCores.{Opening, unless_step, core_step}
+use Rattle.hy_refinement.proofs.StepOpens.{chunk_step}
+use Rattle.hy_refinement.proofs.NeededParts.{same_txn, done_is_no_core, Visited, of_chunk, of_core, visited_cases}
 
 -- what a core part holds
 abbrev core_in : CoreData → Part → CoreData
@@ -51,11 +56,7 @@ abbrev opening : StepLaws
     → ViewsFit setting state → txn_at setting number (session_at state number) ≡ Some txn
     → Opening setting state parts sessions number session now current txn
 opening laws setting state parts sessions number session now current txn at shows open_shows fit txn_is = record {
-  at_core = record {
-    at_open = at;
-    found = at.shown.shows.parts_are.core_last;
-    blocked = laws.blockers setting state at.shown.shows.core sessions number session at.shown.shows.core_shows at.shown.shows.sessions_show at.is_open.found;
-  };
+  at_open = at;
   txn_is = txn_is;
   replies = open_shows.open_shows.replies;
   reads_fit = subst (λ (replies : List Reply). ReadsFit setting (view setting state current.begun) (slice_get txn.statements (length replies)))
@@ -111,43 +112,39 @@ steps_are laws setting state parts sessions number session part old progress aft
         record { shown = shown; is_open = record { found = found; open_here = here_is; open_there = there_is } } in
         chunk_step laws setting state parts sessions number session now current txn
         (opening laws setting state parts sessions number session now current txn at shows now_shows fit txn_is)
-        current.phase now_shows.open_shows.phase refl
+        table chunk old there progress after new current.phase now_shows.open_shows.phase refl
         (subst (λ (txn : Option Txn). PhaseFits setting txn current.begun current.phase) txn_is (shown.kept.fits.opens number current there_is).phase)
-        table chunk old (subst (λ (stands : Phase). phase_need session txn now stands ≡ Chunk table chunk) now_shows.open_shows.phase need) there
-        progress after new (subst (λ (stands : Phase). PhaseVisit session txn now stands old progress after new) now_shows.open_shows.phase visit)
+        (subst (λ (stands : Phase). phase_need session txn now stands ≡ Chunk table chunk) now_shows.open_shows.phase need)
+        (subst (λ (stands : Phase). PhaseVisit session txn now stands old progress after new) now_shows.open_shows.phase visit)
 
     -- a visit of the core
+    TurnHere : CoreData → Option Txn → Option Open → Turn Change
+    TurnHere core = turn_here (blocked_by core (label_of session)) (λ (txn : Txn) (now : Open). open_turn session core txn now now.phase)
+
     at_core : (new : CoreData)
         → (txn : Option Txn) → txn_at setting number (session_at state number) ≡ txn
         → (here : Option Open) → session.now ≡ here → (current : Option MachineOpen) → (session_at state number).now ≡ current
         → NowShows setting state core number here current
-        → session_need session txn here ≡ Core → TakesAtCore session core (session_at_core session core txn here) progress after new
+        → session_need session txn here ≡ Core → TakesAtCore session core (Some (TurnHere core txn here)) progress after new
         → IsTaken setting state parts sessions number (session_turn setting state number txn current) (core_number setting) progress after (CorePart new)
-    at_core new None txn_is here here_is current there_is now_shows need takes = absurd takes
+    at_core new None txn_is here here_is current there_is now_shows need takes = absurd (done_is_no_core need)
     at_core new (Some txn) txn_is None here_is (Some current) there_is now_shows need takes = absurd now_shows
     at_core new (Some txn) txn_is None here_is None there_is now_shows need takes =
-        by_blocker (blocker state number) refl
-        (subst (λ (by : Option Label). TakesAtCore session core (Some (unless_waits core by (begin_turn core))) progress after new)
+        unless_step laws setting state parts sessions number session shown found progress after new Begins Begins
+        (laws.begins setting state parts sessions number session progress after new
+        (record { shown = shown; found = found; rests = here_is; label = has_label txn (same ∙ txn_is) }))
+        (subst (λ (by : Option Label). TakesAtCore session core (Some (unless_blocked by Begins)) progress after new)
         (laws.blockers setting state core sessions number session shown.shows.core_shows shown.shows.sessions_show found) takes)
-      where
-        by_blocker : (by : Option Label) → blocker state number ≡ by
-            → TakesAtCore session core (Some (unless_waits core by (begin_turn core))) progress after new
-            → IsTaken setting state parts sessions number (unless_blocked by Begins) (core_number setting) progress after (CorePart new)
-        by_blocker None is takes =
-            laws.begins setting state parts sessions number session progress after new
-            (record { shown = shown; found = found; rests = here_is; label = has_label txn (same ∙ txn_is) }) is takes
-        by_blocker (Some by) is takes =
-            laws.waits setting state parts sessions number session by (core_number setting) (CorePart new) progress after shown.shows found
-            (shown.shows.parts_are.core_last ∙ ap (λ (core : CoreData). Some (CorePart core)) (sym takes.1)) takes.0
     at_core new (Some txn) txn_is (Some now) here_is None there_is now_shows need takes = absurd now_shows
     at_core new (Some txn) txn_is (Some now) here_is (Some current) there_is now_shows need takes =
         let at : AtOpen setting state parts sessions number session now current =
         record { shown = shown; is_open = record { found = found; open_here = here_is; open_there = there_is } } in
         core_step laws setting state parts sessions number session now current txn
-        (opening laws setting state parts sessions number session now current txn at shows now_shows fit txn_is)
+        (opening laws setting state parts sessions number session now current txn at shows now_shows fit txn_is) progress after new
         current.phase now_shows.open_shows.phase refl
-        (subst (λ (stands : Phase). phase_need session txn now stands ≡ Core) now_shows.open_shows.phase need) progress after new
-        (subst (λ (stands : Phase). TakesAtCore session core (phase_at_core session core txn now stands) progress after new) now_shows.open_shows.phase takes)
+        (subst (λ (stands : Phase). phase_need session txn now stands ≡ Core) now_shows.open_shows.phase need)
+        (subst (λ (stands : Phase). TakesAtCore session core (Some (open_turn session core txn now stands)) progress after new)
+        now_shows.open_shows.phase takes)
 
     by_visit : {old new : Part} → Visited session part progress after old new → slice_get parts part ≡ Some old
         → IsTaken setting state parts sessions number (turn setting state number) part progress after new
@@ -163,6 +160,7 @@ steps_are laws setting state parts sessions number session part old progress aft
         (sym (core_is part part_is))
         (at_core new (txn_at setting number (session_at state number)) refl session.now refl (session_at state number).now refl shows.now_shows
         (subst (λ (txn : Option Txn). session_need session txn session.now ≡ Core) same need)
-        (subst (λ (core : CoreData). TakesAtCore session core (session_at_core session core (txn_at setting number (session_at state number)) session.now) progress after new)
+        (subst (λ (core : CoreData). TakesAtCore session core (Some (TurnHere core (txn_at setting number (session_at state number)) session.now)) progress after new)
         (the_core setting state parts sessions shown old (subst (λ (n : ℕ). slice_get parts n ≡ Some (CorePart old)) (core_is part part_is) there))
-        (subst (λ (txn : Option Txn). TakesAtCore session old (session_at_core session old txn session.now) progress after new) same event)))
+        (subst (λ (txn : Option Txn). TakesAtCore session old (Some (TurnHere old txn session.now)) progress after new) same
+        (subst (λ (need : Need). TakesAtCore session old (if_core need (TurnHere old (txn_here session) session.now)) progress after new) need event))))

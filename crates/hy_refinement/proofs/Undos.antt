@@ -12,6 +12,7 @@ use Rattle.hy_undo.specs.Chunks.{ChunkData, Undone, AtOwn, Everywhere, is_own}
 use Rattle.hy_event.specs.declared.SessionData.{SessionData}
 use Rattle.hy_event.specs.declared.Open.{Open}
 use Rattle.hy_protocol.specs.declared.Phase.TheVariants as phase
+use Rattle.hy_protocol.specs.Turns.{is_stamping}
 use Rattle.hy_event.specs.Sessions.{label_of}
 use Rattle.hy_event.specs.Turns.{after_visit as visited_by}
 use Rattle.hy_event.specs.Events.{Part, ChunkPart}
@@ -27,7 +28,6 @@ use Rattle.hy_refinement.specs.Stamped.{is_unstamped}
 use Rattle.hy_refinement.specs.Sessions.{OpenShows}
 use Rattle.hy_refinement.specs.Places.{PlaceShows}
 use Rattle.hy_refinement.specs.Parts.{ChunkIs}
-use Rattle.hy_machine.specs.Kept.{is_stamping}
 use Rattle.hy_refinement.specs.Taken.{AtChunk, chunk_number}
 use Rattle.hy_refinement.specs.Frames.{gone_on, sessions_on, KeepsStart, WentOn, StandsElsewhere, ChunkShows, UnmovedPlacesShow, ChunkVisitsShow}
 use Rattle.hy_refinement.specs.Frames.{VisitedChunksShow, GoingOnIsTaken}

@@ -9,26 +9,23 @@ use Rattle.hy_validate.specs.Hits.{first_invalid}
 use Rattle.hy_journal.specs.declared.CoreData.{CoreData}
 use Rattle.hy_journal.specs.declared.Entry.{Entry}
 use Rattle.hy_notes.specs.Notes.{is_change}
-use Rattle.hy_journal.specs.Core.{core_entered}
 use Rattle.hy_event.specs.declared.SessionData.{SessionData}
 use Rattle.hy_event.specs.declared.Open.{Open}
 use Rattle.hy_protocol.specs.declared.Phase.TheVariants as phase
 use Rattle.hy_protocol.specs.declared.Progress.{Progress}
 use Rattle.hy_event.specs.Sessions.{label_of}
-use Rattle.hy_protocol.specs.Turns.{Enters as enters, Waits as waits, refused as refuses}
 use Rattle.hy_event.specs.Turns.{Takes}
-use Rattle.hy_event.specs.CoreTurns.{TakesAtCore, begin_turn, close_turn, leave_turn, invalid_by}
+use Rattle.hy_event.specs.CoreTurns.{TakesAtCore, invalid_by}
 use Rattle.hy_event.specs.Events.{Part, CorePart}
 use Rattle.hy_machine.specs.declared.Setting.{Setting}
 use Rattle.hy_machine.specs.States.{State, Open as MachineOpen}
-use Rattle.hy_protocol.specs.Turns.{Waits, Begins, Enters, Ends, refused}
+use Rattle.hy_protocol.specs.Turns.{Waits, Begins, Enters, Ends, refused, is_stamping}
 use Rattle.hy_machine.specs.Writes.{written_chunks, wrote_nothing}
 use Rattle.hy_machine.specs.Sessions.{blocker}
 use Rattle.hy_machine.specs.Holding.{holds}
 use Rattle.hy_machine.specs.Tables.{Entry as Entered}
 use Rattle.hy_machine.specs.Positions.{by_place}
 use Rattle.hy_machine.specs.Validation.{change_at, first_hit, committed_of}
-use Rattle.hy_machine.specs.Kept.{is_stamping}
 use Rattle.hy_refinement.specs.Numbers.{EntryShows}
 use Rattle.hy_refinement.specs.Shows.{Shows}
 use Rattle.hy_refinement.specs.Taken.{ShownState, AtOpen, AtStatement, IsTaken, core_number}
@@ -51,7 +48,7 @@ BeginsAreTaken =
     (setting : Setting) (state : State) (parts : List Part) (sessions : List SessionData) (number : ℕ) (session : SessionData)
     (progress : Progress) (after : SessionData) (new : CoreData)
     → (at : AtRest setting state parts sessions number session) → IsFreeToGo state number
-    → TakesAtCore session at.shown.shows.core (Some (begin_turn at.shown.shows.core)) progress after new
+    → TakesAtCore session at.shown.shows.core (Some Begins) progress after new
     → IsTaken setting state parts sessions number Begins (core_number setting) progress after (CorePart new)
 
 -- an open transaction holds no position
@@ -65,7 +62,7 @@ ClosesAreTaken =
     (now : Open) (current : MachineOpen) (ending : Ending) (progress : Progress) (after : SessionData) (new : CoreData)
     → (at : AtOpen setting state parts sessions number session now current) → IsFreeToGo state number
     → is_stamping current.phase ≡ false → HoldsNothing setting current
-    → TakesAtCore session at.shown.shows.core (Some (close_turn at.shown.shows.core now ending)) progress after new
+    → TakesAtCore session at.shown.shows.core (Some (Ends ending)) progress after new
     → IsTaken setting state parts sessions number (Ends ending) (core_number setting) progress after (CorePart new)
 
 -- a transaction that stamped all its chunks ends
@@ -75,7 +72,7 @@ LeavesAreTaken =
     (now : Open) (current : MachineOpen) (visited : ℕ) (progress : Progress) (after : SessionData) (new : CoreData)
     → (at : AtOpen setting state parts sessions number session now current)
     → now.phase ≡ phase.Stamping visited → length (written_chunks setting current.begun.own) ≤ visited
-    → TakesAtCore session at.shown.shows.core (Some (leave_turn at.shown.shows.core now)) progress after new
+    → TakesAtCore session at.shown.shows.core (Some (Ends (Committed (length state.order - 1)))) progress after new
     → IsTaken setting state parts sessions number (Ends (Committed (length state.order - 1))) (core_number setting) progress after (CorePart new)
 
 -- ---- COMMIT
@@ -104,8 +101,7 @@ EntersAreTaken =
     (now : Open) (current : MachineOpen) (visited count : ℕ) (progress : Progress) (after : SessionData) (new : CoreData)
     → (at : AtOpen setting state parts sessions number session now current) → IsFreeToGo state number
     → AtStatement setting state number now visited count None
-    → TakesAtCore session at.shown.shows.core
-    (Some (enters, core_entered at.shown.shows.core (label_of session) now.start now.notes)) progress after new
+    → TakesAtCore session at.shown.shows.core (Some Enters) progress after new
     → IsTaken setting state parts sessions number Enters (core_number setting) progress after (CorePart new)
 
 -- ---- without a change of a part
@@ -117,7 +113,7 @@ RefusalsAreTaken =
     (now : Open) (current : MachineOpen) (visited count : ℕ) (cause : Ending) (part : ℕ) (present : Part) (progress : Progress) (after : SessionData)
     → AtOpen setting state parts sessions number session now current
     → now.phase ≡ phase.Working visited count → slice_get parts part ≡ Some present
-    → Takes session (refuses cause) progress after
+    → Takes session (refused cause) progress after
     → IsTaken setting state parts sessions number (refused cause) part progress after present
 
 -- a session that waits stays as it is
@@ -126,7 +122,7 @@ WaitsAreTaken =
     (setting : Setting) (state : State) (parts : List Part) (sessions : List SessionData) (number : ℕ) (session : SessionData)
     (by : Label) (part : ℕ) (present : Part) (progress : Progress) (after : SessionData)
     → Shows setting state parts sessions → slice_get sessions number ≡ Some session → slice_get parts part ≡ Some present
-    → Takes session (waits by) progress after
+    → Takes session (Waits by) progress after
     → IsTaken setting state parts sessions number (Waits by) part progress after present
 
 -- ---- the journal

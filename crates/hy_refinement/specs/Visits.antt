@@ -26,7 +26,7 @@ use Rattle.hy_event.specs.Events.{Part, ChunkPart}
 use Rattle.hy_bound.specs.declared.Ending.{Ending}
 use Rattle.hy_machine.specs.declared.Setting.{Setting}
 use Rattle.hy_machine.specs.States.{State, Open as MachineOpen}
-use Rattle.hy_protocol.specs.Turns.{Visits}
+use Rattle.hy_protocol.specs.Turns.{Visits, is_stamping}
 use Rattle.hy_machine.specs.Turns.{rows_seen, read_turn, write_turn, check_turn, place_turn}
 use Rattle.hy_machine.specs.Writes.{written_chunks}
 use Rattle.hy_machine.specs.Sessions.{view}
@@ -34,7 +34,6 @@ use Rattle.hy_machine.specs.Holding.{undone}
 use Rattle.hy_protocol.specs.Statements.{kind_of}
 use Rattle.hy_machine.specs.Visits.{swept, sees_key, free_position}
 use Rattle.hy_event.specs.Sessions.{written_chunks as chunks_written}
-use Rattle.hy_machine.specs.Kept.{is_stamping}
 use Rattle.hy_refinement.specs.Taken.{AtOpen, AtChunk, AtStatement, IsTaken, chunk_number}
 
 -- ---- statements that read

@@ -1,6 +1,6 @@
 -- Conditions that are true only of rows with some key.
 use Rattle.std.proofs.Common.{◌≡◌, ℕ, zero, suc, ◌<◌, ◌≤◌, Bool, true, false, List, [], ◌∷◌}
-use Rattle.std.proofs.Common.{length, Option, None, Some, refl, sym, ap, ◌∙◌, cond, subst, arith}
+use Rattle.std.proofs.Common.{length, get_or, Option, None, Some, refl, sym, ap, ◌∙◌, cond, subst, arith}
 use Rattle.std.specs.Prelude.{Contains, IfSome, OnOk, Result, Ok, Err, ◌||◌, ◌&&◌, ◌==◌, nat_le}
 use Rattle.std.specs.List.{list_any}
 use Rattle.std.proofs.lemmas.Bool.{and_parts, both_ways, eqb-true, false_from_ne_true, leb-true}
@@ -114,3 +114,12 @@ some_has {A} o x P is h = subst (λ (q : Option A). IfSome q P) is h
 pub ok_weaker : {A E : Type 0} (r : Result A E) (P Q : Type 0) → (P → Q) → OnOk r P → OnOk r Q
 ok_weaker (Ok x) P Q f h = f h
 ok_weaker (Err e) P Q f h = tt
+
+-- what is found for one key is found for each of its list
+pub found_one : (column : ℕ) (value : Value) (places : List Place) (found : List ℕ) → AreFound column value places found
+    → (other : Value) → Contains (value ∷ []) other → AreFound column other places found
+found_one column value places found all other c = subst (λ (v : Value). AreFound column v places found) (same c.0 c.1 c.2) all
+  where
+    same : (k : ℕ) → k < length (value ∷ []) → get_or (value ∷ []) k other ≡ other → value ≡ other
+    same zero l is = is
+    same (suc k) l is = absurd (omega (arith, l))

@@ -1,5 +1,5 @@
 -- The index of the keys, when a position has another row or becomes unused.
-use Rattle.std.proofs.Common.{◌≡◌, ◌≢◌, ℕ, ◌+◌, ◌<◌, ◌≤◌, Bool, true, false, List, [], length}
+use Rattle.std.proofs.Common.{◌≡◌, ◌≢◌, ℕ, ◌+◌, ◌<◌, ◌≤◌, Bool, true, false, List, [], ◌∷◌, zero, suc, length}
 use Rattle.std.proofs.Common.{get_or, Option, None, Some, sym, ap, ◌∙◌, cond, subst, arith, inl, inr}
 use Rattle.std.specs.Prelude.{not, Contains, count_by}
 use Rattle.std.proofs.Math.ListN.{set}
@@ -7,9 +7,14 @@ use Rattle.std.proofs.lemmas.Bool.{cases_eq}
 use Rattle.std.proofs.lemmas.List.{length-set, get_or-set_same, get_or-set_other, set-set}
 use Rattle.std.proofs.lemmas.List.Sums.{sum_by-set, get_or-le-sum_by}
 use Rattle.hy_value.specs.declared.Value.{Value}
+use Rattle.hy_value.specs.declared.Value.TheVariants as values
+use Rattle.hy_value.specs.declared.Kind.{Kind}
+use Rattle.hy_value.specs.declared.Kind.TheVariants as kinds
+use Rattle.hy_column.specs.Cells.{FitsKind}
+use Rattle.hy_index.specs.Kinds.{IsOfKind}
+use Rattle.hy_chunk.specs.Sound.{FitsRow}
 use Rattle.hy_bound.specs.Predicate.{column_of}
-use Rattle.hy_index.specs.declared.IndexEntry.{IndexEntry}
-use Rattle.hy_index.specs.Entries.{entry, with_entry, without_entry}
+use Rattle.hy_index.specs.Entries.{IndexEntry, entry, with_entry, without_entry}
 use Rattle.hy_index.specs.Indexed.{Indexed}
 use Rattle.hy_index.specs.Members.{AddsOne, TakesOne}
 use Rattle.hy_chunk.specs.Keyed.{IsEntry, HasKeys, IsIndexed, SameKey}
@@ -114,6 +119,22 @@ module _ (key : ℕ) (rows : List (List Value)) (used : List Bool) (place : ℕ)
             let same : count_by not (set (set used place false) place true) ≡ count_by not (set used place true) = ap (count_by not) twice in
             omega (arith, count, one, same, was.room, less);
       }
+
+kind_fits : (kind : Kind) (value : Value) → FitsKind kind value → IsOfKind kind value
+kind_fits kinds.Int values.Null fits = tt
+kind_fits kinds.Int (values.Int number) fits = tt
+kind_fits kinds.Int (values.Text text) fits = absurd fits
+kind_fits kinds.Str values.Null fits = tt
+kind_fits kinds.Str (values.Int number) fits = absurd fits
+kind_fits kinds.Str (values.Text text) fits = tt
+
+-- the key of a row that fits is of the key's type
+pub key_fits : (types : List Kind) (row : List Value) (key : ℕ) → FitsRow types row → IsOfKind (get_or types key kinds.Int) (column_of row key)
+key_fits [] [] key fits = tt
+key_fits [] (value ∷ row) key fits = absurd fits
+key_fits (kind ∷ types) [] key fits = absurd fits
+key_fits (kind ∷ types) (value ∷ row) zero fits = kind_fits kind value fits.0
+key_fits (kind ∷ types) (value ∷ row) (suc key) fits = key_fits types row key fits.1
 
 -- another row with the same key
 pub same_key : (key : Option ℕ) (rows now : List (List Value)) (used : List Bool) (index : Indexed) (place : ℕ) (row : List Value) → place < length rows

@@ -31,3 +31,6 @@ pub mod Masking
 pub mod Placing
 pub mod Candidates
 pub mod SweepSteps
+pub mod Exchanged
+pub mod TextPlaces
+pub mod TextRoom

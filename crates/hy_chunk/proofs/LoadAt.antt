@@ -3,6 +3,7 @@ use Rattle.std.proofs.Common.{◌≡◌, ℕ, ◌<◌, Bool, true, false, List, 
 use Rattle.std.proofs.Math.ListN.{set}
 use Rattle.hy_value.specs.declared.Value.{Value}
 use Rattle.hy_value.specs.declared.Kind.{Kind}
+use Rattle.hy_undo.specs.Stock.{Stock}
 use Rattle.hy_undo.specs.Images.{Image}
 use Rattle.hy_undo.specs.Places.{Place}
 use Rattle.hy_chunk.specs.Fields.{places_of, nth}
@@ -10,7 +11,7 @@ use Rattle.hy_chunk.specs.Sound.{FitsRow, FitsPlace, Sound}
 use Rattle.hy_chunk.specs.Steps.{loaded_place}
 use Rattle.hy_chunk.proofs.Places.{Fields, at, all, Changed, kept, put, put_there, in_rows, in_live, in_used, fits_there, changed_to, sound_changed}
 
-module _ (f : Fields) (kinds : List Kind) (spare : List Image) (seen_places : List Place) (view : all f ≡ seen_places)
+module _ (f : Fields) (kinds : List Kind) (spare : Stock) (seen_places : List Place) (view : all f ≡ seen_places)
     (s : Sound kinds f.rows f.live f.used f.deaths f.chains spare) (place : ℕ) (l : place < length seen_places)
     (row : List Value) (fits : FitsRow kinds row) (now : List Kind) (same : now ≡ kinds) (rows : List (List Value)) (live used : List Bool)
     (rows_are : rows ≡ set f.rows place row) (live_is : live ≡ set f.live place true) (used_is : used ≡ set f.used place true) where
@@ -46,7 +47,7 @@ module _ (f : Fields) (kinds : List Kind) (spare : List Image) (seen_places : Li
   }
 
   pub loaded_sound : Sound now rows live used f.deaths f.chains spare
-  loaded_sound = sound_changed place f new kinds now spare spare same s changed (subst (FitsPlace kinds) (sym here) fits_loaded) s.blank
+  loaded_sound = sound_changed place f new kinds now spare spare same s changed (subst (FitsPlace kinds) (sym here) fits_loaded) s.ready
 
   pub loaded_places : places_of rows live used f.deaths f.chains ≡ set seen_places place (loaded_place row (nth seen_places place))
   loaded_places = changed_to place f new seen_places (loaded_place row) view changed l here

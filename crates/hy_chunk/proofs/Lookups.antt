@@ -1,12 +1,12 @@
 -- Rows that are looked up by their key: a row that is seen with it is at a position that was found.
 use Rattle.std.proofs.Common.{◌≡◌, ℕ, zero, suc, ◌+◌, ◌<◌, Bool, true, false, List, [], ◌∷◌}
-use Rattle.std.proofs.Common.{length, get_or, map, None, Some, refl, sym, ap, ◌∙◌, subst, arith, inl, inr}
+use Rattle.std.proofs.Common.{length, get_or, None, Some, refl, sym, ap, ◌∙◌, arith, inl, inr}
 use Rattle.std.specs.Prelude.{Contains}
 use Rattle.std.specs.List.{AllByRecursion, list_any}
 use Rattle.std.specs.declared.cmp.Ordering.{Ordering}
 use Rattle.std.specs.declared.cmp.Ordering.TheVariants.{Less, Equal, Greater}
 use Rattle.std.proofs.lemmas.Bool.{both_ways, cases_eq, false_from_ne_true}
-use Rattle.std.proofs.lemmas.List.{get_or_default, length-map}
+use Rattle.std.proofs.lemmas.List.{get_or_default}
 use Rattle.hy_value.specs.declared.Value.{Value}
 use Rattle.hy_value.specs.declared.Value.TheVariants.{Null, Int, Text}
 use Rattle.hy_value.specs.declared.Cmp.TheVariants.{Eq}
@@ -15,12 +15,10 @@ use Rattle.hy_value.specs.TotalOrder.{values_tie}
 use Rattle.hy_stamp.specs.declared.Viewer.{Viewer}
 use Rattle.hy_bound.specs.Predicate.{column_of, compared, is_known, truth_of, truth_at}
 use Rattle.hy_plan.specs.Reads.{key_is_value}
-use Rattle.hy_index.specs.declared.IndexEntry.{IndexEntry}
 use Rattle.hy_undo.specs.Places.{Place, Cell, sees}
 use Rattle.hy_undo.specs.Chunks.{rows_seen}
 use Rattle.hy_chunk.specs.Fields.{nth}
 use Rattle.hy_chunk.specs.Keyed.{AreFound}
-use Rattle.hy_chunk.proofs.Found.{mapped_at}
 use Rattle.hy_chunk.proofs.Looks.{found_nowhere}
 
 holds_equal : (o : Ordering) → holds_at Eq o ≡ true → o ≡ Equal
@@ -53,20 +51,11 @@ none_of_more test viewer places found count none here j l =
       | inr other ↦ none j (omega (arith, l, other))
     ]
 
--- the position of an entry
-pub pos_at : (entries : List IndexEntry) (k : ℕ) (e : IndexEntry) → k < length entries → e ≡ get_or entries k e
-    → get_or (map (λ (x : IndexEntry). x.pos) entries) k 0 ≡ e.pos
-pos_at entries k e l is =
-    get_or_default (map (λ (x : IndexEntry). x.pos) entries) k 0 e.pos (omega (arith, l, length-map entries (λ (x : IndexEntry). x.pos)))
-    ∙ (mapped_at (λ (x : IndexEntry). x.pos) entries k e ∙ ap (λ (x : IndexEntry). x.pos) (sym is))
-
-pub holds_of : {A : Type 0} (has : A → Type 0) (xs : List A) (k : ℕ) (x : A) → AllByRecursion has xs → k < length xs → x ≡ get_or xs k x → has x
-holds_of {A} has xs k x all l is = subst has (sym is) (at xs k all l)
-  where
-    at : (ys : List A) (j : ℕ) → AllByRecursion has ys → j < length ys → has (get_or ys j x)
-    at [] j a m = absurd (omega arith)
-    at (y ∷ ys) zero a m = a.0
-    at (y ∷ ys) (suc j) a m = at ys j a.1 (omega arith)
+-- each of them is a position
+pub all_within : (n : ℕ) (found : List ℕ) (k : ℕ) → AllByRecursion (λ (p : ℕ). p < n) found → k < length found → get_or found k 0 < n
+all_within n [] k all l = absurd (omega arith)
+all_within n (p ∷ ps) zero all l = all.0
+all_within n (p ∷ ps) (suc k) all l = all_within n ps k all.1 (omega arith)
 
 passes_of : (column : ℕ) (value : Value) (viewer : Viewer) (places : List Place) (k : ℕ) (cell : Cell) → sees viewer (nth places k) ≡ cell
     → truth_at (key_is_value column value) cell ≡ true → (found : List ℕ) → AreFound column value places found → k < length places → Contains found k

@@ -6,6 +6,7 @@ use Rattle.hy_value.specs.declared.Kind.{Kind}
 use Rattle.hy_stamp.specs.declared.Viewer.{Viewer}
 use Rattle.hy_chain.specs.Chains.{Undo}
 use Rattle.hy_undo.specs.declared.version.Version.{Version}
+use Rattle.hy_undo.specs.Stock.{Stock}
 use Rattle.hy_undo.specs.Images.{Image}
 use Rattle.hy_undo.specs.Places.{Place}
 use Rattle.hy_chunk.specs.Fields.{places_of, nth}
@@ -15,15 +16,15 @@ use Rattle.hy_stamp.specs.declared.Label.{Label}
 use Rattle.hy_undo.specs.Places.{is_free}
 use Rattle.hy_undo.specs.Chunks.{Placed}
 use Rattle.hy_undo.specs.Steps.{PlacesStep, placed_place, IsBlankUnused}
-use Rattle.hy_chunk.specs.Sound.{FitsNoted, blank_image}
+use Rattle.hy_chunk.specs.Sound.{AreReady, FitsNoted, blank_image}
 use Rattle.hy_chunk.proofs.Fitting.{fits_blank}
 use Rattle.hy_chunk.proofs.Places.{changed_there, nth_is}
 
-module _ (f : Fields) (kinds : List Kind) (spare : List Image) (seen_places : List Place) (view : all f ≡ seen_places)
+module _ (f : Fields) (kinds : List Kind) (spare : Stock) (seen_places : List Place) (view : all f ≡ seen_places)
     (s : Sound kinds f.rows f.live f.used f.deaths f.chains spare) (place : ℕ) (l : place < length seen_places)
     (laws : PlacesStep) (viewer : Viewer) (label : Label) (row : List Value) (fits : FitsRow kinds row) (now : List Kind) (same : now ≡ kinds)
     (rows : List (List Value)) (live used : List Bool) (image : Image) (cleared chains : List (List (Undo Image)))
-    (left : List Image) (blank : Rattle.hy_chunk.specs.Sound.AreBlank (length kinds) left) (image_is : image ≡ blank_image (length kinds))
+    (left : Stock) (blank : AreReady kinds left) (image_is : image ≡ blank_image (length kinds))
     (rows_are : rows ≡ set f.rows place row) (live_is : live ≡ set f.live place true) (used_is : used ≡ set f.used place true)
     (cleared_are : cleared ≡ set f.chains place [])
     (chains_are : chains ≡ set cleared place (record { stamp = record { owner = label; mark = viewer.id }; image = image } ∷ get_or cleared place [])) where

@@ -7,13 +7,14 @@ use Rattle.std.proofs.lemmas.List.FromFn.{length-map-range_with_len, get_or-map-
 use Rattle.hy_value.specs.declared.Value.{Value}
 use Rattle.hy_value.specs.declared.Kind.{Kind}
 use Rattle.hy_chain.specs.Chains.{Undo}
+use Rattle.hy_undo.specs.Stock.{Stock}
 use Rattle.hy_undo.specs.Images.{Image}
 use Rattle.hy_undo.specs.Places.{Place}
 use Rattle.hy_value.specs.declared.Kind.TheVariants.{Int, Str}
 use Rattle.hy_column.specs.Cells.{first_value}
 use Rattle.hy_chunk.specs.declared.positions.Positions.TheInside.{Inside}
 use Rattle.hy_chunk.specs.Fields.{place_at, places_of, blank_with, blank_place, nth}
-use Rattle.hy_chunk.specs.Sound.{FitsRow, FitsPlace, AreBlank, Sound}
+use Rattle.hy_chunk.specs.Sound.{FitsRow, FitsPlace, AreReady, Sound}
 
 pub record Fields : Type 0 where
   pub rows : List (List Value)
@@ -114,10 +115,10 @@ changed_there place old new seen view c l =
     let here : nth (all new) place ≡ at new place = at_all new place (blank_with []) (omega (arith, inside, c.rows.size)) in
     (set_all place old new c inside ∙ (ap (λ (ps : List Place). set ps place (at new place)) view ∙ ap (set seen place) (sym here)), here)
 
-pub sound_changed : (place : ℕ) (old new : Fields) (kinds now : List Kind) (spare left : List Image) → now ≡ kinds
-    → Sound kinds old.rows old.live old.used old.deaths old.chains spare → Changed place old new → FitsPlace kinds (at new place) → AreBlank (length kinds) left
+pub sound_changed : (place : ℕ) (old new : Fields) (kinds now : List Kind) (spare left : Stock) → now ≡ kinds
+    → Sound kinds old.rows old.live old.used old.deaths old.chains spare → Changed place old new → FitsPlace kinds (at new place) → AreReady kinds left
     → Sound now new.rows new.live new.used new.deaths new.chains left
-sound_changed place old new kinds now spare left e s c fits blank =
+sound_changed place old new kinds now spare left e s c fits ready =
     let sound : Sound kinds new.rows new.live new.used new.deaths new.chains left = record {
       lives = c.live.size ∙ (s.lives ∙ sym c.rows.size);
       uses = c.used.size ∙ (s.uses ∙ sym c.rows.size);
@@ -127,12 +128,12 @@ sound_changed place old new kinds now spare left e s c fits blank =
         | inl same ↦ subst (λ (j : ℕ). FitsPlace kinds (at new j)) (sym same) fits
         | inr other ↦ subst (FitsPlace kinds) (sym (others_same place old new c k other)) (s.each k (omega (arith, l, c.rows.size)))
       ];
-      blank = blank;
+      ready = ready;
     } in
     subst (λ (ks : List Kind). Sound ks new.rows new.live new.used new.deaths new.chains left) (sym e) sound
 
 -- the fields of positions that contracts see, at a place
-module _ (f : Fields) (kinds : List Kind) (spare : List Image) (seen : List Place) (view : all f ≡ seen)
+module _ (f : Fields) (kinds : List Kind) (spare : Stock) (seen : List Place) (view : all f ≡ seen)
     (s : Sound kinds f.rows f.live f.used f.deaths f.chains spare) (place : ℕ) (l : place < length seen) where
   pub in_rows : place < length f.rows
   in_rows = within_rows f seen place view l
@@ -185,16 +186,15 @@ module _ (f : Fields) (n : ℕ) (kinds : List Kind) (rows : f.rows ≡ replicate
       at_all f k (blank_with []) (omega (arith, inside, e))
       ∙ (blank_at f n kinds rows live used deaths chains k inside ∙ sym (get_or-replicate n k (blank_place kinds) (blank_with []) inside)))
 
-  pub sound_blank : (now : List Kind) (spare : List Image) → now ≡ kinds → spare ≡ [] → Sound now f.rows f.live f.used f.deaths f.chains spare
-  sound_blank now spare e none =
-      let sound : Sound kinds f.rows f.live f.used f.deaths f.chains [] = record {
+  pub sound_blank : (now : List Kind) (spare : Stock) → now ≡ kinds → AreReady kinds spare → Sound now f.rows f.live f.used f.deaths f.chains spare
+  sound_blank now spare e ready =
+      let sound : Sound kinds f.rows f.live f.used f.deaths f.chains spare = record {
         lives = ap length live ∙ (length-replicate n false ∙ sym many);
         uses = ap length used ∙ (length-replicate n false ∙ sym many);
         dead = ap length deaths ∙ (length-replicate {A = ℕ} n 0 ∙ sym many);
         chained = ap length chains ∙ (length-replicate {A = List (Undo Image)} n [] ∙ sym many);
         each = λ k l. subst (FitsPlace kinds) (sym (blank_at f n kinds rows live used deaths chains k (let e = many in omega (arith, l, e))))
             (record { row = fits_first kinds; images = tt; unused = record { row = λ free. refl; chain = λ free. refl } });
-        blank = tt;
+        ready = ready;
       } in
-      subst (λ (ks : List Kind). Sound ks f.rows f.live f.used f.deaths f.chains spare) (sym e)
-      (subst (λ (images : List Image). Sound kinds f.rows f.live f.used f.deaths f.chains images) (sym none) sound)
+      subst (λ (ks : List Kind). Sound ks f.rows f.live f.used f.deaths f.chains spare) (sym e) sound

@@ -5,6 +5,7 @@ use Rattle.std.proofs.Math.ListN.{set}
 use Rattle.hy_value.specs.declared.Kind.{Kind}
 use Rattle.hy_stamp.specs.declared.Stamp.{Stamp}
 use Rattle.hy_chain.specs.Chains.{Undo, newest, stamped}
+use Rattle.hy_undo.specs.Stock.{Stock}
 use Rattle.hy_undo.specs.Images.{Image}
 use Rattle.hy_undo.specs.Places.{Place}
 use Rattle.hy_undo.specs.Chunks.{is_own}
@@ -14,7 +15,7 @@ use Rattle.hy_chunk.specs.Sound.{FitsPlace, Sound}
 use Rattle.hy_chunk.proofs.Places.{Fields, at, all, Changed, kept, put, put_there, in_deaths, in_chains, fits_there, changed_to, sound_changed}
 use Rattle.hy_chunk.proofs.Fitting.{fits_stamped}
 
-module _ (f : Fields) (kinds : List Kind) (spare : List Image) (seen_places : List Place) (view : all f ≡ seen_places)
+module _ (f : Fields) (kinds : List Kind) (spare : Stock) (seen_places : List Place) (view : all f ≡ seen_places)
     (s : Sound kinds f.rows f.live f.used f.deaths f.chains spare) (place : ℕ) (l : place < length seen_places)
     (id time : ℕ) (deaths : List ℕ) (chains : List (List (Undo Image))) (top : Option Stamp) (live : Bool) (old death : ℕ)
     (top_is : top ≡ newest (get_or f.chains place [])) (live_is : live ≡ get_or f.live place false) (old_is : old ≡ get_or f.deaths place 0)
@@ -46,7 +47,7 @@ module _ (f : Fields) (kinds : List Kind) (spare : List Image) (seen_places : Li
   pub stamped_sound : Sound kinds f.rows f.live f.used deaths chains spare
   stamped_sound = sound_changed place f new kinds kinds spare spare refl s changed
       (subst (FitsPlace kinds) (sym here)
-      (fits_stamped kinds id time (stamped_place id time (at f place)).death (at f place) (fits_there f kinds spare seen_places view s place l))) s.blank
+      (fits_stamped kinds id time (stamped_place id time (at f place)).death (at f place) (fits_there f kinds spare seen_places view s place l))) s.ready
 
   pub stamped_places : places_of f.rows f.live f.used deaths chains ≡ set seen_places place (stamped_place id time (nth seen_places place))
   stamped_places = changed_to place f new seen_places (stamped_place id time) view changed l here

@@ -6,6 +6,7 @@ use Rattle.hy_value.specs.declared.Value.{Value}
 use Rattle.hy_value.specs.declared.Kind.{Kind}
 use Rattle.hy_chain.specs.Chains.{Undo, own_image, without_own}
 use Rattle.hy_undo.specs.declared.version.Version.{Version}
+use Rattle.hy_undo.specs.Stock.{Stock}
 use Rattle.hy_undo.specs.Images.{Image, before, put_back}
 use Rattle.hy_undo.specs.Places.{Place}
 use Rattle.hy_undo.specs.Steps.{undone_place, undone_by}
@@ -59,7 +60,7 @@ own_fits kinds id (undo ∷ older) image f some =
       | false ↦ λ e. absurd (cc)
     ] some
 
-module _ (f : Fields) (kinds : List Kind) (spare : List Image) (seen_places : List Place) (view : all f ≡ seen_places)
+module _ (f : Fields) (kinds : List Kind) (spare : Stock) (seen_places : List Place) (view : all f ≡ seen_places)
     (s : Sound kinds f.rows f.live f.used f.deaths f.chains spare) (place : ℕ) (l : place < length seen_places)
     (id : ℕ) (chains : List (List (Undo Image))) (is : chains ≡ set f.chains place (without_own id (get_or f.chains place []))) where
   chain_there : get_or chains place [] ≡ without_own id (get_or f.chains place [])
@@ -88,7 +89,7 @@ module _ (f : Fields) (kinds : List Kind) (spare : List Image) (seen_places : Li
         ∙ not_own id (at f place).version (at f place).used (at f place).death (at f place).chain none
 
     pub left_sound : Sound kinds f.rows f.live f.used f.deaths chains spare
-    left_sound = sound_changed place f left kinds kinds spare spare refl s left_changed (subst (FitsPlace kinds) (sym left_here) fits_now) s.blank
+    left_sound = sound_changed place f left kinds kinds spare spare refl s left_changed (subst (FitsPlace kinds) (sym left_here) fits_now) s.ready
 
     pub left_places : places_of f.rows f.live f.used f.deaths chains ≡ set seen_places place (undone_place id (nth seen_places place))
     left_places = changed_to place f left seen_places (undone_place id) view left_changed l left_here
@@ -141,7 +142,7 @@ module _ (f : Fields) (kinds : List Kind) (spare : List Image) (seen_places : Li
       }) ∙ own_undone id (at f place).version (at f place).used (at f place).death (at f place).chain image some
 
       pub undone_sound : Sound now rows live used f.deaths chains spare
-      undone_sound = sound_changed place f new kinds now spare spare same s changed (subst (FitsPlace kinds) (sym here) fits_now) s.blank
+      undone_sound = sound_changed place f new kinds now spare spare same s changed (subst (FitsPlace kinds) (sym here) fits_now) s.ready
 
       pub undone_places : places_of rows live used f.deaths chains ≡ set seen_places place (undone_place id (nth seen_places place))
       undone_places = changed_to place f new seen_places (undone_place id) view changed l here

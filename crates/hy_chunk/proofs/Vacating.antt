@@ -6,6 +6,7 @@ use Rattle.std.proofs.lemmas.Bool.{cases_Bool, cases_eq, and_parts}
 use Rattle.std.proofs.lemmas.List.{length-replicate, get_or-replicate}
 use Rattle.hy_value.specs.declared.Kind.{Kind}
 use Rattle.hy_chain.specs.Chains.{newest}
+use Rattle.hy_undo.specs.Stock.{Stock}
 use Rattle.hy_undo.specs.Images.{Image}
 use Rattle.hy_undo.specs.Places.{Place, is_free, is_older}
 use Rattle.hy_chunk.specs.Sound.{Sound}
@@ -70,7 +71,7 @@ taken watermark place used live =
     λ i. not (used i) || (not (live i) && (is_older watermark (newest place.chain) && nat_lt place.death watermark))
 
 -- where no bit is set no position may take a row
-pub none_free : (f : Fields) (kinds : List Kind) (spare : List Image) (seen : List Place) (vacant : List Bool) (from next : ℕ) → all f ≡ seen
+pub none_free : (f : Fields) (kinds : List Kind) (spare : Stock) (seen : List Place) (vacant : List Bool) (from next : ℕ) → all f ≡ seen
     → Sound kinds f.rows f.live f.used f.deaths f.chains spare → ShowsVacant f.used f.live vacant → next ≤ length seen
     → ((place : ℕ) → from ≤ place → place < next → get_or vacant place false ≡ false) → NoneFree seen from next
 none_free f kinds spare seen vacant from next view s shows within passed = λ watermark place reached before.

@@ -6,7 +6,8 @@ use Rattle.hy_undo.specs.Places.{Place}
 use Rattle.hy_undo.specs.Chunks.{Everywhere}
 use Rattle.hy_chunk.specs.declared.settled.Settled.{Settled}
 use Rattle.hy_chunk.specs.Fields.{nth}
-use Rattle.hy_chunk.specs.Settled.{IsAtRest, IsNextSet, Settles}
+use Rattle.hy_chunk.specs.Marks.{IsNextSet}
+use Rattle.hy_chunk.specs.Settled.{IsAtRest, Settles}
 use Rattle.hy_chunk.proofs.Mapped.{DoneUpTo, one_more, everywhere}
 use Rattle.hy_chunk.proofs.Settling.{settles_set}
 

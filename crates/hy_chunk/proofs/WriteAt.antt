@@ -7,6 +7,7 @@ use Rattle.hy_stamp.specs.declared.Stamp.{Stamp}
 use Rattle.hy_stamp.specs.declared.Viewer.{Viewer}
 use Rattle.hy_chain.specs.Chains.{Undo, newest, without_own}
 use Rattle.hy_undo.specs.declared.version.Version.{Version}
+use Rattle.hy_undo.specs.Stock.{Stock}
 use Rattle.hy_undo.specs.Images.{Image}
 use Rattle.hy_undo.specs.Places.{Place}
 use Rattle.hy_chunk.specs.Fields.{places_of, nth}
@@ -16,13 +17,13 @@ use Rattle.hy_stamp.specs.declared.Label.{Label}
 use Rattle.hy_undo.specs.Places.{cell_of}
 use Rattle.hy_undo.specs.Chunks.{Written}
 use Rattle.hy_undo.specs.Steps.{PlacesStep}
-use Rattle.hy_chunk.specs.Sound.{FitsNoted, blank_image}
+use Rattle.hy_chunk.specs.Sound.{AreReady, FitsNoted, blank_image}
 use Rattle.hy_chunk.specs.Noting.{changes_noted, own_stamp, own_or_blank}
 use Rattle.hy_chunk.proofs.Over.{fits_length}
 use Rattle.hy_chunk.proofs.Places.{changed_there, nth_is}
 use Rattle.hy_chunk.proofs.Overwriting.{over_place, image_over, overwritten, over_fits, own_fits}
 
-module _ (f : Fields) (kinds : List Kind) (spare : List Image) (seen_places : List Place) (view : all f ≡ seen_places)
+module _ (f : Fields) (kinds : List Kind) (spare : Stock) (seen_places : List Place) (view : all f ≡ seen_places)
     (s : Sound kinds f.rows f.live f.used f.deaths f.chains spare) (place : ℕ) (l : place < length seen_places)
     (viewer : Viewer) (label : Label) (version : Version) (fits : FitsRow kinds version.row) (was_live : (nth seen_places place).version.live ≡ true) where
   there : nth seen_places place ≡ at f place
@@ -39,7 +40,7 @@ module _ (f : Fields) (kinds : List Kind) (spare : List Image) (seen_places : Li
 
     module _ (laws : PlacesStep) (now : List Kind) (same : now ≡ kinds) (rows : List (List Value)) (live : List Bool) (image : Image) (stamp : Stamp)
         (popped chains : List (List (Undo Image)))
-        (left : List Image) (blank : Rattle.hy_chunk.specs.Sound.AreBlank (length kinds) left)
+        (left : Stock) (blank : AreReady kinds left)
         (rows_are : rows ≡ set f.rows place version.row) (live_is : live ≡ set f.live place version.live)
         (values_are : image.values ≡ changes_noted (get_or f.rows place []) version.row taken.values) (alive_is : image.live ≡ taken.live)
         (stamp_is : stamp ≡ own_stamp label viewer.id (newest (get_or f.chains place [])))

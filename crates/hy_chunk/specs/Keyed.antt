@@ -1,11 +1,13 @@
 -- The keys of the used positions, by which rows are looked up.
 use Rattle.std.specs.Prelude.{◌≡◌, ◌≤◌, ◌<◌, ◌↔◌, ℕ, List, [], Bool, true, false, not, ◌==◌, Option, None, Some, Contains, count_by, length, slice_index_or}
 use Rattle.std.specs.List.{AllByRecursion}
+use Rattle.hy_value.specs.declared.Kind.{Kind}
+use Rattle.hy_value.specs.declared.Kind.TheVariants.{Int}
 use Rattle.hy_value.specs.declared.Value.{Value}
 use Rattle.hy_stamp.specs.declared.Viewer.{Viewer}
 use Rattle.hy_bound.specs.Predicate.{column_of}
 use Rattle.hy_chain.specs.Chains.{Undo}
-use Rattle.hy_index.specs.declared.IndexEntry.{IndexEntry}
+use Rattle.hy_index.specs.Entries.{IndexEntry}
 use Rattle.hy_index.specs.Indexed.{Indexed}
 use Rattle.hy_undo.specs.Images.{Image}
 use Rattle.hy_undo.specs.Places.{Place, sees}
@@ -24,6 +26,11 @@ pub record HasKeys (key : ℕ) (rows : List (List Value)) (used : List Bool) (in
 abbrev pub IsIndexed : Option ℕ → List (List Value) → List Bool → Indexed → Type 0
 IsIndexed None rows used index = Unit {0}
 IsIndexed (Some key) rows used index = HasKeys key rows used index
+
+-- the type of the keys: any where no column is the key
+abbrev pub key_kind : List Kind → Option ℕ → Kind
+key_kind kinds None = Int
+key_kind kinds (Some key) = slice_index_or kinds key Int
 
 -- no before-image has another key
 abbrev pub SparesKey : ℕ → List (Undo Image) → Type 0

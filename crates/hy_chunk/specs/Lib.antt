@@ -2,6 +2,7 @@ pub mod Fields
 pub mod Views
 pub mod Sound
 pub mod Ranged
+pub mod Marks
 pub mod Settled
 pub mod Keyed
 pub mod Vacant

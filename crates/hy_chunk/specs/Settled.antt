@@ -21,10 +21,3 @@ pub record Settles (settled : Settled) (places : List Place) : Type 0 where
 -- the bits of a part are set
 abbrev pub AllSetIn : ℕ → ℕ → List Bool → Type 0
 AllSetIn first end bits = (place : ℕ) → first ≤ place → place < end → slice_index_or bits place false ≡ true
-
--- a place is the first from another on whose bit is set, or behind the last bit
-pub record IsNextSet (bits : List Bool) (from place : ℕ) : Type 0 where
-  pub reached : from ≤ place
-  pub within : place ≤ length bits
-  pub passed : (k : ℕ) → from ≤ k → k < place → slice_index_or bits k false ≡ false
-  pub set : place < length bits → slice_index_or bits place false ≡ true

@@ -1,11 +1,11 @@
 -- What holds of a chunk's fields at all times.
-use Rattle.std.specs.Prelude.{◌≡◌, ℕ, ◌<◌, List, [], ◌∷◌, Bool, false, Option, None, Some, length, replicate}
-use Rattle.std.specs.List.{AllByRecursion}
+use Rattle.std.specs.Prelude.{◌≡◌, ℕ, ◌+◌, ◌<◌, ◌≤◌, List, [], ◌∷◌, Bool, false, Option, None, Some, length, replicate}
 use Rattle.hy_value.specs.declared.Value.{Value}
 use Rattle.hy_value.specs.declared.Kind.{Kind}
 use Rattle.hy_chain.specs.Chains.{Undo}
-use Rattle.hy_column.specs.Cells.{FitsKind}
+use Rattle.hy_column.specs.Cells.{FitsKind, texts_of}
 use Rattle.hy_undo.specs.Images.{Image}
+use Rattle.hy_undo.specs.Stock.{Stock}
 use Rattle.hy_undo.specs.Places.{Place}
 use Rattle.hy_undo.specs.Steps.{IsBlankUnused}
 use Rattle.hy_chunk.specs.Fields.{place_at}
@@ -16,6 +16,10 @@ FitsRow [] [] = Unit {0}
 FitsRow [] (value ∷ row) = ⊥
 FitsRow (kind ∷ kinds) [] = ⊥
 FitsRow (kind ∷ kinds) (value ∷ row) = FitsKind kind value × FitsRow kinds row
+
+-- how many texts it has at most
+abbrev pub most_texts : List Kind → ℕ
+most_texts kinds = texts_of kinds
 
 abbrev pub FitsNoted : Kind → Option Value → Type 0
 FitsNoted kind None = Unit {0}
@@ -43,15 +47,17 @@ pub record FitsPlace (kinds : List Kind) (place : Place) : Type 0 where
 abbrev pub blank_image : ℕ → Image
 blank_image width = record { values = replicate width None; live = false }
 
-abbrev pub AreBlank : ℕ → List Image → Type 0
-AreBlank width images = AllByRecursion (λ image. image ≡ blank_image width) images
+-- the spare before-images have a slot for each column, and each has a place for each text that may be noted in it
+pub record AreReady (kinds : List Kind) (spare : Stock) : Type 0 where
+  pub columns : spare.columns ≡ length kinds
+  pub texts : texts_of kinds ≤ spare.texts
 
--- the fields have as many positions, each of which fits, and the spare before-images are blank
+-- the fields have as many positions, each of which fits, and the spare before-images are ready
 pub record Sound (kinds : List Kind) (rows : List (List Value)) (live used : List Bool) (deaths : List ℕ) (chains : List (List (Undo Image)))
-    (spare : List Image) : Type 0 where
+    (spare : Stock) : Type 0 where
   pub lives : length live ≡ length rows
   pub uses : length used ≡ length rows
   pub dead : length deaths ≡ length rows
   pub chained : length chains ≡ length rows
   pub each : (place : ℕ) → place < length rows → FitsPlace kinds (place_at rows live used deaths chains place)
-  pub blank : AreBlank (length kinds) spare
+  pub ready : AreReady kinds spare

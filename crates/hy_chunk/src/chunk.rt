@@ -21,7 +21,7 @@ ghost use Rattle.hy_chunk.specs.Masked.{Admits, Confirms};
 ghost use Rattle.hy_chunk.specs.Parts.{part_of};
 ghost use Rattle.hy_bound.specs.Records.{conjuncts};
 ghost use Rattle.hy_chunk.specs.Settled.{Settles};
-ghost use Rattle.hy_chunk.specs.Sound.{FitsRow};
+ghost use Rattle.hy_chunk.specs.Sound.{FitsRow, most_texts};
 ghost use Rattle.hy_chunk.specs.Steps.{loaded_place, least_free, IsPut};
 ghost use Rattle.hy_chunk.specs.Views.{with_places};
 ghost use Rattle.hy_chunk.specs.Writes.{FitsWrite, IsDone, refusal_in, sets_of};
@@ -142,9 +142,9 @@ fn find_in(
     ensures found { result ≡ list_any (truth_at (Compare column Cmp.Eq (Side.Literal value.now))) (rows_seen viewer.now positions.now.places) }
     ensures width { length seen.new.row ≡ length positions.now.kinds }
 {
-    let entries = positions.find(column, value);
-    for entry in entries {
-        positions.see(entry.pos as usize, viewer, seen);
+    let found = positions.find(column, value.refer());
+    for i in 0..found.len() {
+        positions.see(found.at(i) as usize, viewer, seen);
         if has_value(seen, column, value) {
             return true;
         }
@@ -214,6 +214,13 @@ impl Chunk {
         ensures { result ≡ length self.now.shown.places }
     {
         self.positions.len()
+    }
+
+    /// How many texts a row of it has at most: so many columns are of texts.
+    pub fn texts(&self) -> usize
+        ensures { result ≡ most_texts self.now.kinds }
+    {
+        self.positions.texts()
     }
 
     /// Makes room for so many more records. There is never less room, and all else stays, without memory too.
@@ -322,7 +329,6 @@ impl Chunk {
     /// does not pass it. Err is for want of memory: then only the rows that were there before are there for certain.
     fn gather_by_row(
         &mut self,
-        alloc: Global,
         viewer: &Viewer,
         wanted: &Wanted,
         scan: &Scan,
@@ -344,7 +350,7 @@ impl Chunk {
                 continue;
             }
             self.positions.see(place, viewer, &mut self.seen);
-            keep(alloc, &self.seen, wanted, gathered)?;
+            keep(&self.seen, wanted, gathered)?;
         }
         Ok(())
     }
@@ -410,7 +416,7 @@ impl Chunk {
             part: versioned,
             mask,
         };
-        self.gather_by_row(alloc, viewer, wanted, &scan, gathered)?;
+        self.gather_by_row(viewer, wanted, &scan, gathered)?;
         self.gather_plain(alloc, wanted, mask, behind, gathered)
     }
 
@@ -439,14 +445,13 @@ impl Chunk {
             end: self.positions.len(),
         };
         let mask = &found.mask;
-        self.gather_by_row(alloc, viewer, wanted, &Scan { part, mask }, gathered)
+        self.gather_by_row(viewer, wanted, &Scan { part, mask }, gathered)
     }
 
     /// Appends, at these positions in turn, what is wanted of the rows that a viewer sees. Err is for want of memory:
     /// then only the rows that were there before are there for certain.
     fn gather_at(
         &mut self,
-        alloc: Global,
         viewer: &Viewer,
         wanted: &Wanted,
         places: &[u32],
@@ -464,7 +469,7 @@ impl Chunk {
         for i in 0..places.len() {
             self.positions
                 .see(number_at(places, i) as usize, viewer, &mut self.seen);
-            keep(alloc, &self.seen, wanted, gathered)?;
+            keep(&self.seen, wanted, gathered)?;
         }
         Ok(())
     }
@@ -482,7 +487,7 @@ impl Chunk {
             return Ok(Some(self.positions.find_each(alloc, key, values)?));
         }
         match value_asked(wanted.pred, key) {
-            Some(value) => Ok(Some(self.positions.find_each(alloc, key, &[value.to_value()])?)),
+            Some(value) => Ok(Some(self.positions.find_used(alloc, key, value)?)),
             None => Ok(None),
         }
     }
@@ -504,7 +509,7 @@ impl Chunk {
         ensures all { self.new ≡ self.old }
     {
         match self.places_wanted(alloc, wanted)? {
-            Some(places) => self.gather_at(alloc, viewer, wanted, places.as_slice(), gathered),
+            Some(places) => self.gather_at(viewer, wanted, places.as_slice(), gathered),
             None => self.gather_admitted(alloc, viewer, wanted, gathered),
         }
     }
@@ -599,6 +604,24 @@ impl Chunk {
         end
     }
 
+    /// Whether no position may take a new row, whatever the watermark is, seen without a look at the positions. No clause
+    /// says that it is seen wherever it is so.
+    pub fn is_full(&self) -> bool
+        ensures { result ≡ true → (watermark : ℕ) → least_free watermark self.now.shown.places ≡ length self.now.shown.places }
+    {
+        self.positions.is_full()
+    }
+
+    /// Whether pruning by a cover changes nothing, seen without a look at the positions. No clause says that it is seen
+    /// wherever it is so.
+    pub fn is_pruned(&self, cover: &Cover) -> bool
+        requires { AllByRecursion (λ place. Falls place.chain) self.now.shown.places }
+        ensures { result ≡ true → Everywhere (Pruned cover.now) self.now.shown.places self.now.shown.places }
+    {
+        hy_undo::places_step();
+        self.settled.is_below(watermark(cover))
+    }
+
     /// Puts a new row at the least position that may take it, notes it, and answers the position. It fails only where
     /// no position may, and then changes nothing. It takes no memory.
     pub fn place(
@@ -613,6 +636,7 @@ impl Chunk {
         requires room { 0 < self.old.room }
         requires notes { 0 < changes.old.room }
         requires wide { length self.old.kinds ≤ changes.old.width }
+        requires long { most_texts self.old.kinds ≤ changes.old.texts }
         ensures pos { IfOk result (λ pos. pos ≡ self.old.shown.first + least_free (watermark_of cover.now) self.old.shown.places) }
         ensures there { OnOk result (least_free (watermark_of cover.now) self.old.shown.places < length self.old.shown.places) }
         ensures all { self.new ≡ with_places self.old self.new.shown.places self.new.room }
@@ -625,6 +649,7 @@ impl Chunk {
         ensures room { self.old.room ≤ self.new.room + 1 }
         ensures notes_room { changes.old.room ≤ changes.new.room + 1 }
         ensures notes_width { changes.new.width ≡ changes.old.width }
+        ensures notes_texts { changes.new.texts ≡ changes.old.texts }
     {
         let place = self.first_free(watermark(cover));
         if place == self.positions.len() {
@@ -646,7 +671,7 @@ impl Chunk {
             return Ok(None);
         };
         match value_asked(pred, key) {
-            Some(value) => Ok(Some(self.positions.find_used(alloc, key, &value.to_value())?)),
+            Some(value) => Ok(Some(self.positions.find_used(alloc, key, value)?)),
             None => Ok(None),
         }
     }
@@ -708,6 +733,7 @@ impl Chunk {
         requires room { length sweep.now.places.now ≤ self.old.room }
         requires notes { length sweep.now.places.now ≤ changes.old.room }
         requires wide { length self.old.kinds ≤ changes.old.width }
+        requires long { most_texts self.old.kinds ≤ changes.old.texts }
         requires fits { FitsWrite self.old.kinds self.old.shown.key sweep.now.kind.now }
         ensures all { self.new ≡ with_places self.old self.new.shown.places self.new.room }
         ensures done { IsDone sweep.now.viewer.now label self.old.shown.table self.old.shown.first
@@ -716,6 +742,7 @@ impl Chunk {
         ensures room { self.old.room ≤ self.new.room + length sweep.now.places.now }
         ensures notes_room { changes.old.room ≤ changes.new.room + length sweep.now.places.now }
         ensures notes_width { changes.new.width ≡ changes.old.width }
+        ensures notes_texts { changes.new.texts ≡ changes.old.texts }
     {
         self.positions.keys_stay();
         let mut written = 0;
@@ -750,6 +777,7 @@ impl Chunk {
         requires room { length sweep.now.places.now ≤ self.old.room }
         requires notes { length sweep.now.places.now ≤ changes.old.room }
         requires wide { length self.old.kinds ≤ changes.old.width }
+        requires long { most_texts self.old.kinds ≤ changes.old.texts }
         requires fits { FitsWrite self.old.kinds self.old.shown.key sweep.now.kind.now }
         ensures all { self.new ≡ with_places self.old self.new.shown.places self.new.room }
         ensures done { IfOk result (λ count. IsDone sweep.now.viewer.now label self.old.shown.table self.old.shown.first
@@ -761,6 +789,7 @@ impl Chunk {
         ensures room { self.old.room ≤ self.new.room + length sweep.now.places.now }
         ensures notes_room { changes.old.room ≤ changes.new.room + length sweep.now.places.now }
         ensures notes_width { changes.new.width ≡ changes.old.width }
+        ensures notes_texts { changes.new.texts ≡ changes.old.texts }
     {
         match self.refusal(sweep) {
             Some(refusal) => Err(refusal),

@@ -15,7 +15,7 @@ ghost use Rattle.hy_value.specs.Refs.{referred};
 ghost use Rattle.hy_value.specs.declared.Value.{Value};
 ghost use Rattle.hy_chunk.specs.Gathering.{Asks, AsksOneOf, GathersOne, GathersRead, conditions_of, kept_by};
 
-use hy_bound::{Pred, Root, SideView, cell, compare, project_row, truth};
+use hy_bound::{Pred, Root, SideView, cell, compare, truth};
 use hy_plan::Gathered;
 use hy_undo::Version;
 use hy_value::{Cmp, ColMask, Row, Value, ValueRef};
@@ -123,8 +123,8 @@ fn literal_of(side: SideView<'_>) -> Option<ValueRef<'_>>
     }
 }
 
-/// The value that a condition asks of a column by `=`, if it is such a comparison.
-fn value_compared(pred: &Pred, column: u32) -> Option<ValueRef<'_>>
+/// The value that a condition asks of a column by `=`: it is such a comparison, or AND joins one in it.
+pub fn value_asked(pred: &Pred, column: u32) -> Option<ValueRef<'_>>
     ensures { IfSome result (λ value. Asks pred.now column (referred value)) }
 {
     match pred.root() {
@@ -133,20 +133,11 @@ fn value_compared(pred: &Pred, column: u32) -> Option<ValueRef<'_>>
             op: Cmp::Eq,
             side,
         } if left == column => literal_of(side),
+        Root::And(left, right) => match value_asked(left, column) {
+            Some(value) => Some(value),
+            None => value_asked(right, column),
+        },
         _ => None,
-    }
-}
-
-/// The value that a condition asks of a column by `=`: it is such a comparison, or AND joins one in it.
-pub fn value_asked(pred: &Pred, column: u32) -> Option<ValueRef<'_>>
-    ensures { IfSome result (λ value. Asks pred.now column (referred value)) }
-{
-    let Root::And(left, right) = pred.root() else {
-        return value_compared(pred, column);
-    };
-    match value_asked(left, column) {
-        Some(value) => Some(value),
-        None => value_asked(right, column),
     }
 }
 
@@ -172,12 +163,7 @@ pub fn columns_in(alloc: Global, columns: ColMask, width: usize) -> Result<Vec<u
 }
 
 /// Adds the wanted values of a version, where it is a row that is wanted. Without memory nothing changes.
-pub fn keep(
-    alloc: Global,
-    version: &Version,
-    wanted: &Wanted,
-    gathered: &mut Gathered,
-) -> Result<(), AllocError>
+pub fn keep(version: &Version, wanted: &Wanted, gathered: &mut Gathered) -> Result<(), AllocError>
     requires { length (projected wanted.now.columns version.now.row) ≡ gathered.old.width }
     ensures rows { OnOk result (gathered.new.rows ≡ gathered.old.rows
         ++ kept_by wanted.now.columns (conditions_of wanted.now.pred.now wanted.now.keys) (cell_of version.now)) }
@@ -185,8 +171,7 @@ pub fn keep(
     ensures width { gathered.new.width ≡ gathered.old.width }
 {
     if version.live && is_wanted(wanted, &version.row) {
-        let row = project_row(alloc, wanted.columns, &version.row)?;
-        gathered.push(row.as_slice())?;
+        gathered.push_projected(wanted.columns, version.row.as_slice())?;
     }
     Ok(())
 }

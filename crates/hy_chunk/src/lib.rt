@@ -6,6 +6,7 @@
 mod chunk;
 mod gathering;
 mod lookup;
+mod marks;
 mod masks;
 mod positions;
 mod rows;

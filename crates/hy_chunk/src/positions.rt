@@ -3,11 +3,12 @@
 ghost use Rattle.std.specs.Prelude.{◌≡◌, ◌+◌, ◌<◌, ◌≤◌, ◌&&◌, ◌||◌, ◌==◌, ◌^◌, nat_le, nat_lt, not as negated, IfOk};
 ghost use Rattle.std.specs.Prelude.{OnOk, OnErr, length, replicate, slice_set, vec_len, map, true, ℕ, slice_index_or, [], ◌∷◌};
 ghost use Rattle.std.specs.Prelude.{if◌then◌else◌};
-ghost use Rattle.std.specs.Prelude.{◌++◌, Contains, false};
+ghost use Rattle.std.specs.Prelude.{◌++◌, Contains, List, false};
 ghost use Rattle.hy_column.specs.Compared.{column_compared};
 ghost use Rattle.hy_value.specs.declared.Kind.{Kind};
 ghost use Rattle.std.specs.List.{AllByRecursion};
 ghost use Rattle.std.specs.List.Sorted.{IsStrictlyIncreasing};
+ghost use Rattle.hy_value.specs.Refs.{referred};
 ghost use Rattle.hy_value.specs.declared.Value.{Value};
 ghost use Rattle.hy_chain.specs.Chains.{newest as newest_of, rival, seen as seen_through, without_own};
 ghost use Rattle.hy_undo.specs.Images.{before};
@@ -18,22 +19,23 @@ ghost use Rattle.hy_chunk.specs.Fields.{blank_place, nth};
 ghost use Rattle.hy_chunk.specs.Parts.{places_set};
 ghost use Rattle.hy_chunk.specs.Ranged.{Covers, NoneOutside};
 ghost use Rattle.hy_chunk.specs.Keyed.{AreFound, HaveUsed, KeysStay, SameKey, is_key_of};
-ghost use Rattle.hy_chunk.specs.Sound.{AreBlank, FitsRow, blank_image};
+ghost use Rattle.hy_chunk.specs.Sound.{AreReady, FitsRow, blank_image};
+ghost use Rattle.hy_column.specs.Cells.{texts_of};
 ghost use Rattle.hy_chunk.specs.Noting.{own_stamp, own_or_blank};
 ghost use Rattle.hy_chunk.specs.Steps.{loaded_place, NoneFree};
 
 use crate::lookup::{keep_key, new_index, put_key};
-use crate::masks::all_set;
+use crate::marks::Marks;
 use crate::rows::{exchange_row, put_row};
 use hy_chain::{Chains, Image};
 use hy_column::Columns;
-use hy_index::{IndexEntry, KeyIndex};
+use hy_index::{Found, KeyIndex};
 use hy_kernel::Mask;
 use hy_plan::PlacedRows;
 use hy_prune::Cover;
 use hy_range::Versioned;
 use hy_stamp::{Label, Stamp, Viewer};
-use hy_undo::{Delta, Version};
+use hy_undo::{Delta, Spares, Version};
 use hy_value::{Cmp, Kind, Row, Value, ValueRef};
 use std::alloc::{AllocError, Global};
 use std::marker::Model;
@@ -49,9 +51,9 @@ pub struct Positions {
     deaths: Vec<u64>,
     chains: Chains<Delta>,
     /// Blank before-images, so that a write needs no memory.
-    spare: Vec<Delta>,
+    spare: Spares,
     /// A bit for each position, set where it is unused or no row is in place: no other may take a new row.
-    vacant: Mask,
+    vacant: Marks,
     /// Where there may be records: elsewhere only the columns are looked at.
     versioned: Versioned,
     /// The column that is the key, if there is one, and the keys in place of the used positions.
@@ -60,7 +62,7 @@ pub struct Positions {
 }
 
 impl Model for Positions {
-    ghost use Rattle.std.specs.Prelude.{min, vec_len};
+    ghost use Rattle.std.specs.Prelude.{min};
     ghost use Rattle.hy_chunk.specs.Views.{Held, held_code};
     ghost use Rattle.hy_chunk.specs.Fields.{places_of};
     ghost use Rattle.hy_chunk.specs.Held.{IsHeld};
@@ -73,11 +75,11 @@ impl Model for Positions {
       kinds = a.columns.kinds;
       key = a.key;
       places = places_of a.columns.rows a.live.items a.used.items a.deaths.items a.chains.chains;
-      room = min a.chains.room (vec_len a.spare);
+      room = min a.chains.room a.spare.count;
     } };
 
     ghost invariant = { λ a. IsHeld a.columns.kinds a.columns.rows a.live.items a.used.items a.deaths.items
-        a.chains.chains a.spare.items a.vacant a.versioned a.key a.index };
+        a.chains.chains a.spare a.vacant a.versioned a.key a.index };
 }
 
 /// The positions from `first` up to, and without, `end`.
@@ -153,19 +155,14 @@ fn is_in(range: Versioned, place: usize) -> bool
     range.first as usize <= place && place < range.end as usize
 }
 
-/// Adds blank before-images of so many columns until there are so many. Err is for want of memory.
-fn add_images(spare: &mut Vec<Delta>, count: usize, width: usize) -> Result<(), AllocError>
-    requires { AreBlank width spare.old.items }
-    ensures blank { AreBlank width spare.new.items }
-    ensures ok { OnOk result (count ≤ vec_len spare.new) }
-    ensures kept { vec_len spare.old ≤ vec_len spare.new }
-    ensures err { OnErr result (vec_len spare.old < count) }
+/// Makes blank before-images until there are so many. Err is for want of memory.
+fn add_images(spare: &mut Spares, count: usize) -> Result<(), AllocError>
+    ensures ready { (kinds : List Kind) → AreReady kinds spare.old → AreReady kinds spare.new }
+    ensures ok { OnOk result (count ≤ spare.new.count) }
+    ensures kept { spare.old.count ≤ spare.new.count }
+    ensures err { OnErr result (spare.old.count < count) }
 {
-    let alloc = *spare.allocator();
-    for _image in spare.len()..count {
-        spare.push(Delta::blank(alloc, width)?)?;
-    }
-    Ok(())
+    spare.reserve(count)
 }
 
 /// The writer's own stamp where it is the newest, else a new one.
@@ -181,35 +178,34 @@ fn stamp_over(newest: Option<Stamp>, label: Label, id: u64) -> Stamp
     }
 }
 
-/// Takes a spare before-image out.
-fn take_spare(spare: &mut Vec<Delta>) -> Delta
-    requires { 0 < vec_len spare.old }
-    ensures image { (width : ℕ) → AreBlank width spare.old.items → result ≡ blank_image width }
-    ensures blank { (width : ℕ) → AreBlank width spare.old.items → AreBlank width spare.new.items }
-    ensures left { vec_len spare.old ≡ vec_len spare.new + 1 }
+/// Takes a spare before-image out. The places for its texts are free then.
+fn take_spare(spare: &mut Spares) -> Delta
+    requires { 0 < spare.old.count }
+    ensures image { (kinds : List Kind) → AreReady kinds spare.old → result ≡ blank_image (length kinds) }
+    ensures ready { (kinds : List Kind) → AreReady kinds spare.old → AreReady kinds spare.new }
+    ensures free { (kinds : List Kind) → AreReady kinds spare.old → texts_of kinds ≤ spare.new.free }
+    ensures left { spare.old.count ≡ spare.new.count + 1 }
 {
-    match spare.pop() {
-        Some(image) => image,
-        None => unreachable!(),
-    }
+    spare.take()
 }
 
 /// Takes the writer's own before-image out of its chain, where it is the newest; else a spare one, which says that a
-/// row was there.
-fn take_image(chains: &mut Chains<Delta>, spare: &mut Vec<Delta>, place: usize, id: u64) -> Delta
+/// row was there. A spare one goes in each case, so that there are free places for the texts that are noted.
+fn take_image(chains: &mut Chains<Delta>, spare: &mut Spares, place: usize, id: u64) -> Delta
     requires within { place < length chains.old.chains }
     requires room { 0 < chains.old.room }
-    requires some { 0 < vec_len spare.old }
-    ensures image { (width : ℕ) → AreBlank width spare.old.items → result ≡ own_or_blank width id (slice_index_or chains.old.chains place []) }
-    ensures blank { (width : ℕ) → AreBlank width spare.old.items → AreBlank width spare.new.items }
+    requires some { 0 < spare.old.count }
+    ensures image { (kinds : List Kind) → AreReady kinds spare.old → result ≡ own_or_blank (length kinds) id (slice_index_or chains.old.chains place []) }
+    ensures ready { (kinds : List Kind) → AreReady kinds spare.old → AreReady kinds spare.new }
+    ensures free { (kinds : List Kind) → AreReady kinds spare.old → texts_of kinds ≤ spare.new.free }
     ensures chains { chains.new.chains ≡ slice_set chains.old.chains place (without_own id (slice_index_or chains.old.chains place [])) }
     ensures kept { chains.old.room ≤ chains.new.room }
-    ensures left { vec_len spare.old ≤ vec_len spare.new + 1 }
+    ensures left { spare.old.count ≤ spare.new.count + 1 }
 {
+    let mut image = take_spare(spare);
     match chains.pop_own(place, id) {
         Some(own) => own,
         None => {
-            let mut image = take_spare(spare);
             image.set_live(true);
             image
         }
@@ -237,12 +233,12 @@ fn push_covered(
     versioned.cover(place as u32);
 }
 
-/// Adds the positions of entries.
-fn add_places(entries: &[IndexEntry], found: &mut Vec<u32>) -> Result<(), AllocError>
-    ensures { OnOk result (found.new.items ≡ found.old.items ++ map (λ entry. entry.pos) entries.now) }
+/// Adds positions that are found.
+fn add_places(places: &Found<'_>, found: &mut Vec<u32>) -> Result<(), AllocError>
+    ensures { OnOk result (found.new.items ≡ found.old.items ++ places.now) }
 {
-    for entry in entries {
-        found.push(entry.pos)?;
+    for i in 0..places.len() {
+        found.push(places.at(i))?;
     }
     Ok(())
 }
@@ -253,6 +249,10 @@ fn sort_once(numbers: &mut Vec<u32>)
     ensures keeps { (number : ℕ) → Contains numbers.old.items number → Contains numbers.new.items number }
     ensures adds_none { (number : ℕ) → Contains numbers.new.items number → Contains numbers.old.items number }
 {
+    // Most often there is one at most.
+    if numbers.len() < 2 {
+        return;
+    }
     numbers.sort_unstable();
     numbers.dedup();
 }
@@ -275,15 +275,16 @@ impl Positions {
         let used = vec![in alloc; false; rows]?;
         let deaths = vec![in alloc; 0u64; rows]?;
         let chains = Chains::new(alloc, rows)?;
-        let index = new_index(alloc, key, rows)?;
-        let vacant = all_set(alloc, rows)?;
+        let index = new_index(alloc, kinds, key, rows)?;
+        let vacant = Marks::all(alloc, rows)?;
+        let spare = Spares::new(alloc, kinds.len(), columns.texts());
         Ok(Positions {
             columns,
             live,
             used,
             deaths,
             chains,
-            spare: Vec::new(alloc),
+            spare,
             vacant,
             versioned: Versioned::none(),
             key,
@@ -293,7 +294,7 @@ impl Positions {
 
     /// The allocator of what it allocates.
     pub fn allocator(&self) -> Global {
-        *self.spare.allocator()
+        self.spare.allocator()
     }
 
     /// How many positions there are.
@@ -317,6 +318,13 @@ impl Positions {
         self.columns.width()
     }
 
+    /// How many columns are of texts.
+    pub fn texts(&self) -> usize
+        ensures { result ≡ texts_of self.now.kinds }
+    {
+        self.columns.texts()
+    }
+
     /// Makes room for so many more records. There is never less room, and the positions stay, without memory too.
     pub fn reserve(&mut self, additional: usize) -> Result<(), AllocError>
         ensures kinds { self.new.kinds ≡ self.old.kinds }
@@ -327,7 +335,7 @@ impl Positions {
         ensures err { OnErr result (self.old.room < additional) }
     {
         self.chains.reserve(additional)?;
-        add_images(&mut self.spare, additional, self.columns.width())
+        add_images(&mut self.spare, additional)
     }
 
     /// Prunes the chain of a position by a cover.
@@ -442,7 +450,13 @@ impl Positions {
         hy_undo::places_step();
         let newest = self.chains.head(place);
         let mut image = take_image(&mut self.chains, &mut self.spare, place, viewer.id);
-        exchange_row(&mut self.columns, place, &version.row, &mut image);
+        exchange_row(
+            &mut self.columns,
+            place,
+            &version.row,
+            &mut image,
+            &mut self.spare,
+        );
         put_flag(&mut self.live, place, version.live);
         self.vacant.set(place, !version.live);
         let stamp = stamp_over(newest, label, viewer.id);
@@ -621,11 +635,11 @@ impl Positions {
     }
 
     /// The used positions whose row in place has this key. No other has a row with it that is seen.
-    pub fn find(&self, column: u32, value: &Value) -> &[IndexEntry]
+    pub fn find(&self, column: u32, value: ValueRef<'_>) -> Found<'_>
         requires { is_key_of self.now.key column ≡ true }
-        ensures within { AllByRecursion (λ entry. entry.pos < length self.now.places) result.now }
-        ensures all { AreFound column value.now self.now.places (map (λ entry. entry.pos) result.now) }
-        ensures used { HaveUsed column value.now self.now.places (map (λ entry. entry.pos) result.now) }
+        ensures within { AllByRecursion (λ place. place < length self.now.places) result }
+        ensures all { AreFound column (referred value.entry) self.now.places result }
+        ensures used { HaveUsed column (referred value.entry) self.now.places result }
     {
         hy_index::entries_are_a_set();
         self.index.find(value)
@@ -638,20 +652,22 @@ impl Positions {
         let _many = self.live.len();
     }
 
-    /// The used positions, ascending, whose row in place has this key. Err is for want of memory.
+    /// The used positions, ascending, whose row in place has this key. No other has a row with it that is seen. Err is for
+    /// want of memory.
     pub fn find_used(
         &self,
         alloc: Global,
         column: u32,
-        value: &Value,
+        value: ValueRef<'_>,
     ) -> Result<Vec<u32>, AllocError>
         requires { is_key_of self.now.key column ≡ true }
         ensures ascends { IfOk result (λ found. IsStrictlyIncreasing found.items) }
         ensures within { IfOk result (λ found. (place : ℕ) → Contains found.items place → place < length self.now.places) }
-        ensures all { IfOk result (λ found. HaveUsed column value.now self.now.places found.items) }
+        ensures seen { IfOk result (λ found. AreFound column (referred value.entry) self.now.places found.items) }
+        ensures all { IfOk result (λ found. HaveUsed column (referred value.entry) self.now.places found.items) }
     {
         let mut found = Vec::new(alloc);
-        add_places(self.find(column, value), &mut found)?;
+        add_places(&self.find(column, value), &mut found)?;
         sort_once(&mut found);
         Ok(found)
     }
@@ -671,7 +687,7 @@ impl Positions {
     {
         let mut found = Vec::new(alloc);
         for value in values {
-            add_places(self.find(column, value), &mut found)?;
+            add_places(&self.find(column, value.refer()), &mut found)?;
         }
         sort_once(&mut found);
         Ok(found)
@@ -694,6 +710,14 @@ impl Positions {
         ensures passed { NoneFree self.now.places from result }
     {
         self.vacant.next_set(from)
+    }
+
+    /// Whether no position may take a new row, whatever the watermark is. No clause says that it is found out where
+    /// it is so.
+    pub fn is_full(&self) -> bool
+        ensures { result ≡ true → NoneFree self.now.places 0 (length self.now.places) }
+    {
+        self.vacant.is_blank()
     }
 
     /// Whether a position may take a new row: it is unused, or its row is gone for everyone from the watermark on.

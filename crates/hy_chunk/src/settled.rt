@@ -1,15 +1,16 @@
 //! Which positions of a chunk have to be looked at when it is stamped, undone or pruned.
 
-ghost use Rattle.std.specs.Prelude.{◌≡◌, ◌<◌, ◌≤◌, ◌&&◌, ◌^◌, ◌-◌, nat_lt, IfOk, List, false, length, replicate, slice_index_or, slice_set};
+ghost use Rattle.std.specs.Prelude.{◌≡◌, ◌<◌, ◌≤◌, ◌&&◌, ◌^◌, ◌-◌, ℕ, nat_lt, IfOk, List, false, true, length, replicate, slice_index_or, slice_set};
 ghost use Rattle.hy_chain.specs.Chains.{newest as newest_of};
 ghost use Rattle.hy_prune.specs.Fates.{watermark_of};
 ghost use Rattle.hy_undo.specs.Places.{Place};
 ghost use Rattle.hy_chunk.specs.Fields.{nth};
 ghost use Rattle.hy_chunk.specs.Ranged.{NoneOutside};
-ghost use Rattle.hy_chunk.specs.Settled.{AllSetIn, IsNextSet, Settles};
+ghost use Rattle.hy_chunk.specs.Marks.{IsNextSet};
+ghost use Rattle.hy_chunk.specs.Settled.{AllSetIn, Settles};
 
+use crate::marks::Marks;
 use crate::positions::Part;
-use hy_kernel::Mask;
 use hy_prune::{Cover, watermark};
 use hy_stamp::Stamp;
 use std::alloc::{AllocError, Global};
@@ -19,7 +20,7 @@ use std::alloc::{AllocError, Global};
 #[derive(Drop)]
 pub struct Settled {
     /// The positions that have to be looked at.
-    fresh: Mask,
+    fresh: Marks,
     /// The records at the others have marks after this one,
     after: u64,
     /// and before this one.
@@ -35,7 +36,7 @@ fn stays(mark: u64, cover: &Cover) -> bool
 }
 
 /// Sets the bits of a part.
-fn set_part(mask: &mut Mask, part: Part)
+fn set_part(mask: &mut Marks, part: Part)
     requires ordered { part.first ≤ part.end }
     requires within { part.end ≤ length mask.old }
     ensures size { length mask.new ≡ length mask.old }
@@ -51,7 +52,7 @@ impl Settled {
     pub fn new(alloc: Global, positions: usize) -> Result<Settled, AllocError>
         ensures { IfOk result (λ made. made.fresh ≡ replicate positions false) }
     {
-        let fresh = Mask::new(alloc, positions)?;
+        let fresh = Marks::none(alloc, positions)?;
         Ok(Settled {
             fresh,
             after: u64::MAX,
@@ -65,6 +66,14 @@ impl Settled {
         ensures { IsNextSet self.now.fresh from result }
     {
         self.fresh.next_set(from)
+    }
+
+    /// Whether no position has to be looked at that a cover with this watermark may prune.
+    pub fn is_below(&self, watermark: u64) -> bool
+        ensures late { result ≡ true → watermark ≤ self.now.after }
+        ensures blank { result ≡ true → (place : ℕ) → place < length self.now.fresh → slice_index_or self.now.fresh place false ≡ false }
+    {
+        watermark <= self.after && self.fresh.is_blank()
     }
 
     /// A position has to be looked at: its chain is another one.

@@ -4,25 +4,27 @@ ghost use Rattle.std.specs.Prelude.{◌≡◌, ◌+◌, ◌<◌, ◌≤◌, ℕ,
 ghost use Rattle.std.specs.List.{AllByRecursion};
 ghost use Rattle.hy_bound.specs.Assignment.{assigned, value_of};
 ghost use Rattle.hy_bound.specs.Predicate.{truth_at};
+ghost use Rattle.hy_bound.specs.ValueRefs.{value_referred};
 ghost use Rattle.hy_notes.specs.Notes.{with_note};
 ghost use Rattle.hy_undo.specs.Places.{cell_of};
 ghost use Rattle.hy_undo.specs.Sweeps.{judged, new_cell, verdict};
 ghost use Rattle.hy_chunk.specs.Writes.{FitsWrite, SetColumns, refusal_in, sets_of, with_value};
 ghost use Rattle.hy_chunk.specs.Keyed.{SameKey};
 ghost use Rattle.hy_chunk.specs.Sound.{FitsRow};
+ghost use Rattle.hy_value.specs.Cells.{texts_in};
 ghost use Rattle.hy_value.specs.declared.Kind.{Kind};
 
-use hy_bound::{Assign, Pred, Range, WriteKind, truth, value};
+use hy_bound::{Assign, Pred, Range, WriteKind, truth, value_ref};
 use hy_notes::Changes;
 use hy_stamp::Label;
 use hy_undo::{Refusal, Version};
-use hy_value::{Row, Value};
+use hy_value::{Row, ValueRef};
 
 /// Whether a value of SET is out of range for a row.
 fn is_out_of_range(set: &Assign, row: &Row) -> bool
     ensures { result ≡ negated (is_ok (value_of set.now.value row.now)) }
 {
-    value(&set.value, row).is_err()
+    value_ref(&set.value, row).is_err()
 }
 
 /// Whether each value of SET is in range for a row.
@@ -80,12 +82,12 @@ pub fn refusal_at(
 }
 
 /// Puts a value into a column of a row, where it is in range.
-fn set_value(row: &mut Row, column: u32, value: Result<Value, Range>)
+fn set_value(row: &mut Row, column: u32, value: Result<ValueRef<'_>, Range>)
     requires { column < length row.old }
-    ensures { row.new ≡ with_value row.old column value }
+    ensures { row.new ≡ with_value row.old column (value_referred value.entry) }
 {
     if let Ok(value) = value {
-        let _old = row.replace(column as usize, value);
+        row.set(column as usize, value);
     }
 }
 
@@ -97,7 +99,7 @@ fn set_columns(sets: &[Assign], row: &Row, next: &mut Row)
     ensures { assigned sets.now row.now ≡ Some next.new }
 {
     for set in sets {
-        set_value(next, set.column, value(&set.value, row));
+        set_value(next, set.column, value_ref(&set.value, row));
     }
 }
 
@@ -107,7 +109,7 @@ fn copy_over(row: &Row, next: &mut Row)
     ensures { next.new ≡ row.now }
 {
     for column in 0..row.len() {
-        let _old = next.replace(column, row.as_slice()[column].copy());
+        next.set(column, row.as_slice()[column].refer());
     }
 }
 
@@ -138,10 +140,13 @@ pub fn note(changes: &mut Changes, table: u32, pos: u32, before: &Row, after: &V
     requires room { 0 < changes.old.room }
     requires before { length before.now ≤ changes.old.width }
     requires after { length after.now.row ≤ changes.old.width }
+    requires texts_before { texts_in before.now ≤ changes.old.texts }
+    requires texts_after { texts_in after.now.row ≤ changes.old.texts }
     ensures notes { changes.new.notes
         ≡ with_note (record { table = table; pos = pos; before = Some before.now; after = cell_of after.now }) changes.old.notes }
     ensures room { changes.old.room ≤ changes.new.room + 1 }
     ensures width { changes.new.width ≡ changes.old.width }
+    ensures texts { changes.new.texts ≡ changes.old.texts }
 {
     if after.live {
         changes.note_reserved(table, pos, Some(before), Some(&after.row));

@@ -1,10 +1,14 @@
-use Rattle.std.proofs.Common.{◌<◌, [], length, get_or, refl, sym, ap, ◌∙◌, arith}
+use Rattle.std.proofs.Common.{◌<◌, List, [], length, get_or, refl, sym, ap, ◌∙◌, arith}
 use Rattle.std.proofs.Math.ListN.{set}
-use Rattle.std.proofs.lemmas.List.{set-get_or}
+use Rattle.std.proofs.lemmas.List.{set-get_or, get_or_default}
 use Rattle.hy_value.specs.declared.Value.TheVariants.{Null}
 use Rattle.hy_value.specs.declared.Kind.TheVariants.{Int}
+use Rattle.hy_value.specs.declared.Kind.{Kind}
+use Rattle.hy_value.specs.declared.Value.{Value}
+use Rattle.hy_column.specs.Cells.{kind_texts}
+use Rattle.hy_chunk.proofs.TextPlaces.{still_ready, texts_behind}
 use Rattle.hy_chunk.specs.Noting.{changes_noted}
-use Rattle.hy_chunk.proofs.Over.{over, length_over, fits_length, image_length, value_fits, copied_at, row_now, row_more, over_all, values_more, changes_length}
+use Rattle.hy_chunk.proofs.Over.{over, over_at, length_over, fits_length, image_length, value_fits, copied_at, row_now, row_more, over_all, values_more, changes_length}
 use Rattle.hy_chunk.proofs.rows.exchange_row.Goals as goal
 
 pub loop-column-init : goal.loop-column-init
@@ -14,7 +18,34 @@ loop-column-init c = record {
   rows = sym (set-get_or c.args.columns.now.rows c.args.place []);
   values = refl;
   live = refl;
+  free = c.requires.free;
+  slots = refl;
+  places = refl;
+  count = refl;
 }
+
+pub exchange_value-requires-clause-was : goal.exchange_value-requires-clause-was
+exchange_value-requires-clause-was c d =
+    let kinds = c.args.columns.now.kinds in
+    let row = c.args.row.now in
+    let old = get_or c.args.columns.now.rows c.args.place [] in
+    let k = c.loop-column.column in
+    let inside : k < length kinds = omega (arith, c.loop-column-test.true, c.width-column-end.ensures) in
+    let size = fits_length kinds row c.requires.new in
+    let was = fits_length kinds old c.requires.old in
+    let now = row_now c.args.columns.now.rows c.loop-column.columns.rows c.args.place (over k row old) c.requires.within c.loop-column.invariant.rows in
+    value_fits kinds c.loop-column.columns.kinds old k Int (get_or old k d) (get_or (get_or c.loop-column.columns.rows c.args.place []) k d)
+    c.loop-column.invariant.kinds c.requires.old inside
+    (ap (λ (values : List Value). get_or values k d) now ∙ over_at k row old d (size ∙ sym was)) (get_or_default old k d _ (omega (arith, inside, was)))
+
+pub exchange_value-requires-clause-free : goal.exchange_value-requires-clause-free
+exchange_value-requires-clause-free c =
+    let kinds = c.args.columns.now.kinds in
+    let k = c.loop-column.column in
+    let inside : k < length kinds = omega (arith, c.loop-column-test.true, c.width-column-end.ensures) in
+    let free = c.loop-column.invariant.free in
+    let same = ap (λ (ks : List Kind). kind_texts (get_or ks k Int)) c.loop-column.invariant.kinds in
+    omega (arith, free, same, texts_behind kinds k Int inside)
 
 pub exchange_value-requires-clause-there : goal.exchange_value-requires-clause-there
 exchange_value-requires-clause-there c =
@@ -75,7 +106,18 @@ loop-column-preserved c =
           (row_now rows c.loop-column.columns.rows c.args.place (over k row old) c.requires.within c.loop-column.invariant.rows)
           c.loop-column.invariant.values (c.exchange_value.ensures.values Null);
       live = c.exchange_value.ensures.live ∙ c.loop-column.invariant.live;
+      free =
+          let free = c.loop-column.invariant.free in
+          let left = c.exchange_value.ensures.free in
+          let same = ap (λ (ks : List Kind). kind_texts (get_or ks k Int)) c.loop-column.invariant.kinds in
+          omega (arith, free, left, same, texts_behind kinds k Int inside);
+      slots = c.exchange_value.ensures.same.0 ∙ c.loop-column.invariant.slots;
+      places = c.exchange_value.ensures.same.1 ∙ c.loop-column.invariant.places;
+      count = c.exchange_value.ensures.count ∙ c.loop-column.invariant.count;
     }
+
+pub returns-clause-ready : goal.returns-clause-ready
+returns-clause-ready c kinds ready = still_ready kinds c.args.spare.now c.loop-column.spare c.loop-column.invariant.slots c.loop-column.invariant.places ready
 
 pub returns-clause-rows : goal.returns-clause-rows
 returns-clause-rows c =

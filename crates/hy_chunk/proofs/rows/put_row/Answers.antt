@@ -1,5 +1,6 @@
 use Rattle.std.proofs.Common.{◌<◌, [], length, get_or, refl, sym, ap, ◌∙◌, arith}
 use Rattle.std.proofs.lemmas.List.{set-get_or}
+use Rattle.hy_value.specs.Refs.{referred}
 use Rattle.hy_value.specs.declared.Kind.TheVariants.{Int}
 use Rattle.hy_chunk.proofs.Over.{fits_length, value_fits, copied_at, row_more, over_all}
 use Rattle.hy_chunk.proofs.rows.put_row.Goals as goal
@@ -11,15 +12,15 @@ loop-column-init c = record {
   rows = sym (set-get_or c.args.columns.now.rows c.args.place []);
 }
 
-pub replace-old-requires-clause-fits : goal.replace-old-requires-clause-fits
-replace-old-requires-clause-fits c =
+pub put-requires-clause-fits : goal.put-requires-clause-fits
+put-requires-clause-fits c =
     let kinds = c.args.columns.now.kinds in
     let row = c.args.row.now in
     let k = c.loop-column.column in
     let inside : k < length kinds = omega (arith, c.loop-column-test.true, c.width-column-end.ensures) in
     let size = fits_length kinds row c.requires.new in
-    value_fits kinds c.loop-column.columns.kinds row k Int c.copy.result c.copy.result c.loop-column.invariant.kinds c.requires.new inside refl
-    (copied_at c.as_slice.result.now row k c.index-as_slice-column.result c.copy.result c.copy.ensures c.index-as_slice-column.is c.as_slice.ensures
+    value_fits kinds c.loop-column.columns.kinds row k Int (referred c.refer.result) (referred c.refer.result) c.loop-column.invariant.kinds c.requires.new inside refl
+    (copied_at c.as_slice.result.now row k c.index-as_slice-column.result (referred c.refer.result) c.refer.ensures c.index-as_slice-column.is c.as_slice.ensures
     (omega (arith, inside, size)))
 
 pub loop-column-preserved : goal.loop-column-preserved
@@ -33,10 +34,10 @@ loop-column-preserved c =
     let less : k < length row = omega (arith, inside, size) in
     record {
       size = size;
-      kinds = c.replace-old.ensures.kinds ∙ c.loop-column.invariant.kinds;
-      rows = row_more c.args.columns.now.rows c.replace-old.new.self.rows c.loop-column.columns.rows c.args.place k row c.copy.result c.requires.within
-          c.loop-column.invariant.rows c.replace-old.ensures.rows less (size ∙ sym was)
-          (copied_at c.as_slice.result.now row k c.index-as_slice-column.result c.copy.result c.copy.ensures c.index-as_slice-column.is
+      kinds = c.put.ensures.kinds ∙ c.loop-column.invariant.kinds;
+      rows = row_more c.args.columns.now.rows c.put.new.self.rows c.loop-column.columns.rows c.args.place k row (referred c.refer.result) c.requires.within
+          c.loop-column.invariant.rows c.put.ensures.rows less (size ∙ sym was)
+          (copied_at c.as_slice.result.now row k c.index-as_slice-column.result (referred c.refer.result) c.refer.ensures c.index-as_slice-column.is
           c.as_slice.ensures less);
     }
 

@@ -1,7 +1,6 @@
 use Rattle.std.proofs.Common.{sym, ◌∙◌, subst}
-use Rattle.hy_value.specs.declared.Value.{Value}
+use Rattle.hy_value.specs.Refs.{referred}
 use Rattle.hy_chunk.specs.Candidates.{AreCandidates}
-use Rattle.hy_chunk.specs.Gathering.{Asks}
 use Rattle.hy_chunk.specs.Views.{Whole}
 use Rattle.hy_chunk.proofs.Candidates.{keyed_candidates}
 use Rattle.hy_chunk.proofs.chunk.Chunk.find_by_key.Goals as goal
@@ -12,8 +11,6 @@ returns-in_ok-find_used-in-Some-value_asked c =
     let positions = c.self.inside.positions in
     let found = c.in_ok-find_used-in-Some-value_asked.field-0.items in
     let told = c.in_ok-find_used-in-Some-value_asked.ensures in
-    let value = c.to_value.result in
-    let asks : Asks pred c.in-Some.key value =
-    subst (λ (v : Value). Asks pred c.in-Some.key v) (sym c.to_value.ensures) c.in-Some-value_asked.ensures in
     subst (λ (w : Whole). AreCandidates pred w.shown.key w.shown.places found) c.self.view_is
-    (keyed_candidates pred positions.key c.in-Some.key value positions.places found (sym c.key.ensures ∙ c.in-Some.is) asks told.ascends told.within told.all)
+    (keyed_candidates pred positions.key c.in-Some.key (referred c.in-Some-value_asked.value) positions.places found (sym c.key.ensures ∙ c.in-Some.is)
+    c.in-Some-value_asked.ensures told.ascends told.within told.all)

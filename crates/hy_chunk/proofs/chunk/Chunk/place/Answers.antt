@@ -4,6 +4,7 @@ use Rattle.hy_undo.specs.Places.{Place}
 use Rattle.hy_undo.specs.Chunks.{Placed}
 use Rattle.hy_chunk.specs.Steps.{least_free, IsPut}
 use Rattle.hy_chunk.proofs.Over.{fits_length}
+use Rattle.hy_chunk.proofs.TextRoom.{texts_fit}
 use Rattle.hy_chunk.proofs.Frees.{put_there}
 use Rattle.hy_chunk.specs.Views.{Whole}
 use Rattle.hy_chunk.proofs.chunk.Chunk.place.Goals as goal
@@ -36,6 +37,9 @@ overflow_add-pos c =
 
 pub note_reserved-requires-clause-after : goal.note_reserved-requires-clause-after
 note_reserved-requires-clause-after c = omega (arith, fits_length c.args.self.now.kinds c.args.row.now c.requires.fits, c.requires.wide)
+
+pub note_reserved-requires-clause-texts_after : goal.note_reserved-requires-clause-texts_after
+note_reserved-requires-clause-texts_after c = omega (arith, texts_fit c.args.self.now.kinds c.args.row.now c.requires.fits, c.requires.long)
 
 pub returns-clause-places : goal.returns-clause-places
 returns-clause-places c =

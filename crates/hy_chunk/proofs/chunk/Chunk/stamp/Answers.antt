@@ -1,4 +1,4 @@
-use Rattle.std.proofs.Common.{◌≡◌, ◌≤◌, ℕ, List, length, refl, ap, ◌∙◌, subst, arith}
+use Rattle.std.proofs.Common.{◌≤◌, ℕ, List, length, refl, ap, ◌∙◌, subst, arith}
 use Rattle.hy_undo.specs.Places.{Place}
 use Rattle.hy_undo.specs.Chunks.{Everywhere, AtOwn, StampedPlace}
 use Rattle.hy_undo.specs.Steps.{PlacesStep, stamped_place}

@@ -11,10 +11,12 @@ use Rattle.hy_undo.specs.Sweeps.{swept}
 use Rattle.hy_chunk.specs.Candidates.{AreCandidates}
 use Rattle.hy_chunk.specs.Fields.{nth}
 use Rattle.hy_chunk.specs.Keyed.{SameKey}
+use Rattle.hy_chunk.specs.Sound.{FitsRow}
 use Rattle.hy_chunk.specs.Views.{Whole}
 use Rattle.hy_chunk.specs.Writes.{FitsWrite, sets_of, refusal_in, judged_at, IsDone}
 use Rattle.hy_chunk.proofs.Candidates.{reach, at_reach, inside_at, reach_past, reach_within, reach_rises, none_in_front, none_between}
 use Rattle.hy_chunk.proofs.Over.{fits_length}
+use Rattle.hy_chunk.proofs.TextRoom.{texts_fit}
 use Rattle.hy_chunk.proofs.Sweeping.{unselected, is_live, new_judged, without_rival, is_in_range, is_in_place, here_ok, sets_within}
 use Rattle.hy_chunk.proofs.SweepSteps.{SweptTo, swept_none, swept_past, swept_one, swept_all}
 use Rattle.hy_chunk.specs.Settled.{Settles}
@@ -203,6 +205,22 @@ note-requires-clause-after c =
     c.see.new.version.row c.see.ensures.fits ∙ ap (λ (kinds : List Kind). length kinds) v.kinds ∙ (ap (λ (w : Whole). length w.kinds) c.self.view_is) in
     omega (arith, wide, c.make_next.ensures.size, c.requires.wide, v.notes_width)
 
+pub note-requires-clause-texts_before : goal.note-requires-clause-texts_before
+note-requires-clause-texts_before c =
+    let v = c.loop-i.invariant in
+    let kinds : c.loop-i.self-inside.positions.kinds ≡ c.args.self.now.kinds = v.kinds ∙ ap (λ (w : Whole). w.kinds) c.self.view_is in
+    let fits : FitsRow c.args.self.now.kinds c.see.new.version.row = subst (λ (all : List Kind). FitsRow all c.see.new.version.row) kinds c.see.ensures.fits in
+    omega (arith, texts_fit c.args.self.now.kinds c.see.new.version.row fits, c.requires.long, v.notes_texts)
+
+pub note-requires-clause-texts_after : goal.note-requires-clause-texts_after
+note-requires-clause-texts_after c =
+    let v = c.loop-i.invariant in
+    let kinds : c.loop-i.self-inside.positions.kinds ≡ c.args.self.now.kinds = v.kinds ∙ ap (λ (w : Whole). w.kinds) c.self.view_is in
+    let fits : FitsRow c.args.self.now.kinds c.see.new.version.row = subst (λ (all : List Kind). FitsRow all c.see.new.version.row) kinds c.see.ensures.fits in
+    let next : FitsRow c.args.self.now.kinds c.make_next.new.next.row =
+    c.make_next.ensures.fits c.args.self.now.kinds c.args.self.now.shown.key fits c.requires.fits in
+    omega (arith, texts_fit c.args.self.now.kinds c.make_next.new.next.row next, c.requires.long, v.notes_texts)
+
 pub overflow_add-written : goal.overflow_add-written
 overflow_add-written c =
     let sets = sets_of c.args.sweep.now.kind.now in
@@ -251,6 +269,7 @@ loop-i-init c =
       room = omega arith;
       notes_room = omega arith;
       notes_width = refl;
+      notes_texts = refl;
     }
 
 pub loop-i-preserved-then-not-is_selected : goal.loop-i-preserved-then-not-is_selected
@@ -301,6 +320,7 @@ loop-i-preserved-then-not-is_selected c =
       room = omega (arith, v.room);
       notes_room = omega (arith, v.notes_room);
       notes_width = v.notes_width;
+      notes_texts = v.notes_texts;
     }
 
 pub loop-i-preserved : goal.loop-i-preserved
@@ -360,6 +380,7 @@ loop-i-preserved c =
       room = omega (arith, v.room, c.write_at.ensures.room);
       notes_room = omega (arith, v.notes_room, c.note.ensures.room);
       notes_width = c.note.ensures.width ∙ v.notes_width;
+      notes_texts = c.note.ensures.texts ∙ v.notes_texts;
     }
 
 pub touch-requires : goal.touch-requires

@@ -21,4 +21,5 @@ invariant-loop-i l = record {
   room : l.initial.self-inside.positions.room ≤ l.self-inside.positions.room + l.i;
   notes_room : l.initial.changes.room ≤ l.changes.room + l.i;
   notes_width : l.changes.width ≡ l.initial.changes.width;
+  notes_texts : l.changes.texts ≡ l.initial.changes.texts;
 }

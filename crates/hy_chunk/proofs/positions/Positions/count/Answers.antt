@@ -7,7 +7,7 @@ use Rattle.hy_chunk.proofs.positions.Positions.count.Goals as goal
 pub count-requires : goal.count-requires
 count-requires c =
     let f : Fields = fields c.self.inside in
-    in_chains f c.self.inside.columns.kinds c.self.inside.spare.items c.args.self.now.places (ap (λ (h : Held). h.places) c.self.view_is)
+    in_chains f c.self.inside.columns.kinds c.self.inside.spare c.args.self.now.places (ap (λ (h : Held). h.places) c.self.view_is)
     c.self.invariant.sound c.args.place c.requires
 
 pub returns : goal.returns

@@ -10,7 +10,7 @@ use Rattle.hy_chunk.proofs.positions.Positions.has_record.Goals as goal
 pub head-requires : goal.head-requires
 head-requires c =
     let f : Fields = fields c.self.inside in
-    in_chains f c.self.inside.columns.kinds c.self.inside.spare.items c.args.self.now.places (ap (λ (h : Held). h.places) c.self.view_is)
+    in_chains f c.self.inside.columns.kinds c.self.inside.spare c.args.self.now.places (ap (λ (h : Held). h.places) c.self.view_is)
     c.self.invariant.sound c.args.place c.requires
 
 pub returns-then-is_in : goal.returns-then-is_in

@@ -25,6 +25,6 @@ pub returns-clause-passed : goal.returns-clause-passed
 returns-clause-passed c =
     let f : Fields = fields c.self.inside in
     let size = ap (λ (h : Held). length h.places) c.self.view_is in
-    none_free f c.self.inside.columns.kinds c.self.inside.spare.items c.args.self.now.places c.self.inside.vacant c.args.from c.next_set.result
+    none_free f c.self.inside.columns.kinds c.self.inside.spare c.args.self.now.places c.self.inside.vacant c.args.from c.next_set.result
     (ap (λ (h : Held). h.places) c.self.view_is) c.self.invariant.sound c.self.invariant.vacated
     (omega (arith, c.next_set.ensures.within, size, length_all f, c.self.invariant.sound.lives, c.self.invariant.vacated.many)) c.next_set.ensures.passed

@@ -14,4 +14,4 @@ returns c = λ place l.
     let view = ap (λ (h : Held). h.places) c.self.view_is in
     subst (λ (kinds : List Kind). FitsRow kinds (nth places place).version.row) (ap (λ (h : Held). h.kinds) c.self.view_is)
     (subst (λ (p : Place). FitsRow c.self.inside.columns.kinds p.version.row) (sym (nth_is f places place view l))
-    (fits_there f c.self.inside.columns.kinds c.self.inside.spare.items places view c.self.invariant.sound place l).row)
+    (fits_there f c.self.inside.columns.kinds c.self.inside.spare places view c.self.invariant.sound place l).row)

@@ -15,7 +15,7 @@ use Rattle.hy_chunk.proofs.positions.Positions.see.Goals as goal
 pub see-requires : goal.see-requires
 see-requires c =
     let f : Fields = fields c.self.inside in
-    in_chains f c.self.inside.columns.kinds c.self.inside.spare.items c.args.self.now.places (ap (λ (h : Held). h.places) c.self.view_is)
+    in_chains f c.self.inside.columns.kinds c.self.inside.spare c.args.self.now.places (ap (λ (h : Held). h.places) c.self.view_is)
     c.self.invariant.sound c.args.place c.requires.within
 
 pub returns-then-is_in-clause-version : goal.returns-then-is_in-clause-version
@@ -32,7 +32,7 @@ returns-then-is_in-clause-fits c =
     subst (λ (v : Version). FitsRow c.args.self.now.kinds v.row) (sym c.see.ensures)
     (seen_fits c.args.self.now.kinds c.args.viewer.now c.read.new.version (get_or f.chains c.args.place []) c.read.ensures.fits
     (subst (λ (ks : List Kind). FitsChain ks (get_or f.chains c.args.place [])) kinds
-    (fits_there f c.self.inside.columns.kinds c.self.inside.spare.items c.args.self.now.places (ap (λ (h : Held). h.places) c.self.view_is)
+    (fits_there f c.self.inside.columns.kinds c.self.inside.spare c.args.self.now.places (ap (λ (h : Held). h.places) c.self.view_is)
     c.self.invariant.sound c.args.place c.requires.within).images))
 
 pub returns-else-is_in-clause-version : goal.returns-else-is_in-clause-version

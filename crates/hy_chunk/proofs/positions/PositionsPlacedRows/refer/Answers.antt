@@ -14,7 +14,7 @@ use Rattle.hy_chunk.proofs.positions.PositionsPlacedRows.refer.Goals as goal
 pub refer-requires-clause-within : goal.refer-requires-clause-within
 refer-requires-clause-within c =
     let places = c.args.self.now.places in
-    in_rows (fields c.self.inside) c.self.inside.columns.kinds c.self.inside.spare.items places (ap (λ (h : Held). h.places) c.self.view_is)
+    in_rows (fields c.self.inside) c.self.inside.columns.kinds c.self.inside.spare places (ap (λ (h : Held). h.places) c.self.view_is)
     c.self.invariant.sound c.args.place (omega (arith, c.requires.place, length-map places (λ (p : Place). p.version.row)))
 
 pub refer-requires-clause-column : goal.refer-requires-clause-column
@@ -25,7 +25,7 @@ refer-requires-clause-column c =
     let within : c.args.place < length places = omega (arith, c.requires.place, length-map places (λ (p : Place). p.version.row)) in
     let row = row_in_place places c.args.place within ∙ ap (λ (p : Place). p.version.row) (nth_is f places c.args.place view within) in
     let size = fits_length c.self.inside.columns.kinds _
-    (fits_there f c.self.inside.columns.kinds c.self.inside.spare.items places view c.self.invariant.sound c.args.place within).row in
+    (fits_there f c.self.inside.columns.kinds c.self.inside.spare places view c.self.invariant.sound c.args.place within).row in
     omega (arith, c.requires.column, ap length row, size)
 
 pub returns : goal.returns

@@ -7,10 +7,10 @@ use Rattle.hy_bound.specs.PredView.{viewed_side}
 use Rattle.hy_bound.specs.declared.predicate.Side.TheVariants.{Literal}
 use Rattle.hy_chunk.specs.Gathering.{Asks}
 use Rattle.hy_chunk.proofs.Asking.{comparison_asks, some_weaker}
-use Rattle.hy_chunk.proofs.gathering.value_compared.Goals as goal
+use Rattle.hy_chunk.proofs.gathering.+value_asked.Goals as goal
 
 pub returns-in-Compare-default-Eq-default : goal.returns-in-Compare-default-Eq-default
-returns-in-Compare-default-Eq-default c =
+returns-in-Compare-default-Eq-default t c =
     let compared = c.in-Compare-default-Eq-default in
     some_weaker c.literal_of.result (λ (value : ValueRef). viewed_side compared.side ≡ Literal (referred value))
     (λ (value : ValueRef). Asks c.args.pred.now c.args.column (referred value))

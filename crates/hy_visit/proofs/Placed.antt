@@ -3,7 +3,7 @@ use Rattle.std.proofs.Common.{◌≡◌, ℕ, zero, suc, ◌+◌, ◌≤◌, ◌
 use Rattle.std.specs.Prelude.{Option, slice_set}
 use Rattle.std.specs.List.{AllByRecursion}
 use Rattle.std.specs.Option.{option_map}
-use Rattle.std.proofs.lemmas.Bool.{lt-ltb}
+use Rattle.std.proofs.lemmas.Bool.{le-ltb, lt-ltb}
 use Rattle.std.proofs.lemmas.Option.{slice_get-get_or}
 use Rattle.hy_value.specs.declared.Value.{Value}
 use Rattle.hy_stamp.specs.declared.Label.{Label}
@@ -30,6 +30,12 @@ pub free_found : (cover : Cover) (chunk : ChunkData) → least_free (watermark_o
 free_found cover chunk there =
     ap (λ (b : Bool). cond b (Some (least_free (watermark_of cover) chunk.places)) None)
     (lt-ltb (least_free (watermark_of cover) chunk.places) (length chunk.places) there)
+
+-- where none is free, none is found
+pub free_none : (cover : Cover) (chunk : ChunkData) → least_free (watermark_of cover) chunk.places ≡ length chunk.places → free_index cover chunk ≡ None
+free_none cover chunk all =
+    ap (λ (b : Bool). cond b (Some (least_free (watermark_of cover) chunk.places)) None)
+    (le-ltb (least_free (watermark_of cover) chunk.places) (length chunk.places) (omega (arith, all)))
 
 pub position_of : (cover : Cover) (chunk : ChunkData) (index : Option ℕ) → free_index cover chunk ≡ index
     → free_position cover chunk ≡ option_map (λ (i : ℕ). chunk.first + i) index

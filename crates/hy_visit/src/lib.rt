@@ -14,4 +14,4 @@ pub use gathering::{Found, Fresh, add_piece, found_with, gather_part, part_rows}
 pub use parts::PartRows;
 pub use pruning::{stamp_visit, undo_visit};
 pub use reader::{Reader, Told, reader_of};
-pub use writing::{Writer, check_visit, place_visit, write_visit};
+pub use writing::{Writer, check_visit, is_passed, place_visit, write_visit};

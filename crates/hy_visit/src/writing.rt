@@ -1,23 +1,24 @@
 //! Visits of an UPDATE, a DELETE or an INSERT.
 
-ghost use Rattle.std.specs.Prelude.{◌≡◌, ◌+◌, ◌<◌, ◌≤◌, true, Some, length};
+ghost use Rattle.std.specs.Prelude.{◌≡◌, ◌+◌, ◌<◌, ◌≤◌, true, None, Some, length};
 ghost use Rattle.hy_chunk.specs.Candidates.{AreCandidates};
-ghost use Rattle.hy_chunk.specs.Sound.{FitsRow};
+ghost use Rattle.hy_chunk.specs.Sound.{FitsRow, most_texts};
 ghost use Rattle.hy_chunk.specs.Views.{with_places};
 ghost use Rattle.hy_chunk.specs.Writes.{FitsWrite, sets_of};
-ghost use Rattle.hy_event.specs.Inserting.{sees_key};
+ghost use Rattle.hy_event.specs.Changing.{PrunesFirst};
+ghost use Rattle.hy_event.specs.Inserting.{free_index, sees_key};
 ghost use Rattle.hy_visit.specs.Placing.{PlaceDone};
 ghost use Rattle.hy_visit.specs.Pruning.{AllFall, AllShort};
 ghost use Rattle.hy_visit.specs.Writing.{WriteDone};
 
 use crate::pruning::prune_first;
-use hy_bound::{Pred, WriteKind, column_value};
+use hy_bound::{Pred, WriteKind, cell};
 use hy_chunk::{Chunk, Sweep};
 use hy_notes::Changes;
 use hy_prune::Cover;
 use hy_stamp::{Label, Viewer};
-use hy_undo::Refusal;
-use hy_value::Row;
+use hy_undo::{Delta, Refusal};
+use hy_value::{Row, Value};
 
 /// Who writes, and how the chunk is pruned before.
 #[derive(Clone, Copy)]
@@ -48,6 +49,7 @@ pub fn write_visit(
     requires room { length places.now ≤ chunk.old.room }
     requires notes { length places.now ≤ changes.old.room }
     requires wide { length chunk.old.kinds ≤ changes.old.width }
+    requires long { most_texts chunk.old.kinds ≤ changes.old.texts }
     requires fits { FitsWrite chunk.old.kinds chunk.old.shown.key kind.now }
     ensures done { WriteDone writer.now (sets_of kind.now) pred.now chunk.old.shown changes.old.notes result chunk.new.shown changes.new.notes }
     ensures short { writer.now.prunes ≡ true → writer.now.cover.now.next ≤ writer.now.viewer.id → AllShort writer.now.cover.now chunk.new.shown.places }
@@ -55,6 +57,7 @@ pub fn write_visit(
     ensures room { chunk.old.room ≤ chunk.new.room + length places.now }
     ensures notes_room { changes.old.room ≤ changes.new.room + length places.now }
     ensures notes_width { changes.new.width ≡ changes.old.width }
+    ensures notes_texts { changes.new.texts ≡ changes.old.texts }
 {
     prune_first(chunk, writer.cover, writer.prunes);
     let sweep = Sweep {
@@ -71,8 +74,22 @@ pub fn check_visit(chunk: &mut Chunk, viewer: &Viewer, row: &Row, key: u32) -> b
     ensures found { result ≡ sees_key viewer.now row.now (Some key) chunk.old.shown.places }
     ensures all { chunk.new ≡ chunk.old }
 {
-    let value = column_value(row, key);
-    chunk.find_key(viewer, key, &value)
+    match cell(row, key) {
+        Some(value) => chunk.find_key(viewer, key, value),
+        None => chunk.find_key(viewer, key, &Value::Null),
+    }
+}
+
+/// Whether a visit that looks for a free position finds none and leaves the chunk as it is, seen without a look at the
+/// positions. No clause says that it is seen wherever it is so.
+pub fn is_passed(chunk: &Chunk, cover: &Cover, prunes: bool) -> bool
+    requires { AllFall chunk.now.shown.places }
+    ensures pruned { result ≡ true → PrunesFirst prunes cover.now chunk.now.shown chunk.now.shown }
+    ensures full { result ≡ true → free_index cover.now chunk.now.shown ≡ None }
+    ensures short { result ≡ true → prunes ≡ true → AllShort cover.now chunk.now.shown.places }
+{
+    hy_chain::pruning_shrinks::<Delta>();
+    chunk.is_full() && (!prunes || chunk.is_pruned(cover))
 }
 
 /// Prunes the chunk, and then puts a new row at the first free position, notes it, and answers the position. Where
@@ -88,12 +105,14 @@ pub fn place_visit(
     requires room { 0 < chunk.old.room }
     requires notes { 0 < changes.old.room }
     requires wide { length chunk.old.kinds ≤ changes.old.width }
+    requires long { most_texts chunk.old.kinds ≤ changes.old.texts }
     ensures done { PlaceDone writer.now row.now chunk.old.shown changes.old.notes result chunk.new.shown changes.new.notes }
     ensures short { writer.now.prunes ≡ true → writer.now.cover.now.next ≤ writer.now.viewer.id → AllShort writer.now.cover.now chunk.new.shown.places }
     ensures all { chunk.new ≡ with_places chunk.old chunk.new.shown.places chunk.new.room }
     ensures room { chunk.old.room ≤ chunk.new.room + 1 }
     ensures notes_room { changes.old.room ≤ changes.new.room + 1 }
     ensures notes_width { changes.new.width ≡ changes.old.width }
+    ensures notes_texts { changes.new.texts ≡ changes.old.texts }
 {
     prune_first(chunk, writer.cover, writer.prunes);
     match chunk.place(&writer.viewer, writer.label, writer.cover, row, changes) {

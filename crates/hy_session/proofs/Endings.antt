@@ -10,10 +10,10 @@ use Rattle.hy_event.specs.declared.SessionData.{SessionData}
 use Rattle.hy_event.specs.declared.Open.{Open}
 use Rattle.hy_protocol.specs.declared.Phase.{Phase}
 use Rattle.hy_protocol.specs.declared.Phase.TheVariants.{Working, Stamping, Undoing}
+use Rattle.hy_protocol.specs.Turns.{is_stamping}
 use Rattle.hy_event.specs.Ended.{outcome_of, placed_in, statements_in}
 use Rattle.hy_event.specs.Sessions.{label_of, txn_at, written, written_in}
 use Rattle.hy_event.specs.Turns.{done_with, with_ended}
-use Rattle.hy_session.specs.Entered.{is_stamping}
 
 -- the positions that it wrote: it kept them at its entry, or they were given
 written_at : (now : Open) (phase : Phase) (places : List Place) → (is_stamping phase ≡ false → places ≡ written_in now phase)

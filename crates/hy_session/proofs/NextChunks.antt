@@ -1,5 +1,5 @@
 -- The next chunk of a table in which one of positions in order lies.
-use Rattle.std.proofs.Common.{◌≡◌, ℕ, zero, suc, ◌+◌, ◌*◌, ◌/◌, ◌%◌, ◌<◌, ◌≤◌, List, Bool, true, false, Option, None, Some, arith, ⊎_elim, subst, sym, refl}
+use Rattle.std.proofs.Common.{◌≡◌, ℕ, suc, ◌+◌, ◌*◌, ◌/◌, ◌<◌, ◌≤◌, List, Bool, true, false, None, Some, arith, ⊎_elim, subst, sym, refl}
 use Rattle.std.specs.Bool.{then_some}
 use Rattle.std.specs.Prelude.{◌==◌, ◌&&◌, nat_lt, nat_le}
 use Rattle.std.specs.List.{list_any}
@@ -7,7 +7,7 @@ use Rattle.std.proofs.Math.Nat.{le-div_iff_mul-le, div-mul-le_self, mul-le-mul_r
 use Rattle.std.proofs.lemmas.Bool.{and_parts, and_from, cases_lt, ltb-false, ltb-true, lt-ltb, leb-true, le-leb, eqb-true, eq-eqb}
 use Rattle.hy_render.specs.declared.Place.{Place}
 use Rattle.hy_event.specs.declared.SessionData.{SessionData}
-use Rattle.hy_session.specs.Seeking.{IsFirstChunk, IsNextChunk, Rises, first_from}
+use Rattle.hy_session.specs.Seeking.{IsNextChunk, Rises, first_from}
 use Rattle.hy_event.specs.Sessions.{lies_in}
 use Rattle.hy_session.proofs.OrderedPlaces.{none_passes, nothing_before, nothing_from, something_from}
 

@@ -9,7 +9,7 @@ use Rattle.std.specs.declared.cmp.Ordering.{Ordering}
 use Rattle.std.specs.declared.cmp.Ordering.TheVariants.{Less, Equal, Greater}
 use Rattle.hy_value.specs.declared.change.Change.{Change}
 use Rattle.hy_notes.specs.declared.NotedPlace.{NotedPlace}
-use Rattle.hy_notes.specs.Notes.{below, order_of, place_of}
+use Rattle.hy_notes.specs.Notes.{below, place_of}
 use Rattle.hy_render.specs.declared.Place.{Place}
 use Rattle.hy_event.specs.Sessions.{place_noted}
 use Rattle.hy_session.specs.Seeking.{Rises, comes_before, first_from, of_table, written_place}

@@ -1,5 +1,5 @@
 -- What an open transaction wrote stays in order.
-use Rattle.std.proofs.Common.{◌≡◌, ℕ, suc, ◌<◌, List, [], ◌∷◌, Bool, true, false, Option, None, Some, Result, Ok, Err, map, refl, sym, ap, subst, inl, inr, ◌-◌}
+use Rattle.std.proofs.Common.{◌≡◌, ℕ, suc, ◌<◌, List, [], ◌∷◌, Bool, true, false, Option, None, Some, Result, Ok, Err, map, sym, ap, subst, inl, inr, ◌-◌}
 use Rattle.std.specs.Prelude.{◌⊎◌, IfOk, OnErr, nat_lt, slice_get, ◌/◌}
 use Rattle.std.specs.Bool.{MatchBool}
 use Rattle.std.specs.Option.{option_map}
@@ -26,7 +26,7 @@ use Rattle.hy_event.specs.declared.SessionData.{SessionData}
 use Rattle.hy_event.specs.declared.Open.{Open}
 use Rattle.hy_event.specs.Events.{StatementVisit}
 use Rattle.hy_event.specs.Gathering.{ReadPlan, group_read_plan, select_read_plan}
-use Rattle.hy_event.specs.Inserting.{CheckVisit, InsertVisit, PlaceVisit}
+use Rattle.hy_event.specs.Inserting.{CheckVisit, PlaceVisit}
 use Rattle.hy_event.specs.Needs.{checks_of}
 use Rattle.hy_event.specs.Reading.{PlannedVisit, ReadVisit, Reads, gathered_with, read_turn, with_gathered}
 use Rattle.hy_gathered.specs.Answers.{spread_all}

@@ -5,7 +5,8 @@ use Rattle.hy_event.specs.declared.SessionData.{SessionData}
 use Rattle.hy_event.specs.declared.Open.{Open}
 use Rattle.hy_protocol.specs.declared.Phase.{Phase}
 use Rattle.hy_protocol.specs.declared.Phase.TheVariants.{Working, Stamping, Undoing}
-use Rattle.hy_session.specs.Entered.{entry_in, has_entry, is_stamping}
+use Rattle.hy_protocol.specs.Turns.{is_stamping}
+use Rattle.hy_session.specs.Entered.{entry_in, has_entry}
 use Rattle.hy_session.specs.Preparing.{statement_by, statement_in, statement_of}
 use Rattle.hy_session.specs.Visitors.{is_reading, reads_at, reads_in}
 

@@ -1,21 +1,21 @@
 -- What a session does at the core, chosen before anything changes.
-use Rattle.std.specs.Prelude.{Bool, true, false, Option, None, Some}
+use Rattle.std.specs.Prelude.{Bool, true, false, List, Option, None, Some}
+use Rattle.std.specs.Option.{option_map}
+use Rattle.hy_value.specs.declared.change.Change.{Change}
 use Rattle.hy_journal.specs.declared.CoreData.{CoreData}
-use Rattle.hy_journal.specs.Core.{core_entered, core_left, core_closed}
+use Rattle.hy_journal.specs.Core.{core_left, core_closed}
 use Rattle.hy_bound.specs.declared.Ending.TheVariants.{Committed}
+use Rattle.hy_stamp.specs.declared.Label.{Label}
+use Rattle.hy_validate.specs.declared.Invalid.{Invalid}
 use Rattle.hy_event.specs.declared.SessionData.{SessionData}
 use Rattle.hy_event.specs.declared.Open.{Open}
-use Rattle.hy_event.specs.Sessions.{label_of}
-use Rattle.hy_protocol.specs.Turns.{Waits, Enters, Ends, refused}
-use Rattle.hy_event.specs.CoreTurns.{CoreTurn, begin_turn}
+use Rattle.hy_protocol.specs.Turns.{Turn, Waits, Begins, Enters, Ends, refused, unless_blocked as unless_blocked_by}
+use Rattle.hy_protocol.specs.Closing as by_closing
+use Rattle.hy_event.specs.CoreTurns.{found_at_core, invalid_by}
 use Rattle.hy_session.specs.declared.core_steps.CoreStep.{CoreStep}
 use Rattle.hy_session.specs.declared.core_steps.CoreStep.TheVariants as step
 
--- the core after the entry or the end of the open transaction, if there is one
-abbrev pub entered_by : SessionData → CoreData → Option Open → CoreData
-entered_by session core None = core
-entered_by session core (Some now) = core_entered core (label_of session) now.start now.notes
-
+-- the core after the end of the open transaction, if there is one, whose entry it has, or that has none
 abbrev pub left_by : CoreData → Option Open → CoreData
 left_by core None = core
 left_by core (Some now) = core_left core now.start
@@ -33,11 +33,23 @@ leaves (step.Refuse cause) = false
 leaves (step.Close cause) = false
 leaves (step.Leave rank) = true
 
--- the turn that a session takes by what it has chosen to do, and the core after it
-abbrev pub turn_by : CoreStep → SessionData → CoreData → CoreTurn
-turn_by (step.Wait by) session core = (Waits by, core)
-turn_by step.Begin session core = begin_turn core
-turn_by step.Enter session core = (Enters, entered_by session core session.now)
-turn_by (step.Refuse cause) session core = (refused cause, core)
-turn_by (step.Close cause) session core = (Ends cause, closed_by core session.now)
-turn_by (step.Leave rank) session core = (Ends (Committed rank), left_by core session.now)
+-- ---- the turn
+
+-- the turn that a session takes by what it has chosen to do
+abbrev pub turn_by : CoreStep → SessionData → CoreData → Turn Change
+turn_by (step.Wait by) session core = Waits by
+turn_by step.Begin session core = Begins
+turn_by step.Enter session core = Enters
+turn_by (step.Refuse cause) session core = refused cause
+turn_by (step.Close cause) session core = Ends cause
+turn_by (step.Leave rank) session core = Ends (Committed rank)
+
+-- the turns of the protocol, by what the session finds out
+abbrev pub unless_blocked : CoreData → Option Label → Turn Change → Turn Change
+unless_blocked core = unless_blocked_by
+
+abbrev pub validated_turn : SessionData → CoreData → Open → Option Invalid → Turn Change
+validated_turn session core now found = by_closing.validated_turn (option_map (invalid_by now.records) found)
+
+abbrev pub commit_turn : SessionData → CoreData → Open → List Change → Turn Change
+commit_turn session core now notes = by_closing.free_commit_turn (found_at_core session core now)

@@ -1,16 +1,10 @@
 -- When the open transaction of a session stands between its entry and its end: others wait for that end.
-use Rattle.std.specs.Prelude.{Bool, true, false, Option, None, Some}
+use Rattle.std.specs.Prelude.{Bool, false, Option, None, Some}
 use Rattle.hy_event.specs.declared.SessionData.{SessionData}
 use Rattle.hy_event.specs.declared.Open.{Open}
-use Rattle.hy_protocol.specs.declared.Phase.{Phase}
-use Rattle.hy_protocol.specs.declared.Phase.TheVariants.{Working, Stamping, Undoing}
+use Rattle.hy_protocol.specs.Turns.{is_stamping}
 
--- by where it stands
-abbrev pub is_stamping : Phase → Bool
-is_stamping (Working visited count) = false
-is_stamping (Stamping visited) = true
-is_stamping (Undoing visited cause) = false
-
+-- so of a transaction that may be open
 abbrev pub entry_in : Option Open → Bool
 entry_in None = false
 entry_in (Some now) = is_stamping now.phase

@@ -1,6 +1,7 @@
 //! Answers of statements, for which there is room before a chunk changes.
 
 ghost use Rattle.std.specs.Prelude.{◌≡◌, ◌+◌, ◌<◌, ◌≤◌, ◌++◌, ◌∷◌, [], OnOk, length, vec_len, vec_capacity};
+ghost use Rattle.hy_chunk.specs.Sound.{most_texts};
 ghost use Rattle.hy_chunk.specs.Views.{with_places};
 
 use hy_bound::{Records, Reply};
@@ -20,7 +21,7 @@ pub struct Answer {
     pub records: Records,
 }
 
-/// Makes room for so many records of a chunk, and as many notes of rows of so many values. Err is for want of memory.
+/// Makes room for so many records of a chunk, and as many notes of its rows, of so many values. Err is for want of memory.
 pub fn reserve_writes(
     chunk: &mut Chunk,
     notes: &mut Changes,
@@ -32,9 +33,10 @@ pub fn reserve_writes(
     ensures room { OnOk result (count ≤ chunk.new.room) }
     ensures notes_room { OnOk result (count ≤ notes.new.room) }
     ensures wide { OnOk result (width ≤ notes.new.width) }
+    ensures long { OnOk result (most_texts chunk.new.kinds ≤ notes.new.texts) }
 {
     chunk.reserve(count)?;
-    notes.reserve(count, width as usize)
+    notes.reserve(count, width as usize, chunk.texts())
 }
 
 /// Makes room for an answer with so many records. Err is for want of memory.

@@ -5,11 +5,12 @@ ghost use Rattle.hy_event.specs.declared.Need.{Need};
 ghost use Rattle.hy_event.specs.declared.SessionData.{SessionData};
 ghost use Rattle.hy_event.specs.Sessions.{label_of};
 ghost use Rattle.hy_event.specs.Needs.{need_of, phase_need};
-ghost use Rattle.hy_event.specs.CoreTurns.{core_turn, phase_turn, unless_blocked, commit_turn, validated_turn, invalid_by};
+ghost use Rattle.hy_event.specs.CoreTurns.{core_turn, phase_turn, invalid_by};
+ghost use Rattle.hy_protocol.specs.Turns.{is_stamping};
 ghost use Rattle.hy_journal.specs.Core.{blocked_by};
 ghost use Rattle.hy_validate.specs.Hits.{first_invalid};
-ghost use Rattle.hy_session.specs.Entered.{has_entry, is_stamping};
-ghost use Rattle.hy_session.specs.CoreSteps.{leaves, turn_by};
+ghost use Rattle.hy_session.specs.Entered.{has_entry};
+ghost use Rattle.hy_session.specs.CoreSteps.{leaves, turn_by, unless_blocked, commit_turn, validated_turn};
 
 use crate::numbers::elements_behind;
 use crate::{OpenTransaction, Session};

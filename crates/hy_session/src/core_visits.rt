@@ -3,14 +3,14 @@
 ghost use Rattle.std.specs.Prelude.{◌≡◌, ◌^◌, ◌<◌, [], true, false, IfOk, OnOk, OnErr, length};
 ghost use Rattle.hy_event.specs.declared.Need.{Need};
 ghost use Rattle.hy_event.specs.Needs.{need_of};
-ghost use Rattle.hy_event.specs.CoreTurns.{CoreEvent};
+ghost use Rattle.hy_event.specs.CoreTurns.{CoreEvent, entered_by};
 ghost use Rattle.hy_protocol.specs.Turns.{Begins, Enters, Ends, refused};
 ghost use Rattle.hy_event.specs.Turns.{Takes, TakesBy, beginning};
 ghost use Rattle.hy_bound.specs.declared.Ending.TheVariants.{Committed};
 ghost use Rattle.hy_journal.specs.Core.{core_begun};
 ghost use Rattle.hy_session.specs.Entered.{has_entry};
 ghost use Rattle.hy_session.specs.Near.{IsActive, NearCore};
-ghost use Rattle.hy_session.specs.CoreSteps.{closed_by, entered_by, left_by};
+ghost use Rattle.hy_session.specs.CoreSteps.{closed_by, left_by};
 
 use crate::core_steps::CoreStep;
 use crate::ends::written_places;

@@ -8,7 +8,7 @@ ghost use Rattle.hy_event.specs.Ended.{inserts_into, placed_in, statements_in};
 ghost use Rattle.hy_event.specs.Sessions.{txn_at, written};
 ghost use Rattle.hy_session.specs.Seeking.{written_place};
 ghost use Rattle.hy_event.specs.Turns.{with_ended};
-ghost use Rattle.hy_session.specs.Entered.{is_stamping};
+ghost use Rattle.hy_protocol.specs.Turns.{is_stamping};
 
 use crate::seeking::place_of;
 use crate::{OpenTransaction, Session};

@@ -1,7 +1,8 @@
 //! Visits of an INSERT.
 
-ghost use Rattle.std.specs.Prelude.{◌≡◌, ◌<◌, ◌≤◌, suc, true, nat_lt, if◌then◌else◌, Some, IfOk, OnErr, OnOk};
+ghost use Rattle.std.specs.Prelude.{◌≡◌, ◌<◌, ◌≤◌, suc, true, false, nat_lt, if◌then◌else◌, Some, IfOk, OnErr, OnOk};
 ghost use Rattle.hy_protocol.specs.declared.Phase.{Phase};
+ghost use Rattle.hy_protocol.specs.declared.Progress.{Progress};
 ghost use Rattle.hy_bound.specs.declared.Ending.{Ending};
 ghost use Rattle.hy_bound.specs.declared.Bound.{Bound};
 ghost use Rattle.hy_bound.specs.Records.{shape_of};
@@ -19,7 +20,7 @@ use hy_notes::Changes;
 use hy_protocol::{Phase, Progress};
 use hy_prune::Cover;
 use hy_value::Row;
-use hy_visit::{Writer, check_visit, place_visit};
+use hy_visit::{Writer, check_visit, is_passed, place_visit};
 use std::alloc::{AllocError, Global};
 
 /// An INSERT, by its parts.
@@ -172,6 +173,91 @@ fn place(
         None => {
             now.phase = next_phase(visitor, insertion, visited, number);
             Ok(Progress::Moved)
+        }
+    }
+}
+
+/// Goes past a chunk in which the key of the row is not seen, and answers whether it does.
+fn pass_check(
+    visitor: &Visitor,
+    insertion: &Insertion,
+    key: u32,
+    now: &mut OpenTransaction,
+    chunk: &mut Chunk,
+) -> bool
+    requires { insertion.now.present.visited < visitor.now.chunks }
+    ensures event { result ≡ true → ForVisitor visitor.now now.old now.new (λ session after.
+        CheckVisit session now.old insertion.now.present.visited insertion.now.present.statement.now insertion.now.row.now
+        (Some key) chunk.old.shown Progress.Moved after chunk.new.shown) }
+    ensures kept { result ≡ false → now.new ≡ now.old }
+    ensures all { chunk.new ≡ chunk.old }
+{
+    let viewer = visitor.viewer(now.start);
+    if check_visit(chunk, &viewer, insertion.row, key) {
+        return false;
+    }
+    now.phase = Phase::Working {
+        visited: insertion.present.visited + 1,
+        count: 0,
+    };
+    true
+}
+
+/// Goes past the chunk of this number, where it is seen without a look at its positions that none is free and that there
+/// is nothing to prune, and answers whether it does.
+fn pass_place(
+    visitor: &Visitor,
+    insertion: &Insertion,
+    number: u32,
+    now: &mut OpenTransaction,
+    chunk: &Chunk,
+) -> bool
+    requires can { CanInsert visitor.now insertion.now now.old.cover chunk.now }
+    requires within { number ≤ insertion.now.present.visited }
+    ensures event { result ≡ true → ForVisitor visitor.now now.old now.new (λ session after.
+        PlaceVisit session now.old insertion.now.present.visited number insertion.now.present.statement.now insertion.now.table insertion.now.row.now
+        chunk.now.shown Progress.Moved after chunk.now.shown) }
+    ensures short { result ≡ true → visitor.now.prunes ≡ true → AllShort now.old.cover chunk.now.shown.places }
+    ensures kept { result ≡ false → now.new ≡ now.old }
+{
+    let Some(visited) = insertion.present.visited.checked_add(1) else {
+        return false;
+    };
+    if !is_passed(chunk, &now.cover, visitor.prunes) {
+        return false;
+    }
+    now.phase = next_phase(visitor, insertion, visited, number);
+    true
+}
+
+/// Goes past a chunk in which an INSERT neither ends nor changes anything, where that is seen at once, and answers whether it
+/// does. It takes no memory.
+pub fn pass(
+    visitor: &Visitor,
+    insertion: &Insertion,
+    now: &mut OpenTransaction,
+    chunk: &mut Chunk,
+) -> bool
+    requires { CanInsert visitor.now insertion.now now.old.cover chunk.old }
+    ensures event { result ≡ true → ForVisitor visitor.now now.old now.new (λ session after.
+        InsertVisit session now.old insertion.now.present.visited insertion.now.present.statement.now insertion.now.table insertion.now.row.now
+        (shape_of session.shapes insertion.now.table).key chunk.old.shown Progress.Moved after chunk.new.shown) }
+    ensures short { result ≡ true → ShortAt visitor.now insertion.now.present.visited
+        (Bound.Insert insertion.now.table insertion.now.row.now) now.old.cover chunk.new.shown }
+    ensures kept { result ≡ false → now.new ≡ now.old }
+    ensures all { chunk.new ≡ chunk.old }
+{
+    match table_shape(visitor.shapes, insertion.table).key {
+        Some(key) if insertion.present.visited < visitor.chunks => {
+            pass_check(visitor, insertion, key, now, chunk)
+        }
+        Some(_) => {
+            let number = insertion.present.visited - visitor.chunks;
+            pass_place(visitor, insertion, number, now, chunk)
+        }
+        None => {
+            let number = insertion.present.visited;
+            pass_place(visitor, insertion, number, now, chunk)
         }
     }
 }

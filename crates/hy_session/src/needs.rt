@@ -1,8 +1,8 @@
 //! What an open transaction needs next.
 
-ghost use Rattle.std.specs.Prelude.{◌≡◌, slice_index_or};
+ghost use Rattle.std.specs.Prelude.{◌≡◌, IfSome, slice_index_or};
 ghost use Rattle.hy_bound.specs.Records.{shape_of};
-ghost use Rattle.hy_event.specs.Needs.{checks_of, insert_need, statement_need, phase_need};
+ghost use Rattle.hy_event.specs.Needs.{checks_of, insert_need, need_of, statement_need, phase_need};
 ghost use Rattle.hy_event.specs.Sessions.{written};
 ghost use Rattle.hy_session.specs.Seeking.{Rises};
 ghost use Rattle.hy_session.specs.Standing.{needed_number};
@@ -61,6 +61,21 @@ impl Session {
                 table: *table,
                 chunk: visited,
             },
+        }
+    }
+
+    /// What it needs for its next visit, where an INSERT is at work.
+    pub fn next_of_insert(&self) -> Option<Need>
+        ensures { IfSome result (λ need. need ≡ need_of self.entry.now) }
+    {
+        let txn = self.program.as_slice().get(self.done.len())?;
+        let now = self.now.as_ref()?;
+        let Phase::Working { visited, .. } = now.phase else {
+            return None;
+        };
+        match txn.statements.as_slice().get(now.replies.len())? {
+            Bound::Insert { table, .. } => Some(self.needed_by_insert(*table, visited)),
+            _ => None,
         }
     }
 

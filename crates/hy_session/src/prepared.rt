@@ -87,16 +87,26 @@ impl Session {
         });
     }
 
-    /// How its present statement is run, which is a SELECT: what was kept of that, or else made now. Nothing is kept
-    /// then. Err is for want of memory.
-    pub(crate) fn take_reader(&mut self, alloc: Global) -> Result<Reader, AllocError>
-        requires { IsReading self.old }
-        ensures plan { IfOk result (λ reader. IsPlanFor self.old (Read reader)) }
-        ensures same { self.new ≡ self.old }
+    /// How its present statement is run, if that is kept and is how a SELECT is run.
+    pub(crate) fn kept_reader(&self) -> Option<&Reader>
+        ensures { IfSome result (λ reader. IsPlanFor self.entry.now (Read reader.now)) }
     {
-        if let Some(StatementPlan::Read(reader)) = self.take_plan() {
-            return Ok(reader);
+        let number = self.count_answered();
+        let Some(kept) = &self.prepared else {
+            return None;
+        };
+        match &kept.plan {
+            StatementPlan::Read(reader)
+                if kept.txn == self.done.len() && kept.statement == number => { Some(reader) }
+            _ => None,
         }
+    }
+
+    /// How its present statement is run, which is a SELECT. Err is for want of memory.
+    pub(crate) fn make_reader(&self, alloc: Global) -> Result<Reader, AllocError>
+        requires { IsReading self.now }
+        ensures { IfOk result (λ reader. IsPlanFor self.entry.now (Read reader)) }
+    {
         match self.statement_at_work() {
             Some(statement) => reader_of(alloc, self.shapes.as_slice(), statement),
             None => unreachable!(),

@@ -166,6 +166,25 @@ impl Session {
         }
     }
 
+    /// What comes of a visit of a SELECT, which its open transaction is at. How the SELECT is run is kept, once that is made.
+    /// Err is for want of memory.
+    fn step_by_plan(&mut self, alloc: Global, chunk: &mut Chunk) -> Result<ReadStep, AllocError>
+        requires near { NearChunk self.old chunk.old }
+        requires reads { IsReading self.old }
+        ensures step { IfOk result (λ step. IsStepOf self.old chunk.old.shown.places step) }
+        ensures same { self.new ≡ self.old }
+        ensures all { chunk.new ≡ chunk.old }
+    {
+        if let Some(reader) = self.kept_reader() {
+            return self.read_step(alloc, reader, chunk);
+        }
+        let answered = self.count_answered();
+        let reader = self.make_reader(alloc)?;
+        let step = self.read_step(alloc, &reader, chunk)?;
+        self.keep_plan(answered, StatementPlan::Read(reader));
+        Ok(step)
+    }
+
     /// Its open transaction keeps a piece of the rows of a table. Err is for want of memory, and changes nothing.
     fn keep(
         &mut self,
@@ -224,17 +243,12 @@ impl Session {
         ensures kept { OnErr result (self.new ≡ self.old) }
         ensures all { chunk.new ≡ chunk.old }
     {
-        let answered = self.count_answered();
-        let reader = self.take_reader(alloc)?;
-        match self.read_step(alloc, &reader, chunk)? {
+        match self.step_by_plan(alloc, chunk)? {
             ReadStep::More {
                 number,
                 piece,
                 visited,
-            } => {
-                self.keep_plan(answered, StatementPlan::Read(reader));
-                self.keep(alloc, number, piece, visited)
-            }
+            } => self.keep(alloc, number, piece, visited),
             ReadStep::Answer { reply, records } => self.give(reply, records),
         }
     }

@@ -1,15 +1,16 @@
 //! Visits of chunks.
 
-ghost use Rattle.std.specs.Prelude.{◌≡◌, None, false, IfOk, OnErr, OnOk};
+ghost use Rattle.std.specs.Prelude.{◌≡◌, None, true, false, IfOk, OnErr, OnOk};
 ghost use Rattle.std.specs.Option.{option_copied};
 ghost use Rattle.hy_event.specs.Events.{ChunkEvent, StatementVisit};
+ghost use Rattle.hy_protocol.specs.declared.Progress.{Progress};
 ghost use Rattle.hy_session.specs.Entered.{has_entry};
 ghost use Rattle.hy_session.specs.Near.{NearChunk};
 ghost use Rattle.hy_session.specs.Preparing.{kind_in, kind_of};
 ghost use Rattle.hy_session.specs.Short.{LeavesShort};
 ghost use Rattle.hy_session.specs.Visitors.{CanWork, ForVisitor, ShortAt, gathers, is_reading};
 
-use crate::inserting::{Insertion, insert};
+use crate::inserting::{Insertion, insert, pass};
 use crate::prepared::StatementPlan;
 use crate::stamping::{stamp, undo};
 use crate::visitors::{Present, Visitor};
@@ -82,6 +83,35 @@ fn visit_statement(
             };
             write_rows(alloc, visitor, &delete, now, chunk)
         }
+    }
+}
+
+/// Goes past a chunk in which the present statement, if it is an INSERT, neither ends nor changes anything, where that is
+/// seen at once, and answers whether it does. It takes no memory.
+fn pass_statement(
+    visitor: &Visitor,
+    present: &Present,
+    now: &mut OpenTransaction,
+    chunk: &mut Chunk,
+) -> bool
+    requires { gathers present.now.statement.now ≡ false → CanWork visitor.now now.old.cover present.now.statement.now chunk.old }
+    ensures event { result ≡ true → ForVisitor visitor.now now.old now.new (λ session after.
+        StatementVisit session now.old present.now.visited present.now.count present.now.statement.now
+        chunk.old.shown Progress.Moved after chunk.new.shown) }
+    ensures short { result ≡ true → ShortAt visitor.now present.now.visited present.now.statement.now now.old.cover chunk.new.shown }
+    ensures kept { result ≡ false → now.new ≡ now.old }
+    ensures all { chunk.new ≡ chunk.old }
+{
+    match present.statement {
+        Bound::Insert { table, row } => {
+            let insertion = Insertion {
+                present: *present,
+                table: *table,
+                row,
+            };
+            pass(visitor, &insertion, now, chunk)
+        }
+        _ => false,
     }
 }
 
@@ -179,6 +209,47 @@ impl Session {
         Ok(progress)
     }
 
+    /// Goes past a chunk, which it needs, where an INSERT neither ends in it nor changes anything and that is seen at once: by the
+    /// index of the keys, or by what is known of the chunk as a whole. It answers whether it did; else nothing changes. It
+    /// takes no memory.
+    pub fn pass(&mut self, chunk: &mut Chunk) -> bool
+        requires { NearChunk self.old chunk.old }
+        ensures event { result ≡ true → ChunkEvent self.old chunk.old.shown Progress.Moved self.new chunk.new.shown }
+        ensures short { result ≡ true → LeavesShort self.old self.old.now chunk.new.shown }
+        ensures kept { result ≡ false → self.new ≡ self.old }
+        ensures all { chunk.new ≡ chunk.old }
+    {
+        let label = self.label();
+        let prunes = self.prunes;
+        let Some(txn) = self.program.as_slice().get(self.done.len()) else {
+            return false;
+        };
+        let visitor = Visitor {
+            label,
+            id: label.id(),
+            shapes: self.shapes.as_slice(),
+            chunks: self.chunks,
+            prunes,
+        };
+        let Some(now) = &mut self.now else {
+            return false;
+        };
+        // Notes stay in order where more are made.
+        notes_tell();
+        let Phase::Working { visited, count } = now.phase else {
+            return false;
+        };
+        let Some(statement) = txn.statements.as_slice().get(now.replies.len()) else {
+            return false;
+        };
+        let present = Present {
+            statement,
+            visited,
+            count,
+        };
+        pass_statement(&visitor, &present, now, chunk)
+    }
+
     /// Visits a chunk, which it needs: it reads or writes there for the present statement, or stamps or undoes what its
     /// open transaction wrote there. Err is for want of memory, and changes nothing that contracts see; it never comes where
     /// its open transaction has its entry, so that a stamp takes no memory.
@@ -192,6 +263,8 @@ impl Session {
     {
         if self.is_reading() {
             self.read(alloc, chunk)
+        } else if self.pass(chunk) {
+            Ok(Progress::Moved)
         } else {
             self.change(alloc, chunk)
         }

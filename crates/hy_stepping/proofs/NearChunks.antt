@@ -18,6 +18,7 @@ use Rattle.hy_visit.specs.Pruning.{AllFall, AllUnderOwn, UnderOwn}
 use Rattle.hy_event.specs.declared.SessionData.{SessionData}
 use Rattle.hy_event.specs.declared.Open.{Open}
 use Rattle.hy_protocol.specs.declared.Phase.TheVariants as phase
+use Rattle.hy_protocol.specs.Turns.{is_stamping}
 use Rattle.hy_event.specs.declared.Need.TheVariants.{Chunk}
 use Rattle.hy_event.specs.Sessions.{label_of}
 use Rattle.hy_event.specs.Needs.{need_of}
@@ -25,7 +26,7 @@ use Rattle.hy_event.specs.Events.{Part, ChunkPart}
 use Rattle.hy_machine.specs.declared.Setting.{Setting}
 use Rattle.hy_machine.specs.States.{State}
 use Rattle.hy_machine.specs.Sessions.{session_at}
-use Rattle.hy_machine.specs.Kept.{Kept, is_stamping}
+use Rattle.hy_machine.specs.Kept.{Kept}
 use Rattle.hy_lawful.specs.Kept.{ReachedAreKept}
 use Rattle.hy_refinement.specs.Transactions.{IsOpen}
 use Rattle.hy_refinement.specs.Sessions.{SessionShows}

@@ -7,7 +7,7 @@ use Rattle.hy_event.specs.declared.SessionData.{SessionData}
 use Rattle.hy_event.specs.declared.Open.{Open}
 use Rattle.hy_event.specs.Ended.{placed_in, statements_in}
 use Rattle.hy_event.specs.Sessions.{label_of, txn_at}
-use Rattle.hy_session.specs.Entered.{is_stamping}
+use Rattle.hy_protocol.specs.Turns.{is_stamping}
 use Rattle.hy_session.proofs.Endings.{ended_by, outcome_by, placed_of}
 use Rattle.hy_session.proofs.Session.end.Goals as goal
 

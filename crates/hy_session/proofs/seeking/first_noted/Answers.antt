@@ -1,4 +1,4 @@
-use Rattle.std.proofs.Common.{◌≡◌, None, Some, ◌∙◌, ap, sym}
+use Rattle.std.proofs.Common.{None, Some, ◌∙◌, ap, sym}
 use Rattle.hy_render.specs.declared.Place.{Place}
 use Rattle.hy_session.specs.Seeking.{of_table}
 use Rattle.hy_session.proofs.NotedSeeks.{found_noted}

@@ -1,4 +1,4 @@
-use Rattle.std.proofs.Common.{rules, ◌≡◌, None, Some, ◌∙◌, refl}
+use Rattle.std.proofs.Common.{rules, None, Some, ◌∙◌, refl}
 use Rattle.std.proofs.lemmas.List.Sorted.{IsPartitionPoint-from_clause}
 use Rattle.hy_session.specs.Seeking.{comes_before}
 use Rattle.hy_session.proofs.OrderedPlaces.{found_place, parted_places}

@@ -11,10 +11,10 @@ mod statements;
 mod transactions;
 
 use draws::Draws;
-use hy_bound::Rows;
+use hy_bound::StoredRows;
 use hy_schema::{AddError, Catalog, Column, TableDef};
 use hy_script::{NamedTxns, Options, Script};
-use hy_value::{Kind, Row, Seq, Text, Value};
+use hy_value::{Kind, RowBuffer, Seq, StoredRow, Text};
 use std::alloc::{AllocError, Global};
 
 /// How many accounts there are.
@@ -95,7 +95,7 @@ fn column(alloc: Global, bytes: &[u8]) -> Column
 }
 
 /// Of each table its first rows.
-fn tables_rows(alloc: Global) -> Result<Seq<Rows>, AllocError>
+fn tables_rows(alloc: Global) -> Result<Seq<StoredRows>, AllocError>
     ensures { IfOk result (λ rows. rows ≡ first_rows ∷ []) }
 {
     let mut tables = Vec::with_capacity(alloc, 1)?;
@@ -104,24 +104,24 @@ fn tables_rows(alloc: Global) -> Result<Seq<Rows>, AllocError>
 }
 
 /// The first rows of the accounts.
-fn account_rows(alloc: Global) -> Result<Rows, AllocError>
+fn account_rows(alloc: Global) -> Result<StoredRows, AllocError>
     ensures { IfOk result (λ rows. rows ≡ first_rows) }
 {
     let mut rows = Vec::with_capacity(alloc, ACCOUNTS as usize)?;
     for account in 0..ACCOUNTS {
-        rows.push(account_row(alloc, account + 1)?)?;
+        rows.push(account_row(alloc, account + 1))?;
     }
     Ok(Seq::from_vec(rows))
 }
 
 /// The first row of an account.
-fn account_row(alloc: Global, account: u32) -> Result<Row, AllocError>
-    ensures { IfOk result (λ row. row ≡ first_row account) }
+fn account_row(alloc: Global, account: u32) -> StoredRow
+    ensures { result ≡ first_row account }
 {
-    let mut row = Vec::with_capacity(alloc, 2)?;
-    row.push(Value::Int(i64::from(account)))?;
-    row.push(Value::Int(FIRST_BALANCE))?;
-    Ok(Seq::from_vec(row))
+    let mut row = RowBuffer::new(alloc);
+    row.push_number_reserved(i64::from(account));
+    row.push_number_reserved(FIRST_BALANCE);
+    StoredRow::from_buffer(row)
 }
 
 /// The name of a session.

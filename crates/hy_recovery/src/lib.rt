@@ -11,12 +11,12 @@ ghost use Rattle.hy_machine.specs.Outcomes.{rows_sorted};
 ghost use Rattle.hy_redo.specs.Recovery.{DamagedIn};
 ghost use Rattle.hy_recovery.specs.Recovered.{held, first_tables, rows_of, AreRecovered};
 
-use hy_bound::Rows;
+use hy_bound::StoredRows;
 use hy_disk::Disk;
 use hy_log_record::{HeldRows, HeldTable, HeldTables};
 use hy_machine::Setting;
 use hy_redo::{RecoverError, recover};
-use hy_value::{Kinds, Row, Seq, copy_row, sort_rows};
+use hy_value::{Kinds, Seq, StoredRow, sort_stored_rows};
 use std::alloc::{AllocError, Global};
 
 /// How many positions a table has.
@@ -27,17 +27,21 @@ fn positions_of(setting: &Setting) -> usize
 }
 
 /// A copy of the row with this number, where there is one.
-fn cell_at(alloc: Global, rows: &[Row], number: usize) -> Result<Option<Row>, AllocError>
+fn cell_at(
+    alloc: Global,
+    rows: &[StoredRow],
+    number: usize,
+) -> Result<Option<StoredRow>, AllocError>
     ensures { IfOk result (λ cell. cell ≡ slice_get rows.now number) }
 {
     match rows.get(number) {
         None => Ok(None),
-        Some(row) => Ok(Some(copy_row(alloc, row)?)),
+        Some(row) => Ok(Some(row.copy(alloc)?)),
     }
 }
 
 /// Copies of the rows at the first of so many positions, and no rows behind them.
-fn cells_of(alloc: Global, rows: &[Row], positions: usize) -> Result<HeldRows, AllocError>
+fn cells_of(alloc: Global, rows: &[StoredRow], positions: usize) -> Result<HeldRows, AllocError>
     ensures { IfOk result (λ cells. cells ≡ laid_out positions rows.now) }
 {
     let mut cells = Seq::new(alloc);
@@ -51,7 +55,7 @@ fn cells_of(alloc: Global, rows: &[Row], positions: usize) -> Result<HeldRows, A
 fn table_of(
     alloc: Global,
     kinds: &Kinds,
-    rows: &Rows,
+    rows: &StoredRows,
     positions: usize,
 ) -> Result<HeldTable, AllocError>
     ensures { IfOk result (λ table. table ≡ held kinds.now (laid_out positions rows.now)) }
@@ -75,7 +79,7 @@ fn tables_of(alloc: Global, setting: &Setting, kinds: &[Kinds]) -> Result<HeldTa
 }
 
 /// The rows that are there.
-fn present_rows(alloc: Global, cells: HeldRows) -> Result<Vec<Row>, AllocError>
+fn present_rows(alloc: Global, cells: HeldRows) -> Result<Vec<StoredRow>, AllocError>
     ensures { IfOk result (λ rows. rows.items ≡ present cells) }
 {
     let mut rows = Vec::new(alloc);
@@ -88,16 +92,16 @@ fn present_rows(alloc: Global, cells: HeldRows) -> Result<Vec<Row>, AllocError>
 }
 
 /// The rows that are there, ascending.
-fn ascending_rows(alloc: Global, cells: HeldRows) -> Result<Rows, AllocError>
+fn ascending_rows(alloc: Global, cells: HeldRows) -> Result<StoredRows, AllocError>
     ensures { IfOk result (λ rows. rows ≡ rows_sorted cells) }
 {
     let mut rows = present_rows(alloc, cells)?;
-    sort_rows(&mut rows)?;
+    sort_stored_rows(&mut rows)?;
     Ok(Seq::from_vec(rows))
 }
 
 /// The rows of each table, ascending.
-fn all_rows(alloc: Global, tables: HeldTables) -> Result<Seq<Rows>, AllocError>
+fn all_rows(alloc: Global, tables: HeldTables) -> Result<Seq<StoredRows>, AllocError>
     ensures { IfOk result (λ rows. rows ≡ rows_of tables) }
 {
     let mut all = Seq::new(alloc);
@@ -118,7 +122,7 @@ pub fn recover_rows<D: Disk>(
     setting: &Setting,
     kinds: &[Kinds],
     disk: &mut D,
-) -> Result<Seq<Rows>, RecoverError>
+) -> Result<Seq<StoredRows>, RecoverError>
     ensures found { IfOk result (λ rows. (bytes : List ℕ) × IsOwn (D.held disk.old) bytes
         × AreRecovered (first_tables kinds.now setting.now) bytes rows) }
     ensures damaged { IfErr result (DamagedIn (first_tables kinds.now setting.now) (D.held disk.old)) }

@@ -1,5 +1,6 @@
 pub mod Utf8
 pub mod Causes
+pub mod NumbersApart
 pub mod Tables
 pub mod Lines
 pub mod Runs

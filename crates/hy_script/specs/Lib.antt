@@ -1,5 +1,6 @@
 pub mod Codes
 pub mod Stocks
+pub mod Keys
 pub mod Refusals
 pub mod Growing
 pub mod Reading

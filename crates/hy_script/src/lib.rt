@@ -8,7 +8,7 @@ ghost use Rattle.hy_script.specs.declared.Script.{Script};
 ghost use Rattle.hy_script.specs.declared.Refused.{Refused};
 ghost use Rattle.hy_script.specs.Reading.{Reads, Answers, Says, error_of_halt};
 
-use hy_bound::{Rows, Schedule, Txns};
+use hy_bound::{Schedule, StoredRows, Txns};
 use hy_limits::MOST_BYTES;
 use hy_schema::Catalog;
 use hy_value::{Seq, Text};
@@ -16,6 +16,7 @@ use std::alloc::{AllocError, Global};
 
 mod codes;
 mod fitting;
+mod keys;
 mod laws;
 mod reading;
 mod sofar;
@@ -53,7 +54,7 @@ pub struct Script {
     /// The tables.
     pub catalog: Catalog,
     /// Of each table its first rows.
-    pub rows: Seq<Rows>,
+    pub rows: Seq<StoredRows>,
     /// The sessions, by number.
     pub sessions: Seq<NamedTxns>,
     /// The schedule.

@@ -1,10 +1,12 @@
 //! The first rows of a table.
 
 ghost use Rattle.std.specs.Prelude.{◌≡◌, [], OnOk};
+ghost use Rattle.hy_value.specs.Refs.{referred};
 ghost use Rattle.hy_script.specs.Stocks.{key_there, with_row, value_in};
 
-use hy_bound::Rows;
-use hy_value::{Row, Seq, Value, ValueSet};
+use crate::keys::KeySet;
+use hy_bound::StoredRows;
+use hy_value::{Row, Seq, StoredRow, ValueRef};
 use std::alloc::{AllocError, Global};
 
 /// The first rows of a table, with the keys that they have.
@@ -13,9 +15,9 @@ pub struct Stock {
     /// The number of the table's key, if it has one.
     pub key: Option<u32>,
     /// The rows.
-    pub rows: Rows,
+    pub rows: StoredRows,
     /// Their keys, where there is a key.
-    pub keys: ValueSet,
+    pub keys: KeySet,
 }
 
 impl Stock {
@@ -26,7 +28,7 @@ impl Stock {
         Stock {
             key,
             rows: Seq::new(alloc),
-            keys: ValueSet::new(alloc),
+            keys: KeySet::new(alloc),
         }
     }
 
@@ -35,29 +37,30 @@ impl Stock {
         ensures { result ≡ key_there self.now row.now }
     {
         match self.key {
-            Some(key) => self.keys.has(&key_value(row, key)),
+            Some(key) => self.keys.has(key_at(row, key)),
             None => false,
         }
     }
 
     /// Adds a row.
-    pub fn add(&mut self, row: Row) -> Result<(), AllocError>
-        ensures { OnOk result (self.new ≡ with_row self.old row) }
+    pub fn add(&mut self, alloc: Global, row: &Row) -> Result<(), AllocError>
+        ensures { OnOk result (self.new ≡ with_row self.old row.now) }
     {
         if let Some(key) = self.key {
-            self.keys.insert(key_value(&row, key))?;
+            self.keys.insert(key_at(row, key))?;
         }
-        self.rows.push(row)?;
+        self.rows
+            .push(StoredRow::from_values(alloc, row.as_slice())?)?;
         Ok(())
     }
 }
 
-/// A row's value in a column, NULL beyond its last.
-fn key_value(row: &Row, key: u32) -> Value
-    ensures { result ≡ value_in row.now key }
+/// A row's value in a column where it stands, NULL beyond its last.
+fn key_at(row: &Row, key: u32) -> ValueRef<'_>
+    ensures { referred result ≡ value_in row.now key }
 {
     match row.as_slice().get(key as usize) {
-        Some(value) => value.copy(),
-        None => Value::Null,
+        Some(value) => value.refer(),
+        None => ValueRef::Null,
     }
 }

@@ -5,7 +5,7 @@ ghost use Rattle.std.specs.Fmt.{decimal};
 ghost use Rattle.hy_script.specs.Codes.{number};
 ghost use Rattle.hy_top.specs.Lines.{two_digits, all_rows, all_txns, refusal_line_of, checked_line, damaged_line};
 
-use hy_bound::Rows;
+use hy_bound::StoredRows;
 use hy_script::{NamedTxns, Refused, Script};
 use std::alloc::{AllocError, Global};
 
@@ -48,7 +48,7 @@ pub fn refusal_line(alloc: Global, refused: Refused) -> Result<Vec<u8>, AllocErr
 }
 
 /// How many rows all tables have. More than 64 bits would count is want of memory.
-fn rows_in_all(tables: &[Rows]) -> Result<u64, AllocError>
+fn rows_in_all(tables: &[StoredRows]) -> Result<u64, AllocError>
     ensures { IfOk result (λ count. count ≡ all_rows tables.now) }
 {
     let mut count = 0u64;

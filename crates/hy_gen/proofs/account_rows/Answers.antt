@@ -5,7 +5,7 @@ use Rattle.hy_gen.proofs.Steps.{row_more}
 use Rattle.hy_gen.proofs.account_rows.Goals as goal
 
 pub loop-account-preserved : goal.loop-account-preserved
-loop-account-preserved c = row_more c.loop-account.account _ _ _ c.loop-account.invariant c.in_ok-account_row.ensures c.in_ok-push.ensures.items
+loop-account-preserved c = row_more c.loop-account.account _ _ _ c.loop-account.invariant c.account_row.ensures c.in_ok-push.ensures.items
 
 pub returns : goal.returns
 unfolding first_rows

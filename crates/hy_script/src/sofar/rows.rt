@@ -14,7 +14,7 @@ use crate::stocks::Stock;
 use crate::{Input, Options};
 use hy_ast::{Literal, Statement};
 use hy_bind::{BindError, bind, text_in};
-use hy_bound::{Bound, Rows};
+use hy_bound::{Bound, StoredRows};
 use hy_token::Span;
 use hy_value::{Row, Seq};
 use std::alloc::{AllocError, Global};
@@ -69,7 +69,7 @@ impl SoFar {
             return Ok(());
         }
         let mut stock = self.stocks.replace(number, Stock::new(alloc, None));
-        stock.add(row)?;
+        stock.add(alloc, &row)?;
         leave(self.stocks.replace(number, stock));
         Ok(())
     }
@@ -110,7 +110,7 @@ impl SoFar {
 fn leave(_: Stock) {}
 
 /// The rows of all tables.
-pub fn rows_of(alloc: Global, stocks: Seq<Stock>) -> Result<Seq<Rows>, AllocError>
+pub fn rows_of(alloc: Global, stocks: Seq<Stock>) -> Result<Seq<StoredRows>, AllocError>
     ensures { IfOk result (λ all. all ≡ map (λ stock. stock.rows) stocks) }
 {
     let mut all = Seq::new(alloc);

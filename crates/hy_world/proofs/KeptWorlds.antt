@@ -171,7 +171,7 @@ chunk_same world number session after place old new at found same chunk =
     ∙ ap (λ (sessions : List SessionData). record world { sessions = sessions }) put
 
 -- an Err leaves what contracts see
-stays_seen : (fields : Fields) (number : ℕ) (session after : SessionData) (table chunk place : ℕ) (part new : Whole)
+pub stays_seen : (fields : Fields) (number : ℕ) (session after : SessionData) (table chunk place : ℕ) (part new : Whole)
     → ChunkAt fields number session table chunk place part → after ≡ session → new.shown ≡ part.shown
     → world_of (chunk_put fields number after place new) ≡ world_of fields
 stays_seen fields number session after table chunk place part new at same shown =

@@ -31,8 +31,7 @@ use Rattle.hy_protocol.specs.declared.Phase.{Phase}
 use Rattle.hy_protocol.specs.declared.Phase.TheVariants as phase
 use Rattle.hy_protocol.specs.declared.Progress.{Progress}
 use Rattle.hy_protocol.specs.declared.Progress.TheVariants.{Moved, Answered, Blocked, Ended}
-use Rattle.hy_event.specs.CoreTurns.{CoreEvent, CoreTurn, TakesAtCore, begin_turn, close_turn, closing_turn, commit_turn, core_turn, invalid_by, leave_turn}
-use Rattle.hy_event.specs.CoreTurns.{phase_turn, session_turn, unless_blocked, validated_turn, working_turn}
+use Rattle.hy_event.specs.CoreTurns.{CoreEvent, TakesAtCore, core_after, core_turn}
 use Rattle.hy_event.specs.Events.{ChunkEvent, ClosingVisit, PhaseVisit, SessionVisit, StatementVisit, WorkingVisit}
 use Rattle.hy_event.specs.Gathering.{ReadPlan, group_read_plan, select_read_plan}
 use Rattle.hy_event.specs.Inserting.{InsertVisit, CheckVisit, PlaceVisit, check_turn, free_position, place_turn, sees_key}
@@ -239,74 +238,16 @@ chunk_turned session old progress after new visit = session_turned session (txn_
 
 -- ---- a visit of the core
 
--- where the turn is to wait, the core stays
-abbrev Stays : CoreData → CoreTurn → Type 0
-Stays core turn = (by : Label) → turn.0 ≡ Waits by → turn.1 ≡ core
-
-free_stays : (core : CoreData) (turn : CoreTurn) → IsFree turn.0 → Stays core turn
-free_stays core turn free by e = absurd (free by e)
-
-unless_stays : (core : CoreData) (found : Option Label) (turn : CoreTurn) → IsFree turn.0 → Stays core (unless_blocked core found turn)
-unless_stays core None turn free = free_stays core turn free
-unless_stays core (Some by) turn free = λ other e. refl
-
-validated_free : (session : SessionData) (core : CoreData) (now : Open) (found : Option Invalid) → IsFree (validated_turn session core now found).0
-validated_free session core now None = λ by e. cc e
-validated_free session core now (Some invalid) = visits_free [] (phase.Undoing 0 (invalid_by now.records invalid))
-
-commit_free : (session : SessionData) (core : CoreData) (now : Open) (notes : List Change) → IsFree (commit_turn session core now notes).0
-commit_free session core now [] = λ by e. cc e
-commit_free session core now (note ∷ notes) = validated_free session core now (first_invalid now.records (drop now.prefix core.entries))
-
-closing_free : (session : SessionData) (core : CoreData) (now : Open) (commits : Bool) → IsFree (closing_turn session core now commits).0
-closing_free session core now true = commit_free session core now now.notes
-closing_free session core now false = λ by e. cc e
-
--- of what may be there
-abbrev AllStay : CoreData → Option CoreTurn → Type 0
-AllStay core found = (turn : CoreTurn) → found ≡ Some turn → Stays core turn
-
-some_stays : (core : CoreData) (turn : CoreTurn) → Stays core turn → AllStay core (Some turn)
-some_stays core turn stays other e = subst (Stays core) (same_Some turn other e) stays
-
-none_stays : (core : CoreData) → AllStay core None
-none_stays core turn e = absurd (cc e)
-
-working_stays : (session : SessionData) (core : CoreData) (txn : Txn) (now : Open) (found : Option Bound)
-    → AllStay core (working_turn session core txn now found)
-working_stays session core txn now None =
-    let found = blocked_by core (label_of session) in
-    let turn : CoreTurn = closing_turn session core now txn.commits in
-    some_stays core (unless_blocked core found turn) (unless_stays core found turn (closing_free session core now txn.commits))
-working_stays session core txn now (Some statement) = none_stays core
-
-phase_stays : (session : SessionData) (core : CoreData) (txn : Txn) (now : Open) (at : Phase) → AllStay core (phase_turn session core txn now at)
-phase_stays session core txn now (phase.Working visited count) = working_stays session core txn now (slice_get txn.statements (length now.replies))
-phase_stays session core txn now (phase.Stamping visited) =
-    some_stays core (leave_turn core now) (free_stays core (leave_turn core now) (λ by e. cc e))
-phase_stays session core txn now (phase.Undoing visited cause) =
-    let found = blocked_by core (label_of session) in
-    let turn : CoreTurn = close_turn core now cause in
-    some_stays core (unless_blocked core found turn) (unless_stays core found turn (λ by e. cc e))
-
-session_stays : (session : SessionData) (core : CoreData) (txn : Option Txn) (now : Option Open) → AllStay core (session_turn session core txn now)
-session_stays session core None now = none_stays core
-session_stays session core (Some txn) None =
-    let found = blocked_by core (label_of session) in
-    let turn : CoreTurn = begin_turn core in
-    some_stays core (unless_blocked core found turn) (unless_stays core found turn (λ by e. cc e))
-session_stays session core (Some txn) (Some now) = phase_stays session core txn now now.phase
-
 -- a session waits at the core: it and the core are as they were
 pub record IsWaiting (session : SessionData) (core : CoreData) (by : Label) (after : SessionData) (new : CoreData) : Type 0 where
-  pub turn : core_turn session core ≡ Some (Waits by, core)
+  pub turn : core_turn session core ≡ Some (Waits by)
   pub same : after ≡ session
   pub core_same : new ≡ core
 
 -- or it goes on
 pub record IsGoingOn (session : SessionData) (core : CoreData) (progress : Progress) (after : SessionData) : Type 0 where
   pub turned : IsTurned session progress after
-  pub free : (by : Label) → core_turn session core ≡ Some (Waits by, core) → ⊥
+  pub free : (by : Label) → core_turn session core ≡ Some (Waits by) → ⊥
 
 -- a visit of the core, by what it came to
 abbrev pub CameTo : SessionData → CoreData → Progress → SessionData → CoreData → Type 0
@@ -315,13 +256,6 @@ CameTo session core Moved after new = IsGoingOn session core Moved after
 CameTo session core Answered after new = IsGoingOn session core Answered after
 CameTo session core Ended after new = IsGoingOn session core Ended after
 
-going_on : (session : SessionData) (core : CoreData) (first : Turn Change) (left : CoreData) (progress : Progress) (after : SessionData)
-    → core_turn session core ≡ Some (first, left) → IsFree first → TakesBy core session first progress after → IsGoingOn session core progress after
-going_on session core first left progress after found free takes = record {
-  turned = turned_by (Some core) session first progress after free takes;
-  free = λ by h. free by (ap (λ (turn : CoreTurn). turn.0) (same_Some (first, left) (Waits by, core) (sym found ∙ h)));
-}
-
 came_of : (session : SessionData) (core : CoreData) (progress : Progress) (after : SessionData) (new : CoreData)
     → IsGoingOn session core progress after → CameTo session core progress after new
 came_of session core (Blocked by) after new goes = absurd (goes.turned.going by refl)
@@ -329,39 +263,34 @@ came_of session core Moved after new goes = goes
 came_of session core Answered after new goes = goes
 came_of session core Ended after new goes = goes
 
-came_free : (session : SessionData) (core : CoreData) (first : Turn Change) (left : CoreData) (progress : Progress) (after : SessionData) (new : CoreData)
-    → core_turn session core ≡ Some (first, left) → IsFree first → TakesBy core session first progress after → CameTo session core progress after new
-came_free session core first left progress after new found free takes =
-    came_of session core progress after new (going_on session core first left progress after found free takes)
-
-came_by : (session : SessionData) (core : CoreData) (first : Turn Change) (left : CoreData) (progress : Progress) (after : SessionData) (new : CoreData)
-    → core_turn session core ≡ Some (first, left) → Stays core (first, left) → TakesBy core session first progress after → new ≡ left
-    → CameTo session core progress after new
-came_by session core (Waits by) left progress after new found stays takes is =
-    subst (λ (p : Progress). CameTo session core p after new) (sym (ap (λ (s : Step). s.1) takes))
-    (record {
-      turn = found ∙ ap (λ (c : CoreData). Some (Waits by, c)) (stays by refl);
-      same = ap (λ (s : Step). s.0) takes;
-      core_same = is ∙ stays by refl;
+came_free : (session : SessionData) (core : CoreData) (turn : Turn Change) (progress : Progress) (after : SessionData) (new : CoreData)
+    → core_turn session core ≡ Some turn → IsFree turn → TakesBy core session turn progress after → CameTo session core progress after new
+came_free session core turn progress after new found free takes =
+    came_of session core progress after new (record {
+      turned = turned_by (Some core) session turn progress after free takes;
+      free = λ by h. free by (same_Some turn (Waits by) (sym found ∙ h));
     })
-came_by session core Rests left progress after new found stays takes is =
-    came_free session core Rests left progress after new found (λ by e. cc e) takes
-came_by session core Begins left progress after new found stays takes is =
-    came_free session core Begins left progress after new found (λ by e. cc e) takes
-came_by session core (Visits changes next) left progress after new found stays takes is =
-    came_free session core (Visits changes next) left progress after new found (visits_free changes next) takes
-came_by session core (Answers changes reply took records) left progress after new found stays takes is =
-    came_free session core (Answers changes reply took records) left progress after new found (λ by e. cc e) takes
-came_by session core Enters left progress after new found stays takes is =
-    came_free session core Enters left progress after new found (λ by e. cc e) takes
-came_by session core (Ends ending) left progress after new found stays takes is =
-    came_free session core (Ends ending) left progress after new found (λ by e. cc e) takes
 
-came_at : (session : SessionData) (core : CoreData) (found : Option CoreTurn) (progress : Progress) (after : SessionData) (new : CoreData)
+came_by : (session : SessionData) (core : CoreData) (turn : Turn Change) (progress : Progress) (after : SessionData) (new : CoreData)
+    → core_turn session core ≡ Some turn → TakesBy core session turn progress after → new ≡ core_after session core turn
+    → CameTo session core progress after new
+came_by session core (Waits by) progress after new found takes is =
+    subst (λ (p : Progress). CameTo session core p after new) (sym (ap (λ (s : Step). s.1) takes))
+    (record { turn = found; same = ap (λ (s : Step). s.0) takes; core_same = is })
+came_by session core Rests progress after new found takes is = came_free session core Rests progress after new found (λ by e. cc e) takes
+came_by session core Begins progress after new found takes is = came_free session core Begins progress after new found (λ by e. cc e) takes
+came_by session core (Visits changes next) progress after new found takes is =
+    came_free session core (Visits changes next) progress after new found (visits_free changes next) takes
+came_by session core (Answers changes reply took records) progress after new found takes is =
+    came_free session core (Answers changes reply took records) progress after new found (λ by e. cc e) takes
+came_by session core Enters progress after new found takes is = came_free session core Enters progress after new found (λ by e. cc e) takes
+came_by session core (Ends ending) progress after new found takes is =
+    came_free session core (Ends ending) progress after new found (λ by e. cc e) takes
+
+came_at : (session : SessionData) (core : CoreData) (found : Option (Turn Change)) (progress : Progress) (after : SessionData) (new : CoreData)
     → core_turn session core ≡ found → TakesAtCore session core found progress after new → CameTo session core progress after new
 came_at session core None progress after new e takes = absurd takes
-came_at session core (Some turn) progress after new e takes =
-    came_by session core turn.0 turn.1 progress after new e (session_stays session core (txn_at session) session.now turn e) takes.0 takes.1
+came_at session core (Some turn) progress after new e takes = came_by session core turn progress after new e takes.0 takes.1
 
 pub core_came : (session : SessionData) (core : CoreData) (progress : Progress) (after : SessionData) (new : CoreData)
     → CoreEvent session core progress after new → CameTo session core progress after new

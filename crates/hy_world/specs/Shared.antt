@@ -129,5 +129,5 @@ pub record IsVisit (number : ℕ) (session : SessionData) (old : SharedData) (af
 
 -- it has to wait, since another transaction stands between its entry and its end
 abbrev pub HasToWait : SessionData → SharedData → Type 0
-HasToWait session (CoreOf core) = (by : Label) × (core_turn session core ≡ Some (Waits by, core))
+HasToWait session (CoreOf core) = (by : Label) × (core_turn session core ≡ Some (Waits by))
 HasToWait session (ChunkOf kinds chunk) = ⊥

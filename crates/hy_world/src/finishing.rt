@@ -11,7 +11,7 @@ ghost use Rattle.hy_world.specs.Finished.{HasWidth, HaveWidth, HaveTheirWidths};
 ghost use Rattle.hy_world.specs.Follows.{Tells};
 
 use crate::World;
-use hy_bound::{Pred, Rows, Shape};
+use hy_bound::{Pred, Shape, StoredRows};
 use hy_chunk::Chunk;
 use hy_journal::Entry;
 use hy_notes::net;
@@ -19,7 +19,7 @@ use hy_plan::Gathered;
 use hy_render::{Committed, Outcome, TxnOutcome};
 use hy_session::Session;
 use hy_stamp::Viewer;
-use hy_value::{ColMask, Row, Seq, sort_rows};
+use hy_value::{ColMask, Seq, StoredRow, sort_stored_rows};
 use std::alloc::{AllocError, Global};
 
 /// Every column that a table may have.
@@ -67,15 +67,16 @@ fn gather_chunks(
     Ok(())
 }
 
-/// Gathered rows, as rows of so many columns.
-fn rows_of(alloc: Global, gathered: &Gathered, width: u32) -> Result<Vec<Row>, AllocError>
+/// Gathered rows, as rows of so many columns, in no more room than they take.
+fn rows_of(alloc: Global, gathered: &Gathered, width: u32) -> Result<Vec<StoredRow>, AllocError>
     ensures { IfOk result (λ rows. rows.items ≡ map (spread every_column width) gathered.now.rows) }
 {
     let mut rows = Vec::with_capacity(alloc, gathered.len())?;
+    let mut values = Seq::from_vec(Vec::with_capacity(alloc, width as usize)?);
     for index in 0..gathered.len() {
-        let mut row = Seq::from_vec(Vec::with_capacity(alloc, width as usize)?);
-        gathered.push_spread(index, all_columns(), width, &mut row)?;
-        rows.push(row)?;
+        values.truncate(0);
+        gathered.push_spread(index, all_columns(), width, &mut values)?;
+        rows.push(StoredRow::from_values(alloc, values.as_slice())?)?;
     }
     Ok(rows)
 }
@@ -88,7 +89,7 @@ fn table_rows(
     count: usize,
     viewer: &Viewer,
     width: u32,
-) -> Result<Rows, AllocError>
+) -> Result<StoredRows, AllocError>
     requires within { first + count ≤ length chunks.old.items }
     requires wide { HaveWidth width chunks.old.items first count }
     ensures rows { IfOk result (λ rows. rows ≡ read_back width (gathered_in viewer.now chunks.old.items first count)) }
@@ -97,7 +98,7 @@ fn table_rows(
     let mut gathered = Gathered::new(alloc, width as usize)?;
     gather_chunks(alloc, chunks, first, count, viewer, &mut gathered)?;
     let mut rows = rows_of(alloc, &gathered, width)?;
-    sort_rows(&mut rows)?;
+    sort_stored_rows(&mut rows)?;
     Ok(Seq::from_vec(rows))
 }
 
@@ -108,7 +109,7 @@ fn all_rows(
     shapes: &[Shape],
     per_table: u32,
     viewer: &Viewer,
-) -> Result<Seq<Rows>, AllocError>
+) -> Result<Seq<StoredRows>, AllocError>
     requires within { length shapes.now * per_table ≤ length chunks.old.items }
     requires wide { HaveTheirWidths shapes.now per_table chunks.old.items }
     ensures { IfOk result (λ tables. tables ≡ tables_back viewer.now chunks.old.items shapes.now per_table (length shapes.now)) }

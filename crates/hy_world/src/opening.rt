@@ -14,12 +14,12 @@ ghost use Rattle.hy_world.specs.Openings.{places_with, first_rows, IsLaid, AreLa
 ghost use Rattle.hy_world.specs.Worlds.{ShowsState};
 
 use crate::{Kinds, World};
-use hy_bound::{Rows, Shape, Shapes, Txns, table_shape};
+use hy_bound::{Shape, Shapes, StoredRows, Txns, table_shape};
 use hy_chunk::Chunk;
 use hy_core::Core;
 use hy_machine::Setting;
 use hy_session::{Layout, Session};
-use hy_value::{Kind, Row, Seq};
+use hy_value::{Kind, Seq, StoredRow};
 use std::alloc::{AllocError, Global};
 
 /// The types of a table's columns.
@@ -31,7 +31,7 @@ fn table_kinds(kinds: &[Kinds], table: u32) -> &[Kind]
 }
 
 /// The first rows of a table.
-fn table_rows(first: &[Rows], table: u32) -> &[Row]
+fn table_rows(first: &[StoredRows], table: u32) -> &[StoredRow]
     requires { table < length first.now }
     ensures { result.now ≡ first_rows first.now table }
 {
@@ -39,7 +39,7 @@ fn table_rows(first: &[Rows], table: u32) -> &[Row]
 }
 
 /// So many rows from one on, as far as there are any.
-fn rows_from(rows: &[Row], start: usize, count: usize) -> &[Row]
+fn rows_from(rows: &[StoredRow], start: usize, count: usize) -> &[StoredRow]
     ensures { result.now ≡ take count (drop start rows.now) }
 {
     let (_before, rest) = rows.split_at(start.min(rows.len()));
@@ -47,16 +47,18 @@ fn rows_from(rows: &[Row], start: usize, count: usize) -> &[Row]
     these
 }
 
-/// Loads first rows, one behind the other, into a chunk of which no position is used.
-fn load_rows(chunk: &mut Chunk, rows: &[Row])
+/// Loads first rows, one behind the other, into a chunk of which no position is used. Err is for want of memory.
+fn load_rows(alloc: Global, chunk: &mut Chunk, rows: &[StoredRow]) -> Result<(), AllocError>
     requires blank { chunk.old.shown.places ≡ replicate (length chunk.old.shown.places) (blank_place chunk.old.kinds) }
     requires few { length rows.now ≤ length chunk.old.shown.places }
     requires fit { All (FitsRow chunk.old.kinds) rows.now }
-    ensures { chunk.new ≡ with_places chunk.old (places_with chunk.old.kinds (length chunk.old.shown.places) rows.now) chunk.new.room }
+    ensures { OnOk result (chunk.new ≡ with_places chunk.old (places_with chunk.old.kinds (length chunk.old.shown.places) rows.now) chunk.new.room) }
 {
     for (place, row) in rows.iter().enumerate() {
-        chunk.load_at(place, row);
+        let values = row.to_row(alloc)?;
+        chunk.load_at(place, &values);
     }
+    Ok(())
 }
 
 /// A chunk of a table with its first rows.
@@ -79,7 +81,7 @@ fn table_chunk(
     let key = table_shape(setting.shapes.as_slice(), table).key;
     let mut chunk = Chunk::new(alloc, table, first, types, rows, key)?;
     let all = table_rows(setting.first.as_slice(), table);
-    load_rows(&mut chunk, rows_from(all, first as usize, rows));
+    load_rows(alloc, &mut chunk, rows_from(all, first as usize, rows))?;
     Ok(chunk)
 }
 

@@ -1,6 +1,6 @@
 //! A step of a session: it visits the part that it needs.
 
-ghost use Rattle.std.specs.Prelude.{◌≡◌, ◌+◌, ◌*◌, ◌^◌, ◌<◌, false, IfOk, OnErr};
+ghost use Rattle.std.specs.Prelude.{◌≡◌, ◌+◌, ◌*◌, ◌^◌, ◌<◌, true, false, IfOk, IfSome, OnErr};
 ghost use Rattle.hy_event.specs.declared.Need.{Need};
 ghost use Rattle.hy_protocol.specs.declared.Progress.{Progress};
 ghost use Rattle.hy_stamp.specs.declared.Label.{Label};
@@ -71,6 +71,43 @@ impl World {
         let session = &mut self.sessions[number as usize];
         let part = &mut self.chunks[place];
         session.visit_chunk(alloc, part)
+    }
+
+    /// What a session needs next, where an INSERT of it is at work.
+    fn insert_need(&self, number: u32) -> Option<Need>
+        ensures { IfSome result (λ need. need ≡ need_at self.now.sessions number) }
+    {
+        self.sessions.get(number as usize)?.next_of_insert()
+    }
+
+    /// A session goes past a chunk of a table where an INSERT neither ends in it nor changes anything and that is seen at once,
+    /// and answers whether it did; else nothing changes.
+    fn pass_chunk(&mut self, number: u32, table: u32, chunk: u32) -> bool
+        requires { need_at self.old.sessions number ≡ Need.Chunk table chunk }
+        ensures step { result ≡ true → Steps number Progress.Moved self.old self.new }
+        ensures kept { result ≡ false → self.new ≡ self.old }
+        ensures entries { self.new.core.entries ≡ self.old.core.entries }
+    {
+        hy_stepping::needed_chunks_are_there();
+        hy_stepping::chunks_are_near();
+        hy_stepping::visits_are_steps();
+        let place = place_of(self.per_table, table, chunk);
+        let session = &mut self.sessions[number as usize];
+        let part = &mut self.chunks[place];
+        session.pass(part)
+    }
+
+    /// A session takes its step where that is to go past a chunk in which an INSERT neither ends nor changes anything and
+    /// that is seen at once, and answers whether it did; else nothing changes. It takes no memory.
+    pub(crate) fn pass(&mut self, number: u32) -> bool
+        ensures step { result ≡ true → Steps number Progress.Moved self.old self.new }
+        ensures kept { result ≡ false → self.new ≡ self.old }
+        ensures entries { self.new.core.entries ≡ self.old.core.entries }
+    {
+        match self.insert_need(number) {
+            Some(Need::Chunk { table, chunk }) => self.pass_chunk(number, table, chunk),
+            _ => false,
+        }
     }
 
     /// A step of a session. One that is blocked changes nothing, and none changes who prunes. Err is for want of memory, and

@@ -32,4 +32,4 @@ returns c =
     let key = ap (λ (shape : Shape). shape.key) (c.table_shape-key.ensures ∙ ap (λ (shapes : List Shape). shape_of shapes c.args.table) c.as_slice.ensures) in
     laid_from setting c.args.kinds.now c.args.table c.args.number c.table_kinds-types.result.now c.table_shape-key.result.key c.rows_from.result.now
     c.in_ok-chunk.chunk c.load_rows.new.chunk c.in_ok-chunk.ensures.shown c.in_ok-chunk.ensures.kinds c.table_kinds-types.ensures key rows
-    c.load_rows.ensures
+    c.in_ok-load_rows.ensures

@@ -10,32 +10,32 @@ use Rattle.hy_world.proofs.world.World.step_whole.Goals as goal
 pub returns-in_err-stepped-clause-under_way : goal.returns-in_err-stepped-clause-under_way
 returns-in_err-stepped-clause-under_way g c =
     if_err c.from_residual.result _
-    (whole_breaks_off c.args.number most_turns c.loop-turn._turn c.args.self.now c.loop-turn.self c.step_logged.new.self c.loop-turn-test.true
+    (whole_breaks_off c.args.number most_turns c.loop-turn._turn c.args.self.now c.loop-turn.self c.advance.new.self c.loop-turn-test.true
     c.loop-turn.invariant.ahead c.in_err-stepped.ensures.under_way)
 
 pub returns-in_err-stepped-clause-logs : goal.returns-in_err-stepped-clause-logs
 returns-in_err-stepped-clause-logs g c =
-    logs_then g.D.Disk.clock g.D.Disk.image_since _ _ _ _ _ _ c.loop-turn.invariant.logs c.step_logged.ensures.logs
+    logs_then g.D.Disk.clock g.D.Disk.image_since _ _ _ _ _ _ c.loop-turn.invariant.logs c.advance.ensures.logs
 
 pub returns-then-not-has_moved-clause-follows : goal.returns-then-not-has_moved-clause-follows
 returns-then-not-has_moved-clause-follows g c =
     let stopped : is_moved c.in_ok-stepped.stepped ≡ false = first_of (cc, grind (arith, common_steps), search (rules, tests)) in
-    whole_stops c.args.number most_turns c.loop-turn._turn c.in_ok-stepped.stepped c.args.self.now c.loop-turn.self c.step_logged.new.self
+    whole_stops c.args.number most_turns c.loop-turn._turn c.in_ok-stepped.stepped c.args.self.now c.loop-turn.self c.advance.new.self
     c.loop-turn-test.true stopped c.loop-turn.invariant.ahead c.in_ok-stepped.ensures.step
 
 pub returns-then-not-has_moved-clause-logs : goal.returns-then-not-has_moved-clause-logs
 returns-then-not-has_moved-clause-logs g c =
-    logs_then g.D.Disk.clock g.D.Disk.image_since _ _ _ _ _ _ c.loop-turn.invariant.logs c.step_logged.ensures.logs
+    logs_then g.D.Disk.clock g.D.Disk.image_since _ _ _ _ _ _ c.loop-turn.invariant.logs c.advance.ensures.logs
 
 pub loop-turn-preserved : goal.loop-turn-preserved
 loop-turn-preserved g c =
     let moved : is_moved c.in_ok-stepped.stepped ≡ true = first_of (cc, grind (arith, common_steps), search (rules, tests)) in
     record {
-      ahead = whole_goes_on c.args.number most_turns c.loop-turn._turn c.in_ok-stepped.stepped c.args.self.now c.loop-turn.self c.step_logged.new.self
+      ahead = whole_goes_on c.args.number most_turns c.loop-turn._turn c.in_ok-stepped.stepped c.args.self.now c.loop-turn.self c.advance.new.self
           c.loop-turn-test.true moved c.loop-turn.invariant.ahead c.in_ok-stepped.ensures.step;
       kept = c.in_ok-stepped.ensures.kept;
       stays = c.in_ok-stepped.ensures.stays ∙ c.loop-turn.invariant.stays;
-      logs = logs_then g.D.Disk.clock g.D.Disk.image_since _ _ _ _ _ _ c.loop-turn.invariant.logs c.step_logged.ensures.logs;
+      logs = logs_then g.D.Disk.clock g.D.Disk.image_since _ _ _ _ _ _ c.loop-turn.invariant.logs c.advance.ensures.logs;
       steady = c.in_ok-stepped.ensures.steady (ok_is_no_error _ _) ∙ c.loop-turn.invariant.steady;
     }
 

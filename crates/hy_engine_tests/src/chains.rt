@@ -2,14 +2,14 @@
 
 ghost use Rattle.std.specs.Prelude.{◌≡◌, ◌<◌, length};
 
-use hy_chain::Chains;
+use hy_chain::{Chains, Image};
 use hy_given::pair;
 use hy_journal::{Entry, Journal};
 use hy_prune::{Active, Cover, Fate, Starts, fate_behind, watermark};
 use hy_range::Versioned;
 use hy_stamp::{Label, Stamp, Viewer};
-use hy_undo::{Delta, Version};
-use hy_value::{Seq, Value};
+use hy_undo::{Delta, Spares, Version};
+use hy_value::{Seq, Text, Value, ValueRef};
 use std::alloc::{AllocError, Global};
 use std::test::Fail;
 
@@ -91,7 +91,7 @@ fn push(alloc: Global, chains: &mut Chains<Delta>, mark: u64, bal: i64) -> Resul
     ensures { length chains.new.chains ≡ length chains.old.chains }
 {
     let mut delta = Delta::blank(alloc, 2)?;
-    delta.note(1, Value::Int(bal));
+    delta.note_number(1, bal);
     delta.set_live(true);
     chains.reserve(1)?;
     let stamp = Stamp {
@@ -167,5 +167,39 @@ fn the_journal_tells_what_came_since(rt: HostRuntime) -> Result<(), Fail> {
     assert_eq!(rt; journal.len(), 1);
     assert_eq!(rt; journal.since(0).len(), 1);
     assert!(rt; journal.since(1).is_empty());
+    Ok(())
+}
+
+/// A text of three bytes.
+fn word(alloc: Global) -> Text {
+    match Text::new(alloc, "was") {
+        Ok(text) => text,
+        Err(_) => Text::empty(alloc),
+    }
+}
+
+/// Notes a number and NULL over an older text, and puts back what was noted.
+fn put_back(alloc: Global, version: &mut Version) -> Result<(), AllocError> {
+    let mut spares = Spares::new(alloc, 2, 1);
+    spares.reserve(2)?;
+    let mut older = spares.take();
+    older.note(1, ValueRef::Text(&word(alloc)), &mut spares);
+    let mut newer = spares.take();
+    newer.note_number(0, 7);
+    newer.note(1, ValueRef::Null, &mut spares);
+    newer.merge_older(older);
+    newer.apply(version);
+    Ok(())
+}
+
+#[test]
+fn texts_are_noted_and_put_back(rt: HostRuntime) -> Result<(), Fail> {
+    let alloc = rt.alloc();
+    let mut version = live(alloc, 1, 50)?;
+    put_back(alloc, &mut version)?;
+    assert!(rt; !version.live);
+    assert!(rt;
+        matches!(version.row.as_slice(), [Value::Int(7), Value::Text(text)] if text.as_bytes().len() == 3)
+    );
     Ok(())
 }

@@ -3,7 +3,7 @@
 use hy_column::{Columns, IntColumn, TextColumn};
 use hy_index::KeyIndex;
 use hy_kernel::Mask;
-use hy_value::{Cmp, Kind, Text, Value};
+use hy_value::{Cmp, Kind, Text, Value, ValueRef};
 use std::alloc::{AllocError, Global};
 use std::test::Fail;
 
@@ -79,16 +79,36 @@ fn columns_are_seen_as_rows(rt: HostRuntime) -> Result<(), Fail> {
 
 #[test]
 fn keys_are_found_by_position(rt: HostRuntime) -> Result<(), Fail> {
-    let mut index = KeyIndex::new(rt.alloc(), 3)?;
-    index.add(Value::Int(5), 2);
-    index.add(Value::Int(4), 7);
-    index.add(Value::Int(5), 1);
-    let [first, second] = index.find(&Value::Int(5)) else {
+    let mut index = KeyIndex::new(rt.alloc(), Kind::Int, 4)?;
+    index.add(ValueRef::Int(5), 2);
+    index.add(ValueRef::Int(4), 7);
+    index.add(ValueRef::Null, 6);
+    index.add(ValueRef::Int(5), 1);
+    let found = index.find(ValueRef::Int(5));
+    if found.len() != 2 {
         return Err(Fail::from("two positions have the key"));
+    }
+    assert_eq!(rt; (found.at(0), found.at(1)), (1, 2));
+    assert_eq!(rt; index.find(ValueRef::Null).len(), 1);
+    index.remove(ValueRef::Int(5), 1);
+    assert_eq!(rt; index.find(ValueRef::Int(5)).len(), 1);
+    assert_eq!(rt; index.find(ValueRef::Int(6)).len(), 0);
+    Ok(())
+}
+
+#[test]
+fn texts_are_keys_too(rt: HostRuntime) -> Result<(), Fail> {
+    let alloc = rt.alloc();
+    let Ok(text) = Text::new(alloc, "b") else {
+        return Err(Fail::from("it is a text"));
     };
-    assert_eq!(rt; (first.pos, second.pos), (1, 2));
-    index.remove(&Value::Int(5), 1);
-    assert_eq!(rt; index.find(&Value::Int(5)).len(), 1);
-    assert!(rt; index.find(&Value::Int(6)).is_empty());
+    let mut index = KeyIndex::new(alloc, Kind::Str, 2)?;
+    index.add(ValueRef::Text(&text), 3);
+    index.add(ValueRef::Null, 0);
+    let found = index.find(ValueRef::Text(&text));
+    if found.len() != 1 {
+        return Err(Fail::from("one position has the key"));
+    }
+    assert_eq!(rt; found.at(0), 3);
     Ok(())
 }

@@ -16,7 +16,7 @@ fn a_row_that_comes_and_goes_is_no_change(rt: HostRuntime) -> Result<(), Fail> {
     let alloc = rt.alloc();
     let row = pair(alloc, 3, 1)?;
     let mut changes = Changes::new(alloc);
-    changes.reserve(2, 2)?;
+    changes.reserve(2, 2, 0)?;
     changes.note_reserved(0, 2, None, Some(&row));
     changes.note_reserved(0, 2, Some(&row), None);
     assert_eq!(rt; changes.len(), 1);
@@ -30,7 +30,7 @@ fn notes_that_are_taken_leave_their_room(rt: HostRuntime) -> Result<(), Fail> {
     let alloc = rt.alloc();
     let row = pair(alloc, 3, 1)?;
     let mut changes = Changes::new(alloc);
-    changes.reserve(2, 2)?;
+    changes.reserve(2, 2, 0)?;
     changes.note_reserved(0, 2, None, Some(&row));
     let noted = changes.take_all()?;
     assert_eq!(rt; (noted.len(), changes.len()), (1, 0));

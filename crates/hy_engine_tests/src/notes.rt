@@ -10,11 +10,11 @@ const MANY: u32 = 300;
 fn an_earlier_table_that_is_noted_later_comes_first(rt: HostRuntime) -> Result<(), Fail> {
     let mut changes = Changes::new(rt.alloc());
     for pos in 0..MANY {
-        changes.reserve(1, 0)?;
+        changes.reserve(1, 0, 0)?;
         changes.note_reserved(1, pos, None, None);
     }
     for pos in 0..MANY {
-        changes.reserve(1, 0)?;
+        changes.reserve(1, 0, 0)?;
         changes.note_reserved(0, pos, None, None);
     }
     let behind = NotedPlace { table: 1, pos: 0 };
@@ -30,7 +30,7 @@ fn an_earlier_table_that_is_noted_later_comes_first(rt: HostRuntime) -> Result<(
 fn scattered_notes_come_in_order(rt: HostRuntime) -> Result<(), Fail> {
     let mut changes = Changes::new(rt.alloc());
     for turn in 0..MANY {
-        changes.reserve(2, 0)?;
+        changes.reserve(2, 0, 0)?;
         changes.note_reserved(0, turn * 7 % MANY, None, None);
         changes.note_reserved(0, turn * 7 % MANY, None, None);
     }

@@ -1,11 +1,11 @@
 //! The predicate tree, and validation by it. Column 0 is `id` and column 1 is `bal`.
 
 use hy_bound::{Pred, Record};
-use hy_given::{compare, pair};
+use hy_given::{compare, stored_pair};
 use hy_journal::Entry;
 use hy_stamp::Label;
 use hy_validate::{Invalid, Tree, validate_with};
-use hy_value::{Change, Cmp, ColMask, Row, Seq};
+use hy_value::{Change, Cmp, ColMask, Seq, StoredRow};
 use std::test::Fail;
 
 /// A record of table 0 by the first statement.
@@ -19,7 +19,7 @@ fn read(pred: Pred, columns: ColMask) -> Record {
 }
 
 /// A change of the row at position 0 of table 0.
-fn change(before: Option<Row>, after: Option<Row>) -> Change {
+fn change(before: Option<StoredRow>, after: Option<StoredRow>) -> Change {
     Change {
         table: 0,
         pos: 0,
@@ -38,11 +38,17 @@ fn the_first_record_that_is_hit(rt: HostRuntime) -> Result<(), Fail> {
         read(is_rich, ColMask::none().with(1)),
     ]?;
     let tree = Tree::build(alloc, &records)?;
-    let comes = change(None, Some(pair(alloc, 3, 70)?));
+    let comes = change(None, Some(stored_pair(alloc, 3, 70)?));
     assert_eq!(rt; tree.first_hit(&comes), Some(1));
-    let falls = change(Some(pair(alloc, 3, 70)?), Some(pair(alloc, 3, 40)?));
+    let falls = change(
+        Some(stored_pair(alloc, 3, 70)?),
+        Some(stored_pair(alloc, 3, 40)?),
+    );
     assert_eq!(rt; tree.first_hit(&falls), Some(1));
-    let rises = change(Some(pair(alloc, 1, 10)?), Some(pair(alloc, 1, 20)?));
+    let rises = change(
+        Some(stored_pair(alloc, 1, 10)?),
+        Some(stored_pair(alloc, 1, 20)?),
+    );
     assert_eq!(rt; tree.first_hit(&rises), None);
     Ok(())
 }
@@ -56,9 +62,12 @@ fn a_record_of_all_rows_and_one_of_a_key(rt: HostRuntime) -> Result<(), Fail> {
         read(is_one, ColMask::none().with(0).with(1)),
     ]?;
     let tree = Tree::build(alloc, &records)?;
-    let rises = change(Some(pair(alloc, 1, 10)?), Some(pair(alloc, 1, 20)?));
+    let rises = change(
+        Some(stored_pair(alloc, 1, 10)?),
+        Some(stored_pair(alloc, 1, 20)?),
+    );
     assert_eq!(rt; tree.first_hit(&rises), Some(1));
-    let goes = change(Some(pair(alloc, 1, 10)?), None);
+    let goes = change(Some(stored_pair(alloc, 1, 10)?), None);
     assert_eq!(rt; tree.first_hit(&goes), Some(0));
     Ok(())
 }
@@ -68,7 +77,10 @@ fn an_entry_is_validated_by_columns(rt: HostRuntime) -> Result<(), Fail> {
     let alloc = rt.alloc();
     let other = Label { session: 0, txn: 1 };
     let mut notes = Seq::new(alloc);
-    notes.push(change(Some(pair(alloc, 1, 100)?), Some(pair(alloc, 1, 90)?)))?;
+    notes.push(change(
+        Some(stored_pair(alloc, 1, 100)?),
+        Some(stored_pair(alloc, 1, 90)?),
+    ))?;
     let entry = Entry {
         label: other,
         start: 1,

@@ -96,7 +96,7 @@ fn notes(alloc: Global, many: usize) -> Result<Changes, AllocError>
     ensures width { IfOk result (λ changes. 2 ≤ changes.width) }
 {
     let mut changes = Changes::new(alloc);
-    changes.reserve(many, 2)?;
+    changes.reserve(many, 2, 0)?;
     Ok(changes)
 }
 

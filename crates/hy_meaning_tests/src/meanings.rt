@@ -2,7 +2,7 @@
 
 use crate::printing::printed;
 use hy_bound::{Items, Pred, Record, Reply, hits};
-use hy_given::{equal, pair, pairs};
+use hy_given::{equal, pairs, stored_pair};
 use hy_meaning::answer_joined;
 use hy_stamp::{Clock, Label};
 use hy_value::{ColMask, Row, Seq, Text, Value};
@@ -49,11 +49,11 @@ fn is_hit(
     after: Option<(i64, i64)>,
 ) -> Result<bool, AllocError> {
     let before = match before {
-        Some((first, second)) => Some(pair(alloc, first, second)?),
+        Some((first, second)) => Some(stored_pair(alloc, first, second)?),
         None => None,
     };
     let after = match after {
-        Some((first, second)) => Some(pair(alloc, first, second)?),
+        Some((first, second)) => Some(stored_pair(alloc, first, second)?),
         None => None,
     };
     Ok(hits(read, before.as_ref(), after.as_ref()))

@@ -10,7 +10,7 @@ use hy_gathered::Pieces;
 use hy_given::Random;
 use hy_meaning::answer_joined;
 use hy_plan::{Gathered, PlanPart, plan_statement, records};
-use hy_value::{Row, Seq, Value, ValueSet, copy_row};
+use hy_value::{Row, Seq, StoredRow, Value, ValueSet, copy_row};
 use hy_visit::{Found, Reader, part_rows, reader_of};
 use std::alloc::{AllocError, Global};
 use std::test::Fail;
@@ -206,12 +206,12 @@ fn are_same(one: &Reply, other: &Reply) -> bool {
 }
 
 /// Whether rows are the same.
-fn are_same_rows(one: &[Row], other: &[Row]) -> bool {
+fn are_same_rows(one: &[StoredRow], other: &[StoredRow]) -> bool {
     one.len() == other.len()
         && one
             .iter()
             .zip(other)
-            .all(|(row, other)| row.as_slice() == other.as_slice())
+            .all(|(row, other)| row.compare(other).is_eq())
 }
 
 /// Whether groups are the same.

@@ -2,7 +2,7 @@
 
 use hy_bound::{Pred, Record, Side, hits};
 use hy_validate::Tree;
-use hy_value::{Change, Cmp, ColMask, Row, Seq, Value};
+use hy_value::{Change, Cmp, ColMask, StoredRow, Value};
 use std::alloc::{AllocError, Global};
 
 /// How many records there are.
@@ -31,11 +31,8 @@ pub fn records(alloc: Global) -> Result<Vec<Record>, AllocError> {
 }
 
 /// A row of two numbers.
-fn row(alloc: Global, first: i64, second: i64) -> Result<Row, AllocError> {
-    let mut row = Seq::new(alloc);
-    row.push(Value::Int(first))?;
-    row.push(Value::Int(second))?;
-    Ok(row)
+fn row(alloc: Global, first: i64, second: i64) -> Result<StoredRow, AllocError> {
+    StoredRow::from_values(alloc, &[Value::Int(first), Value::Int(second)])
 }
 
 /// A change that makes the shared condition true neither before nor after it.

@@ -42,7 +42,7 @@ fn push(
     ensures { length chains.new.chains ≡ length chains.old.chains }
 {
     let mut delta = Delta::blank(alloc, 2)?;
-    delta.note(1, Value::Int(balance));
+    delta.note_number(1, balance);
     delta.set_live(true);
     chains.reserve(1)?;
     let owner = Label { session: 0, txn: 1 };

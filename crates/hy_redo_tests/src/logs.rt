@@ -6,7 +6,7 @@ use hy_journal::Entry;
 use hy_log_record::{HeldTable, HeldTables};
 use hy_redo::{RecoverError, append, create, recover};
 use hy_stamp::Label;
-use hy_value::{Change, Kind, Row, Seq, Text, Value};
+use hy_value::{Change, Kind, Seq, StoredRow, Text, Value, ValueRef};
 use std::alloc::{AllocError, Global};
 use std::test::*;
 
@@ -25,19 +25,17 @@ const TEXT_LOG: [u8; 63] = [
 ];
 
 /// A row of one value.
-fn row_of(alloc: Global, value: Value) -> Result<Row, AllocError> {
-    let mut values = Vec::new(alloc);
-    values.push(value)?;
-    Ok(Seq::from_vec(values))
+fn row_of(alloc: Global, value: Value) -> Result<StoredRow, AllocError> {
+    StoredRow::from_values(alloc, &[value])
 }
 
 /// A row of one number.
-fn row(alloc: Global, number: i64) -> Result<Row, AllocError> {
+fn row(alloc: Global, number: i64) -> Result<StoredRow, AllocError> {
     row_of(alloc, Value::Int(number))
 }
 
 /// A table of one column, with this row and a position that has none.
-fn table_of(alloc: Global, kind: Kind, row: Row) -> Result<HeldTables, AllocError> {
+fn table_of(alloc: Global, kind: Kind, row: StoredRow) -> Result<HeldTables, AllocError> {
     let mut rows = Vec::new(alloc);
     rows.push(Some(row))?;
     rows.push(None)?;
@@ -90,16 +88,21 @@ fn disk_of(alloc: Global, bytes: &[u8]) -> Result<MemDisk, AllocError> {
     MemDisk::new(alloc, Vec::from_slice(alloc, bytes)?, Vec::new(alloc))
 }
 
-/// Whether the one table has this number at position 0, and no row at position 1.
-pub(crate) fn has_number(tables: &HeldTables, number: i64) -> bool {
+/// The one value at position 0 of the one table, where there is no row at position 1.
+fn single_value(tables: &HeldTables) -> Option<ValueRef<'_>> {
     match tables.as_slice() {
         [held] => match held.rows.as_slice() {
-            [Some(row), None] => match row.as_slice() {
-                [Value::Int(found)] => *found == number,
-                _ => false,
-            },
-            _ => false,
+            [Some(row), None] if row.len() == 1 => Some(row.refer(0)),
+            _ => None,
         },
+        _ => None,
+    }
+}
+
+/// Whether the one table has this number at position 0, and no row at position 1.
+pub(crate) fn has_number(tables: &HeldTables, number: i64) -> bool {
+    match single_value(tables) {
+        Some(ValueRef::Int(found)) => found == number,
         _ => false,
     }
 }
@@ -130,14 +133,8 @@ fn refuses_another_row_before(rt: HostRuntime) -> Result<(), Fail> {
 
 /// Whether the one table has this text at position 0, and no row at position 1.
 fn has_text(tables: &HeldTables, text: &[u8]) -> bool {
-    match tables.as_slice() {
-        [held] => match held.rows.as_slice() {
-            [Some(row), None] => match row.as_slice() {
-                [Value::Text(found)] => found.as_bytes() == text,
-                _ => false,
-            },
-            _ => false,
-        },
+    match single_value(tables) {
+        Some(ValueRef::Text(found)) => found.as_bytes() == text,
         _ => false,
     }
 }

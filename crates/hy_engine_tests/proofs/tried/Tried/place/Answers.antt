@@ -1,6 +1,7 @@
 use Rattle.std.proofs.Common.{length, List, ap, arith}
 use Rattle.hy_prune.specs.Fates.{watermark_of}
 use Rattle.hy_value.specs.declared.Kind.{Kind}
+use Rattle.hy_chunk.specs.Sound.{most_texts}
 use Rattle.hy_chunk.specs.Steps.{least_free}
 use Rattle.hy_engine_tests.proofs.Wholes.{pair_ready, after_reserve, after_place_call}
 use Rattle.hy_engine_tests.proofs.tried.Tried.place.Goals as goal
@@ -18,6 +19,11 @@ pub place-requires-clause-wide : goal.place-requires-clause-wide
 place-requires-clause-wide c =
     let ready = after_reserve c.self.inside.next c.self.inside.chunk c.reserve.new.self c.self.invariant c.reserve.ensures.all in
     omega (arith, ap (λ (kinds : List Kind). length kinds) ready.kinds, c.in_ok-changes.ensures.width)
+
+pub place-requires-clause-long : goal.place-requires-clause-long
+place-requires-clause-long c =
+    let ready = after_reserve c.self.inside.next c.self.inside.chunk c.reserve.new.self c.self.invariant c.reserve.ensures.all in
+    omega (arith, ap most_texts ready.kinds)
 
 pub invariant_of-self-2 : goal.invariant_of-self-2
 invariant_of-self-2 c =

@@ -1,5 +1,6 @@
 use Rattle.std.proofs.Common.{◌≡◌, List, length, sym, ap, subst, arith}
 use Rattle.hy_value.specs.declared.Kind.{Kind}
+use Rattle.hy_chunk.specs.Sound.{most_texts}
 use Rattle.hy_chunk.specs.Views.{Whole, with_places}
 use Rattle.hy_chunk.specs.Writes.{sets_of}
 use Rattle.hy_measured.specs.Ready.{IsReady}
@@ -12,6 +13,13 @@ write-count-requires-clause-wide c =
     subst (λ (w : Whole). c.reserve.new.self ≡ with_places w w.shown.places c.reserve.new.self.room) c.find_candidates.ensures.all c.reserve.ensures.all in
     let ready = after_reserve c.self.inside.positions c.self.inside.next c.self.inside.chunk c.reserve.new.self c.self.invariant reserved in
     omega (arith, ap (λ (kinds : List Kind). length kinds) ready.kinds, c.in_ok-changes.ensures.width)
+
+pub write-count-requires-clause-long : goal.write-count-requires-clause-long
+write-count-requires-clause-long c =
+    let reserved : c.reserve.new.self ≡ with_places c.self.inside.chunk c.self.inside.chunk.shown.places c.reserve.new.self.room =
+    subst (λ (w : Whole). c.reserve.new.self ≡ with_places w w.shown.places c.reserve.new.self.room) c.find_candidates.ensures.all c.reserve.ensures.all in
+    let ready = after_reserve c.self.inside.positions c.self.inside.next c.self.inside.chunk c.reserve.new.self c.self.invariant reserved in
+    omega (arith, ap most_texts ready.kinds)
 
 pub write-count-requires-clause-fits : goal.write-count-requires-clause-fits
 write-count-requires-clause-fits c =

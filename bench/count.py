@@ -94,10 +94,38 @@ def churn(count):
     )
 
 
+PEOPLE = 64
+LETTERS = "abcdefghijklmnopqrstuvwxyz"
+
+
+def name_of(drawn):
+    """A name of 5 to 40 letters."""
+    return "".join(LETTERS[next(drawn) % len(LETTERS)] for _ in range(5 + next(drawn) % 36))
+
+
+def texts(count):
+    """Of rows with a name as their key one is looked up, and one moves to a town whose name is drawn."""
+    drawn = draws(11)
+    people = [name_of(drawn) for _ in range(PEOPLE)]
+    yield "CREATE TABLE people (name TEXT PRIMARY KEY, town TEXT, moves INT);"
+    yield from (f"INSERT INTO people VALUES ('{name}','{name_of(drawn)}',0);" for name in people)
+    yield from session(
+        begin_of,
+        (
+            [
+                f"SELECT town FROM people WHERE name = '{people[next(drawn) % PEOPLE]}';",
+                f"UPDATE people SET town = '{name_of(drawn)}', moves = moves + 1 WHERE name = '{people[next(drawn) % PEOPLE]}';",
+            ]
+            for _ in range(count)
+        ),
+    )
+
+
 WORKLOADS = {
     "bank": Workload("run --chunks 4 --rows 16", 6000, bank, 0),
     "scan": Workload("run --chunks 64 --rows 1024", 200, scan, 200 * ROWS),
     "churn": Workload("run --chunks 1 --rows 64", 20000, churn, 0),
+    "texts": Workload("run --chunks 4 --rows 16", 6000, texts, 0),
     "gen": Workload("gen --seed 1 --sessions 64 --transactions 1000", 64000, lambda _: (), 0),
 }
 

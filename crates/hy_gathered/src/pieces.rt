@@ -1,18 +1,34 @@
 //! Rows gathered of a table, piece by piece.
 
-ghost use Rattle.std.specs.Prelude.{◌≡◌, ◌+◌, ◌<◌, ◌≤◌, ◌*◌, ◌^◌, ◌++◌, [], IfOk, OnOk, OnErr, length, slice_index_or};
+ghost use Rattle.std.specs.Prelude.{◌≡◌, ◌+◌, ◌<◌, ◌≤◌, ◌*◌, ◌^◌, ◌++◌, [], List, true, IfOk, IfSome, OnOk, OnErr, length, map, slice_index_or};
 ghost use Rattle.std.specs.Int.RustNames.{unsigned_abs};
 ghost use Rattle.hy_bound.specs.Projection.{spread};
 ghost use Rattle.hy_gathered.specs.Groups.{groups_by};
-ghost use Rattle.hy_gathered.specs.Sums.{sum_by};
+ghost use Rattle.hy_gathered.specs.Sums.{sum_by, value_in};
 ghost use Rattle.hy_meaning.specs.Statement.{Table};
+ghost use Rattle.hy_plan.specs.Reads.{known_values_of};
+ghost use Rattle.hy_value.specs.declared.Value.{Value};
 
 use crate::sums::PartColumn;
 use crate::tally::{Grouping, Tally};
 use hy_plan::Gathered;
-use hy_value::{ColMask, Row};
+use hy_value::{ColMask, Row, Value};
 use std::alloc::{AllocError, Global};
 use std::marker::Model;
+
+/// The known values of a column of gathered rows: the different ones other than NULL, ascending.
+#[derive(Drop)]
+struct Known {
+    column: PartColumn,
+    values: Vec<Value>,
+}
+
+/// Whether two columns are of the same number, in rows that are put together alike.
+fn is_same(one: PartColumn, other: PartColumn) -> bool
+    ensures { result ≡ true → (row : List Value) → value_in one row ≡ value_in other row }
+{
+    one.columns == other.columns && one.width == other.width && one.column == other.column
+}
 
 /// Rows gathered of a table, a piece for each visit. A piece that is there never changes, so that a visit that wants
 /// for memory leaves what was gathered before. Contracts see the rows.
@@ -20,18 +36,21 @@ use std::marker::Model;
 pub struct Pieces {
     len: usize,
     pieces: Vec<Gathered>,
+    /// The known values of one of its columns, kept from visit to visit of a later table whose rows are looked up by
+    /// them.
+    known: Option<Known>,
 }
 
 impl Model for Pieces {
     ghost use Rattle.std.specs.Prelude.{◌≡◌, length};
     ghost use Rattle.hy_meaning.specs.Statement.{Table};
-    ghost use Rattle.hy_gathered.specs.Pieces.{rows_in_pieces};
+    ghost use Rattle.hy_gathered.specs.Pieces.{AreKnownOf, rows_in_pieces};
 
     ghost Value = { Table };
 
     ghost view = { λ a. rows_in_pieces a.pieces.items };
 
-    ghost invariant = { λ a. a.len ≡ length (rows_in_pieces a.pieces.items) };
+    ghost invariant = { λ a. (a.len ≡ length (rows_in_pieces a.pieces.items)) × AreKnownOf (rows_in_pieces a.pieces.items) a.known };
 }
 
 impl Pieces {
@@ -42,6 +61,7 @@ impl Pieces {
         Pieces {
             len: 0,
             pieces: Vec::new(alloc),
+            known: None,
         }
     }
 
@@ -65,7 +85,27 @@ impl Pieces {
         let len = self.len.checked_add(rows).ok_or(AllocError)?;
         self.pieces.push(piece)?;
         self.len = len;
+        self.known = None;
         Ok(())
+    }
+
+    /// The known values of a column, if they were kept since rows were put there.
+    pub fn known(&self, column: PartColumn) -> Option<&[Value]>
+        ensures { IfSome result (λ values. values.now ≡ known_values_of (map (value_in column) self.now)) }
+    {
+        let _rows = self.len;
+        match &self.known {
+            Some(known) if is_same(known.column, column) => Some(known.values.as_slice()),
+            _ => None,
+        }
+    }
+
+    /// Keeps the known values of a column, in place of those of another one.
+    pub fn keep_known(&mut self, column: PartColumn, values: Vec<Value>)
+        requires { values.items ≡ known_values_of (map (value_in column) self.old) }
+        ensures { self.new ≡ self.old }
+    {
+        self.known = Some(Known { column, values });
     }
 
     /// The sum of a column over the rows. Err is for want of memory.

@@ -9,6 +9,7 @@ pub mod Placed
 pub mod Counted
 pub mod Behind
 pub mod JoinedColumns
+pub mod KeySources
 pub mod Alike
 mod OnePart
 mod Plans

@@ -29,7 +29,7 @@ use hy_chunk::Chunk;
 use hy_plan::{Gathered, records};
 use hy_protocol::{Phase, Progress};
 use hy_stamp::Viewer;
-use hy_visit::{Found, Reader, add_piece, found_with, gather_part, part_rows};
+use hy_visit::{Found, Reader, add_piece, found_with, gather_part, keep_keys, part_rows};
 use std::alloc::{AllocError, Global};
 
 /// What comes of a visit of a SELECT.
@@ -166,6 +166,27 @@ impl Session {
         }
     }
 
+    /// The keys are kept by which its next visit looks rows up, where how the SELECT is run is kept. Err is for want of memory.
+    fn keep_keys(&mut self, alloc: Global) -> Result<(), AllocError>
+        ensures { self.new ≡ self.old }
+    {
+        let chunks = self.chunks;
+        let Some(kept) = &self.prepared else {
+            return Ok(());
+        };
+        let StatementPlan::Read(reader) = &kept.plan else {
+            return Ok(());
+        };
+        let Some(now) = &mut self.now else {
+            return Ok(());
+        };
+        let Phase::Working { visited, .. } = now.phase else {
+            return Ok(());
+        };
+        let number = visited / chunks;
+        keep_keys(alloc, reader.parts.as_slice(), number, &mut now.gathered)
+    }
+
     /// What comes of a visit of a SELECT, which its open transaction is at. How the SELECT is run is kept, once that is made.
     /// Err is for want of memory.
     fn step_by_plan(&mut self, alloc: Global, chunk: &mut Chunk) -> Result<ReadStep, AllocError>
@@ -175,6 +196,7 @@ impl Session {
         ensures same { self.new ≡ self.old }
         ensures all { chunk.new ≡ chunk.old }
     {
+        self.keep_keys(alloc)?;
         if let Some(reader) = self.kept_reader() {
             return self.read_step(alloc, reader, chunk);
         }

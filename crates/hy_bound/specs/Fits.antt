@@ -10,8 +10,9 @@ use Rattle.hy_bound.specs.declared.Items.TheVariants.{Count}
 use Rattle.hy_bound.specs.declared.Aggregate.{Aggregate}
 use Rattle.hy_bound.specs.declared.Shape.{Shape}
 use Rattle.hy_bound.specs.declared.Bound.{Bound}
-use Rattle.hy_bound.specs.declared.Bound.TheVariants.{Select, Group, Insert, Update, Delete}
+use Rattle.hy_bound.specs.declared.Bound.TheVariants.{Select, Group, Insert, Update, Delete, Savepoint, RollbackTo, Release}
 use Rattle.hy_bound.specs.declared.Txn.{Txn}
+use Rattle.hy_bound.specs.OpenSavepoints.{AreOpened}
 use Rattle.hy_bound.specs.Condition.{Condition}
 use Rattle.hy_bound.specs.Predicate.{column_of}
 use Rattle.hy_bound.specs.Records.{columns_of, columns_shown, columns_summed, on_columns, set_columns, shape_of}
@@ -91,6 +92,9 @@ FitsStatement shapes (Group table pred key aggregate) = (table < length shapes) 
 FitsStatement shapes (Insert table row) = (table < length shapes) × FitsInsert (shape_of shapes table) row
 FitsStatement shapes (Update table sets pred) = (table < length shapes) × FitsUpdate (shape_of shapes table) sets pred
 FitsStatement shapes (Delete table pred) = (table < length shapes) × LieWithin (shape_of shapes table).width (columns_of pred)
+FitsStatement shapes (Savepoint name) = Unit {0}
+FitsStatement shapes (RollbackTo name) = Unit {0}
+FitsStatement shapes (Release name) = Unit {0}
 
 -- only a READ ONLY transaction groups, and only another one writes
 abbrev pub MayStand : Bool → Bound → Type 0
@@ -99,14 +103,18 @@ MayStand read_only (Group table pred key aggregate) = IsTrue read_only
 MayStand read_only (Insert table row) = IsFalse read_only
 MayStand read_only (Update table sets pred) = IsFalse read_only
 MayStand read_only (Delete table pred) = IsFalse read_only
+MayStand read_only (Savepoint name) = Unit {0}
+MayStand read_only (RollbackTo name) = Unit {0}
+MayStand read_only (Release name) = Unit {0}
 
 -- ---- transactions and scripts
 
--- a transaction has at most so many statements; each fits, and may stand in it
+-- a transaction has at most so many statements; each fits, and may stand in it, and the savepoints that it names are open there
 pub record FitsTxn (shapes : List Shape) (txn : Txn) : Type 0 where
   pub few : length txn.statements ≤ MOST_STATEMENTS
   pub fit : All (FitsStatement shapes) txn.statements
   pub stand : All (MayStand txn.read_only) txn.statements
+  pub savepoints : AreOpened txn.statements
 
 -- a session has at most so many transactions, each of which fits
 pub record FitsSession (shapes : List Shape) (txns : List Txn) : Type 0 where

@@ -15,3 +15,6 @@ pub mod Truths
 pub mod Masks
 pub mod Schedules
 pub mod ValueRefs
+pub mod Savepoints
+pub mod OpenSavepoints
+pub mod SavedRelations

@@ -9,9 +9,11 @@ mod cells;
 mod conjuncts;
 mod expression;
 mod laws;
+mod name;
 mod predicate;
 mod projection;
 mod records;
+mod savepoints;
 mod schedule;
 
 pub use conjuncts::conditions;
@@ -19,12 +21,14 @@ pub use expression::{ExprRoot, SetExpr, set_row, value, value_ref};
 use hy_stamp::Label;
 use hy_value::{ColMask, Row, Seq, StoredRow, Value};
 pub use laws::{only_named_columns_matter, projections_are_spread};
+pub use name::Name;
 pub use predicate::{
     Pred, Root, Side, SideView, cell, column_ref, column_value, compare, is_null, stored_truth,
     truth,
 };
 pub use projection::{mask_row, project_row};
 pub use records::hits;
+pub use savepoints::{SavedName, keep_open, newest_savepoint};
 pub use schedule::{Item, Schedule};
 use std::alloc::{AllocError, Global};
 
@@ -142,6 +146,22 @@ pub enum Bound {
         table: u32,
         /// The condition.
         pred: Pred,
+    },
+    /// SAVEPOINT: from here one can go back.
+    Savepoint {
+        /// The name of the savepoint.
+        name: Name,
+    },
+    /// ROLLBACK TO: what was written since the newest savepoint of the name is taken back. That savepoint stays open,
+    /// those made after it don't.
+    RollbackTo {
+        /// The name of the savepoint.
+        name: Name,
+    },
+    /// RELEASE: the newest savepoint of the name, and those made after it, are no more.
+    Release {
+        /// The name of the savepoint.
+        name: Name,
     },
 }
 
@@ -263,6 +283,12 @@ pub enum Reply {
     Updated(u64),
     /// How many rows a DELETE removed.
     Deleted(u64),
+    /// A SAVEPOINT was made.
+    Saved,
+    /// What was written since a savepoint was taken back.
+    Back,
+    /// A savepoint is no more.
+    Released,
 }
 
 /// The replies of a transaction.

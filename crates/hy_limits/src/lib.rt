@@ -20,6 +20,9 @@ pub const MOST_TXNS: usize = 65_535;
 /// How many statements a transaction may have, BEGIN and what closes it aside.
 pub const MOST_STATEMENTS: usize = 256;
 
+/// How many savepoints may be open at one place of a transaction.
+pub const MOST_SAVEPOINTS: usize = 16;
+
 /// How many tables FROM and JOIN may name together.
 pub const MOST_JOINED: usize = 4;
 

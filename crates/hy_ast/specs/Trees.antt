@@ -55,6 +55,9 @@ pub data Statement : Type 0 where
   Begin : (read_only : Bool) → Statement
   Commit : Statement
   Rollback : Statement
+  Savepoint : (name : Span) → Statement
+  RollbackTo : (name : Span) → Statement
+  Release : (name : Span) → Statement
   Select : (selection : Selection) → Statement
   Update : (table : Span) (sets : List SetClause) (test : Option Test) → Statement
   Delete : (table : Span) (test : Option Test) → Statement
@@ -89,6 +92,9 @@ statement_of (statements.Session name) = Session name
 statement_of (statements.Begin read_only) = Begin read_only
 statement_of statements.Commit = Commit
 statement_of statements.Rollback = Rollback
+statement_of (statements.Savepoint name) = Savepoint name
+statement_of (statements.RollbackTo name) = RollbackTo name
+statement_of (statements.Release name) = Release name
 statement_of (statements.Select query) = Select (selection_of query)
 statement_of (statements.Update table sets condition) = Update table (map set_clause_of sets) (option_map test_of condition)
 statement_of (statements.Delete table condition) = Delete table (option_map test_of condition)

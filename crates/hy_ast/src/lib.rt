@@ -252,6 +252,21 @@ pub enum Statement {
     Commit,
     /// ROLLBACK.
     Rollback,
+    /// SAVEPOINT.
+    Savepoint {
+        /// Its name.
+        name: Span,
+    },
+    /// ROLLBACK TO.
+    RollbackTo {
+        /// The savepoint's name.
+        name: Span,
+    },
+    /// RELEASE.
+    Release {
+        /// The savepoint's name.
+        name: Span,
+    },
     /// SELECT.
     Select(Selection),
     /// UPDATE.

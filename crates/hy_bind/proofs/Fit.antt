@@ -14,7 +14,7 @@ use Rattle.hy_bound.specs.Records.{no_shape}
 use Rattle.hy_bound.specs.Fits.{FitsStatement}
 use Rattle.hy_bind.specs.Literals.{text_of_span}
 use Rattle.hy_bind.specs.Shapes.{defined_shape, catalog_shapes}
-use Rattle.hy_bind.specs.Statements.{NamesTables, and_number, numbers_of, numbers_or_none, fault_in, fault_of_numbered, in_scope, bound_in, bind_fault, bound_of}
+use Rattle.hy_bind.specs.Statements.{HasNames, and_number, numbers_of, numbers_or_none, fault_in, fault_of_numbered, in_scope, bound_in, bind_fault, bound_of}
 use Rattle.hy_bind.proofs.Numbered.{number_within}
 use Rattle.hy_bind.proofs.Reach.{where_within}
 use Rattle.hy_bind.proofs.Selects.{rows_fit, count_fits, group_fits, at_shape}
@@ -49,7 +49,7 @@ selection script catalog (tree.Groups column total table test key) h =
     one_table script catalog table (tree.Select (tree.Groups column total table test key)) _ refl (λ n there fine. (there, group_fits script catalog n column total test key fine)) h
 
 -- a statement that is not refused fits the tables, where each table's key is one of its columns
-pub fit : (script : List ℕ) (catalog : List TableDef) (s : Statement) → NamesTables s → All HasItsKey (catalog_shapes catalog) → bind_fault script catalog s ≡ None
+pub fit : (script : List ℕ) (catalog : List TableDef) (s : Statement) → HasNames s → All HasItsKey (catalog_shapes catalog) → bind_fault script catalog s ≡ None
     → FitsStatement (catalog_shapes catalog) (bound_of script catalog s)
 fit script catalog (tree.Insert table row) names keys h =
     one_table script catalog table (tree.Insert table row) _ refl (λ n there fine. (there, insert_fits script catalog n row (keys n no_shape there) fine)) h
@@ -58,4 +58,7 @@ fit script catalog (tree.Update table sets test) names keys h =
 fit script catalog (tree.Delete table test) names keys h =
     one_table script catalog table (tree.Delete table test) _ refl (λ n there fine. (there, at_shape catalog n _ (where_within (in_scope script catalog (n ∷ [])) test fine))) h
 fit script catalog (tree.Select select) names keys h = selection script catalog select h
+fit script catalog (tree.Savepoint name) names keys h = tt
+fit script catalog (tree.RollbackTo name) names keys h = tt
+fit script catalog (tree.Release name) names keys h = tt
 fit script catalog _ names keys h = absurd names

@@ -4,6 +4,7 @@ use Rattle.std.specs.List.{range_with_len}
 use Rattle.std.specs.Option.{option_map_or}
 use Rattle.hy_token.specs.declared.Span.{Span}
 use Rattle.hy_value.specs.declared.Kind.{Kind}
+use Rattle.hy_value.specs.TextBytes.{text_of}
 use Rattle.hy_schema.specs.declared.Column.{Column}
 use Rattle.hy_schema.specs.declared.TableDef.{TableDef}
 use Rattle.hy_schema.specs.Names.{number_of, table_number, column_number, table_at}
@@ -81,6 +82,17 @@ NamesTables (tree.Update table sets test) = Unit {0}
 NamesTables (tree.Delete table test) = Unit {0}
 NamesTables (tree.Select selection) = Unit {0}
 NamesTables _ = ⊥
+
+-- a statement that names tables or a savepoint
+abbrev pub HasNames : Statement → Type 0
+HasNames (tree.Insert table values) = Unit {0}
+HasNames (tree.Update table sets test) = Unit {0}
+HasNames (tree.Delete table test) = Unit {0}
+HasNames (tree.Select selection) = Unit {0}
+HasNames (tree.Savepoint name) = Unit {0}
+HasNames (tree.RollbackTo name) = Unit {0}
+HasNames (tree.Release name) = Unit {0}
+HasNames _ = ⊥
 
 -- the number of the one table of a statement
 abbrev pub table_of : Scope → ℕ
@@ -271,12 +283,15 @@ abbrev pub Binds : Result Bound BindError → Option BindFault → Bound → Typ
 Binds (Ok bound) fault expected = (bound ≡ expected) × (fault ≡ None)
 Binds (Err error) fault expected = Fails error fault
 
--- a statement as the engine runs it; of one that names no tables it doesn't matter
+-- a statement as the engine runs it; of one without names it doesn't matter
 abbrev pub bound_in : Scope → Statement → Bound
 bound_in scope (tree.Insert table values) = bound.Insert (table_of scope) (map (literal_value scope.script) values)
 bound_in scope (tree.Update table sets test) = bound.Update (table_of scope) (map (set_bound scope) sets) (where_bound scope test)
 bound_in scope (tree.Delete table test) = bound.Delete (table_of scope) (where_bound scope test)
 bound_in scope (tree.Select selection) = selection_bound scope selection
+bound_in scope (tree.Savepoint name) = bound.Savepoint (text_of (text_of_span scope.script name))
+bound_in scope (tree.RollbackTo name) = bound.RollbackTo (text_of (text_of_span scope.script name))
+bound_in scope (tree.Release name) = bound.Release (text_of (text_of_span scope.script name))
 bound_in scope _ = bound.Insert 0 []
 
 abbrev pub numbers_or_none : Option (List ℕ) → List ℕ

@@ -11,11 +11,11 @@ ghost use Rattle.hy_bind.specs.declared.scope.Found.{Found};
 ghost use Rattle.hy_bind.specs.Meaning.{Means, MeansNothing};
 ghost use Rattle.hy_bind.specs.Scope.{Scope, resolved};
 ghost use Rattle.hy_bind.specs.Shapes.{catalog_shapes};
-ghost use Rattle.hy_bind.specs.Statements.{NamesTables, bind_fault, bound_of};
+ghost use Rattle.hy_bind.specs.Statements.{HasNames, bind_fault, bound_of};
 
 /// A law: where each table's key is one of its columns, a statement that is not refused fits the tables.
 pub fn bound_statements_fit()
-    ensures { (script : List ℕ) (catalog : List TableDef) (statement : Statement) → NamesTables statement
+    ensures { (script : List ℕ) (catalog : List TableDef) (statement : Statement) → HasNames statement
         → All HasItsKey (catalog_shapes catalog) → bind_fault script catalog statement ≡ None
         → FitsStatement (catalog_shapes catalog) (bound_of script catalog statement) }
 {}

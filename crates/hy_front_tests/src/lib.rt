@@ -1,7 +1,10 @@
-//! The tests of what leads from bytes to statements: sources and sinks, texts, tokens, the parser, the catalog.
+//! The tests of what leads from bytes to statements: sources and sinks, texts, tokens, the parser, the catalog,
+//! savepoints.
 #![tactic(auto)]
 
 #[cfg(test)]
 mod bytes;
+#[cfg(test)]
+mod savepoints;
 #[cfg(test)]
 mod statements;

@@ -16,8 +16,8 @@ use Rattle.hy_ast.specs.declared.Turn.{Turn}
 use Rattle.hy_ast.specs.Trees.{Test, SetClause, Selection, Statement}
 use Rattle.hy_ast.specs.Trees as tree
 use Rattle.hy_parse.specs.declared.Piece.{Piece}
-use Rattle.hy_parse.specs.Grammar.{Mark, Any, At, Marks, condition, HasItem, optional, kind, column_def, turn, body, marks, IsGroupedSetClause, set_clauses_levels, IsGrouped, levels}
-use Rattle.hy_parse.specs.Reading.{Read, same, sign, word, begins, span_of, flag_at, kind_of, column_def_at, create_at, insert_at, session_at, begin_at, alone_at, select_at, update_at, delete_at, turns_at, schedule_at, body_at, read_statement}
+use Rattle.hy_parse.specs.Grammar.{Mark, Any, At, Marks, condition, HasItem, name, optional, kind, column_def, turn, body, marks, IsGroupedSetClause, set_clauses_levels, IsGrouped, levels}
+use Rattle.hy_parse.specs.Reading.{Read, same, sign, word, begins, span_of, flag_at, kind_of, column_def_at, create_at, insert_at, session_at, begin_at, alone_at, savepoint_at, release_at, back_at, rollback_at, select_at, update_at, delete_at, turns_at, schedule_at, body_at, read_statement}
 use Rattle.hy_parse.proofs.Readers.{Reads, Always, nothing, HeadStops, head_of, then_read, then_last, widen, recast, finish, piece_reads}
 use Rattle.hy_parse.proofs.Choices.{same_is, same_self, of_sum, fits_sum, then_one, then_fixed, choice_reads}
 use Rattle.hy_parse.proofs.Chains.{at_joins, list_reads, items_reads}
@@ -98,6 +98,46 @@ begin_reads = widen but_end (before_end (same (word keyword.Read)) refl) (then_f
 alone_reads : (k : Keyword) (s : Statement) → Reads {F = Unit {0}} (alone_at k s) (λ u. Any (word k) ∷ []) (λ u. s) Always but_end
 unfolding alone_at
 alone_reads k s = widen but_end (anything but_end) (then_fixed (word k ∷ []) _ (finish s))
+
+-- ---- savepoints
+
+savepoint_reads : Reads savepoint_at (λ (s : Span). body (tree.Savepoint s)) (λ s. tree.Savepoint s) Always but_end
+unfolding savepoint_at
+savepoint_reads = widen but_end (anything but_end) (then_fixed (word keyword.Savepoint ∷ []) _ (then_last name_reads (λ s. tree.Savepoint s)))
+
+release_reads : Reads release_at (λ (s : Span). body (tree.Release s)) (λ s. tree.Release s) Always but_end
+unfolding release_at
+release_reads = widen but_end (anything but_end) (then_fixed (word keyword.Release ∷ []) _ (then_last name_reads (λ s. tree.Release s)))
+
+-- what ROLLBACK goes on with
+abbrev goes_back : Token → Bool
+goes_back t = same (word keyword.To) t
+
+-- the savepoint that it goes back to, if one is named
+abbrev back : Option Span → Statement
+back None = tree.Rollback
+back (Some s) = tree.RollbackTo s
+
+abbrev to_mark : Option Span → List Mark
+to_mark None = []
+to_mark (Some s) = Any (word keyword.To) ∷ name s ∷ []
+
+back_reads : Reads back_at to_mark back Always goes_back
+unfolding back_at
+back_reads =
+    recast to_mark back Always
+    (choice_reads (word keyword.To) (widen goes_back (anything goes_back) (then_fixed (word keyword.To ∷ []) _ (then_last name_reads (λ s. tree.RollbackTo s))))
+    (widen goes_back (anything goes_back) (finish tree.Rollback)) (λ f fits. refl) (λ g fits t stops. stops))
+    (elim [ inl s ↦ λ fits. (Some s, tt, refl, refl) | inr u ↦ λ fits. (None, tt, refl, refl) ])
+    (elim [ None ↦ λ fits. (inr tt, tt, refl, refl) | Some s ↦ λ fits. (inl s, tt, refl, refl) ])
+
+rollback_reads : Reads rollback_at (λ (to : Option Span). body (back to)) back Always but_end
+unfolding rollback_at
+rollback_reads =
+    recast (λ to. body (back to)) back Always
+    (widen but_end (before_end goes_back refl) (then_fixed (word keyword.Rollback ∷ []) _ back_reads))
+    (elim [ None ↦ λ fits. (None, tt, refl, refl) | Some s ↦ λ fits. (Some s, tt, refl, refl) ])
+    (elim [ None ↦ λ fits. (None, tt, refl, refl) | Some s ↦ λ fits. (Some s, tt, refl, refl) ])
 
 -- ---- rows
 
@@ -214,12 +254,14 @@ body_reads =
     (or_else (word keyword.Session) session_reads (λ f. refl)
     (or_else (word keyword.Begin) begin_reads (λ f. refl)
     (or_else (word keyword.Commit) (alone_reads keyword.Commit tree.Commit) (λ f. refl)
-    (or_else (word keyword.Rollback) (alone_reads keyword.Rollback tree.Rollback) (λ f. refl)
+    (or_else (word keyword.Rollback) rollback_reads (elim [ None ↦ refl | Some s ↦ refl ])
     (or_else (word keyword.Select) select_reads (λ f. refl)
     (or_else (word keyword.Update) update_reads (λ f. refl)
     (or_else (word keyword.Delete) delete_reads (λ f. refl)
     (or_else (word keyword.Schedule) schedule_reads (λ f. refl)
-    (or_last (word keyword.End) (alone_reads keyword.End tree.End) (λ f. refl)) refl) refl) refl) refl) refl) refl) refl) refl) refl) refl in
+    (or_else (word keyword.Savepoint) savepoint_reads (λ f. refl)
+    (or_else (word keyword.Release) release_reads (λ f. refl)
+    (or_last (word keyword.End) (alone_reads keyword.End tree.End) (λ f. refl)) refl) refl) refl) refl) refl) refl) refl) refl) refl) refl) refl) refl in
     recast body (λ s. s) StatementFits rules.0
     (elim [
       | inl f ↦ λ fits. (tree.Create f.0 f.1, record { grouped = fits; within = omega arith }, refl, refl)
@@ -227,12 +269,15 @@ body_reads =
       | inr (inr (inl s)) ↦ λ fits. (tree.Session s, record { grouped = tt; within = omega arith }, refl, refl)
       | inr (inr (inr (inl only))) ↦ λ fits. (tree.Begin only, record { grouped = tt; within = omega arith }, refl, refl)
       | inr (inr (inr (inr (inl u)))) ↦ λ fits. (tree.Commit, record { grouped = tt; within = omega arith }, refl, refl)
-      | inr (inr (inr (inr (inr (inl u))))) ↦ λ fits. (tree.Rollback, record { grouped = tt; within = omega arith }, refl, refl)
+      | inr (inr (inr (inr (inr (inl None))))) ↦ λ fits. (tree.Rollback, record { grouped = tt; within = omega arith }, refl, refl)
+      | inr (inr (inr (inr (inr (inl (Some s)))))) ↦ λ fits. (tree.RollbackTo s, record { grouped = tt; within = omega arith }, refl, refl)
       | inr (inr (inr (inr (inr (inr (inl s)))))) ↦ λ fits. (tree.Select s, record { grouped = fits.grouped; within = fits.within }, refl, refl)
       | inr (inr (inr (inr (inr (inr (inr (inl f))))))) ↦ λ fits. (tree.Update f.0 f.1.0 f.1.1, update_fits f.0 f.1.0 f.1.1 fits, refl, refl)
       | inr (inr (inr (inr (inr (inr (inr (inr (inl f)))))))) ↦ λ fits. (tree.Delete f.0 f.1, record { grouped = fits.grouped; within = fits.within }, refl, refl)
       | inr (inr (inr (inr (inr (inr (inr (inr (inr (inl turns))))))))) ↦ λ fits. (tree.Schedule turns, record { grouped = tt; within = omega arith }, refl, refl)
-      | inr (inr (inr (inr (inr (inr (inr (inr (inr (inr u))))))))) ↦ λ fits. (tree.End, record { grouped = tt; within = omega arith }, refl, refl)
+      | inr (inr (inr (inr (inr (inr (inr (inr (inr (inr (inl s)))))))))) ↦ λ fits. (tree.Savepoint s, record { grouped = tt; within = omega arith }, refl, refl)
+      | inr (inr (inr (inr (inr (inr (inr (inr (inr (inr (inr (inl s))))))))))) ↦ λ fits. (tree.Release s, record { grouped = tt; within = omega arith }, refl, refl)
+      | inr (inr (inr (inr (inr (inr (inr (inr (inr (inr (inr (inr u))))))))))) ↦ λ fits. (tree.End, record { grouped = tt; within = omega arith }, refl, refl)
     ])
     (elim [
       | tree.Create table columns ↦ λ fits. (inl (table, columns), fits.grouped, refl, refl)
@@ -240,12 +285,15 @@ body_reads =
       | tree.Session s ↦ λ fits. (inr (inr (inl s)), tt, refl, refl)
       | tree.Begin only ↦ λ fits. (inr (inr (inr (inl only))), tt, refl, refl)
       | tree.Commit ↦ λ fits. (inr (inr (inr (inr (inl tt)))), tt, refl, refl)
-      | tree.Rollback ↦ λ fits. (inr (inr (inr (inr (inr (inl tt))))), tt, refl, refl)
+      | tree.Rollback ↦ λ fits. (inr (inr (inr (inr (inr (inl None))))), tt, refl, refl)
+      | tree.RollbackTo s ↦ λ fits. (inr (inr (inr (inr (inr (inl (Some s)))))), tt, refl, refl)
       | tree.Select s ↦ λ fits. (inr (inr (inr (inr (inr (inr (inl s)))))), record { grouped = fits.grouped; within = fits.within }, refl, refl)
       | tree.Update table sets t ↦ λ fits. (inr (inr (inr (inr (inr (inr (inr (inl (table, (sets, t))))))))), fits_update table sets t fits, refl, refl)
       | tree.Delete table t ↦ λ fits. (inr (inr (inr (inr (inr (inr (inr (inr (inl (table, t))))))))), record { grouped = fits.grouped; within = fits.within }, refl, refl)
       | tree.Schedule turns ↦ λ fits. (inr (inr (inr (inr (inr (inr (inr (inr (inr (inl turns))))))))), always turns, refl, refl)
-      | tree.End ↦ λ fits. (inr (inr (inr (inr (inr (inr (inr (inr (inr (inr tt))))))))), tt, refl, refl)
+      | tree.Savepoint s ↦ λ fits. (inr (inr (inr (inr (inr (inr (inr (inr (inr (inr (inl s)))))))))), tt, refl, refl)
+      | tree.Release s ↦ λ fits. (inr (inr (inr (inr (inr (inr (inr (inr (inr (inr (inr (inl s))))))))))), tt, refl, refl)
+      | tree.End ↦ λ fits. (inr (inr (inr (inr (inr (inr (inr (inr (inr (inr (inr (inr tt))))))))))), tt, refl, refl)
     ])
 
 pub statement_reads : Reads read_statement marks (λ s. s) StatementFits nothing

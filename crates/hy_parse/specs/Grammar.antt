@@ -3,7 +3,7 @@
 use Rattle.std.specs.Prelude.{◌≡◌, ℕ, ◌+◌, ◌≤◌, max, Bool, true, false, List, [], ◌∷◌, ◌++◌, Option, Some, None}
 use Rattle.std.specs.List.{flat_map, AllByRecursion}
 use Rattle.hy_token.specs.declared.Keyword.{Keyword}
-use Rattle.hy_token.specs.declared.Keyword.TheVariants.{And, Begin, By, Commit, Count, Create, Delete, End, From, Group, Insert, Int, Into, Is, Join, Key, Not, Null, On, Only, Or, Primary, Read, Rollback, Schedule, Select, Session, Set, Sum, Table, Text, Update, Values, Where}
+use Rattle.hy_token.specs.declared.Keyword.TheVariants.{And, Begin, By, Commit, Count, Create, Delete, End, From, Group, Insert, Int, Into, Is, Join, Key, Not, Null, On, Only, Or, Primary, Read, Release, Rollback, Savepoint, Schedule, Select, Session, Set, Sum, Table, Text, To, Update, Values, Where}
 use Rattle.hy_token.specs.declared.Sign.{Sign}
 use Rattle.hy_token.specs.declared.Sign.TheVariants.{LeftParen, RightParen, Comma, Semicolon, Dot, Star, Plus, Minus, Bang, Equal, NotEqual, Less, LessEqual, Greater, GreaterEqual}
 use Rattle.hy_token.specs.declared.Span.{Span}
@@ -250,6 +250,9 @@ body (tree.Session of) = word Session ∷ name of ∷ []
 body (tree.Begin only) = word Begin ∷ optional only (word Read ∷ word Only ∷ [])
 body tree.Commit = word Commit ∷ []
 body tree.Rollback = word Rollback ∷ []
+body (tree.Savepoint of) = word Savepoint ∷ name of ∷ []
+body (tree.RollbackTo of) = word Rollback ∷ word To ∷ name of ∷ []
+body (tree.Release of) = word Release ∷ name of ∷ []
 body (tree.Select s) = word Select ∷ selection s
 body (tree.Update table sets t) = word Update ∷ name table ∷ word Set ∷ separated set_clause sets ++ condition t
 body (tree.Delete table t) = word Delete ∷ from table ++ condition t

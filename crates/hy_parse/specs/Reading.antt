@@ -6,7 +6,7 @@ use Rattle.std.specs.Str.{bytes_eq}
 use Rattle.hy_token.specs.Keyword.{word_spelling}
 use Rattle.hy_token.specs.Sign.{sign_spelling}
 use Rattle.hy_token.specs.declared.Keyword.{Keyword}
-use Rattle.hy_token.specs.declared.Keyword.TheVariants.{And, Begin, By, Commit, Count, Create, Delete, End, From, Group, Insert, Int, Into, Is, Join, Key, Not, Null, On, Only, Or, Primary, Rollback, Schedule, Select, Session, Set, Sum, Table, Update, Values, Where}
+use Rattle.hy_token.specs.declared.Keyword.TheVariants.{And, Begin, By, Commit, Count, Create, Delete, End, From, Group, Insert, Int, Into, Is, Join, Key, Not, Null, On, Only, Or, Primary, Release, Rollback, Savepoint, Schedule, Select, Session, Set, Sum, Table, To, Update, Values, Where}
 use Rattle.hy_token.specs.declared.Keyword.TheVariants as keyword
 use Rattle.hy_token.specs.declared.Sign.{Sign}
 use Rattle.hy_token.specs.declared.Sign.TheVariants.{LeftParen, RightParen, Comma, Semicolon, Dot, Star, Plus, Minus, Bang, Equal, NotEqual, Less, LessEqual, Greater, GreaterEqual}
@@ -410,6 +410,34 @@ alone_at k statement pieces = do
   begun ← after (word k ∷ []) pieces
   Done statement begun.1
 
+-- ---- savepoints
+
+unfoldable pub savepoint_at : List Piece → Read Statement
+savepoint_at pieces = do
+  begun ← after (word Savepoint ∷ []) pieces
+  name ← name_at begun.1
+  Done (tree.Savepoint name.0) name.1
+
+unfoldable pub release_at : List Piece → Read Statement
+release_at pieces = do
+  begun ← after (word Release ∷ []) pieces
+  name ← name_at begun.1
+  Done (tree.Release name.0) name.1
+
+-- what follows ROLLBACK: TO and the name of a savepoint, or nothing
+unfoldable pub back_at : List Piece → Read Statement
+back_at pieces =
+    if begins (word To) pieces
+    then (after (word To ∷ []) pieces >>= λ to. name_at to.1 >>= λ name. Done (tree.RollbackTo name.0) name.1)
+    else Done tree.Rollback pieces
+
+unfoldable pub rollback_at : List Piece → Read Statement
+rollback_at pieces = do
+  begun ← after (word Rollback ∷ []) pieces
+  back_at begun.1
+
+-- ---- rows and schedules
+
 unfoldable pub select_at : List Piece → Read Statement
 select_at pieces = do
   begun ← after (word Select ∷ []) pieces
@@ -450,12 +478,14 @@ body_at pieces =
     else (if begins (word Session) pieces then session_at pieces
     else (if begins (word Begin) pieces then begin_at pieces
     else (if begins (word Commit) pieces then alone_at Commit tree.Commit pieces
-    else (if begins (word Rollback) pieces then alone_at Rollback tree.Rollback pieces
+    else (if begins (word Rollback) pieces then rollback_at pieces
     else (if begins (word Select) pieces then select_at pieces
     else (if begins (word Update) pieces then update_at pieces
     else (if begins (word Delete) pieces then delete_at pieces
     else (if begins (word Schedule) pieces then schedule_at pieces
-    else alone_at End tree.End pieces)))))))))
+    else (if begins (word Savepoint) pieces then savepoint_at pieces
+    else (if begins (word Release) pieces then release_at pieces
+    else alone_at End tree.End pieces)))))))))))
 
 unfoldable pub read_statement : List Piece → Read Statement
 read_statement pieces = do

@@ -3,6 +3,7 @@
 ghost use Rattle.std.specs.Prelude.{◌≡◌, [], ◌∷◌};
 ghost use Rattle.hy_ast.specs.Trees.{statement_of};
 ghost use Rattle.hy_parse.specs.Reading.{Gives, piece_at, kind_of, column_def_at, create_at, insert_at, session_at, begin_at, alone_at, select_at};
+ghost use Rattle.hy_parse.specs.Reading.{savepoint_at, release_at, back_at, rollback_at};
 ghost use Rattle.hy_parse.specs.Reading.{update_at, delete_at, turns_at, schedule_at, body_at, read_statement};
 
 use crate::Piece;
@@ -31,6 +32,14 @@ const UPDATE: Token = Token::Reserved(Keyword::Update);
 const DELETE: Token = Token::Reserved(Keyword::Delete);
 
 const SCHEDULE: Token = Token::Reserved(Keyword::Schedule);
+
+const ROLLBACK: Token = Token::Reserved(Keyword::Rollback);
+
+const SAVEPOINT: Token = Token::Reserved(Keyword::Savepoint);
+
+const RELEASE: Token = Token::Reserved(Keyword::Release);
+
+const TO: Token = Token::Reserved(Keyword::To);
 
 const LEFT_PAREN: Token = Token::Sign(Sign::LeftParen);
 
@@ -147,6 +156,48 @@ fn alone<'a>(
     Ok((statement, rest))
 }
 
+/// SAVEPOINT.
+#[tactic(auto, unfolding(crate::specs::Reading::savepoint_at))]
+fn savepoint(pieces: &[Piece]) -> Result<(Statement, &[Piece]), Halt>
+    ensures { Gives (λ x. (statement_of x.0, x.1.now)) result (savepoint_at pieces.now) }
+{
+    let rest = expect(pieces, &[SAVEPOINT])?;
+    let (name, rest) = name(rest)?;
+    Ok((Statement::Savepoint { name }, rest))
+}
+
+/// RELEASE.
+#[tactic(auto, unfolding(crate::specs::Reading::release_at))]
+fn release(pieces: &[Piece]) -> Result<(Statement, &[Piece]), Halt>
+    ensures { Gives (λ x. (statement_of x.0, x.1.now)) result (release_at pieces.now) }
+{
+    let rest = expect(pieces, &[RELEASE])?;
+    let (name, rest) = name(rest)?;
+    Ok((Statement::Release { name }, rest))
+}
+
+/// What follows ROLLBACK: TO and the name of a savepoint, or nothing.
+#[tactic(auto, unfolding(crate::specs::Reading::back_at))]
+fn back(pieces: &[Piece]) -> Result<(Statement, &[Piece]), Halt>
+    ensures { Gives (λ x. (statement_of x.0, x.1.now)) result (back_at pieces.now) }
+{
+    if !begins(pieces, TO) {
+        return Ok((Statement::Rollback, pieces));
+    }
+    let rest = expect(pieces, &[TO])?;
+    let (name, rest) = name(rest)?;
+    Ok((Statement::RollbackTo { name }, rest))
+}
+
+/// ROLLBACK, or ROLLBACK TO.
+#[tactic(auto, unfolding(crate::specs::Reading::rollback_at))]
+fn rollback(pieces: &[Piece]) -> Result<(Statement, &[Piece]), Halt>
+    ensures { Gives (λ x. (statement_of x.0, x.1.now)) result (rollback_at pieces.now) }
+{
+    let rest = expect(pieces, &[ROLLBACK])?;
+    back(rest)
+}
+
 /// SELECT.
 #[tactic(auto, unfolding(crate::specs::Reading::select_at))]
 fn select(alloc: Global, pieces: &[Piece]) -> Result<(Statement, &[Piece]), Halt>
@@ -229,8 +280,8 @@ fn body(alloc: Global, pieces: &[Piece]) -> Result<(Statement, &[Piece]), Halt>
         begin(pieces)
     } else if begins(pieces, Token::Reserved(Keyword::Commit)) {
         alone(Keyword::Commit, Statement::Commit, pieces)
-    } else if begins(pieces, Token::Reserved(Keyword::Rollback)) {
-        alone(Keyword::Rollback, Statement::Rollback, pieces)
+    } else if begins(pieces, ROLLBACK) {
+        rollback(pieces)
     } else if begins(pieces, SELECT) {
         select(alloc, pieces)
     } else if begins(pieces, UPDATE) {
@@ -239,6 +290,10 @@ fn body(alloc: Global, pieces: &[Piece]) -> Result<(Statement, &[Piece]), Halt>
         delete(alloc, pieces)
     } else if begins(pieces, SCHEDULE) {
         schedule(alloc, pieces)
+    } else if begins(pieces, SAVEPOINT) {
+        savepoint(pieces)
+    } else if begins(pieces, RELEASE) {
+        release(pieces)
     } else {
         alone(Keyword::End, Statement::End, pieces)
     }

@@ -17,7 +17,7 @@ use Rattle.hy_script.specs.declared.codes.Code.{Code}
 use Rattle.hy_script.specs.declared.sofar.OpenTxn.{OpenTxn}
 use Rattle.hy_script.specs.declared.sofar.SoFar.{SoFar}
 use Rattle.hy_script.specs.Codes.{rank, first_of_two, code_if_so, code_of}
-use Rattle.hy_script.specs.Refusals.{create_code, first_row_code, session_code, begin_code, statement_code, schedule_code, any_unknown_in, stock_of, writes_in, groups_in}
+use Rattle.hy_script.specs.Refusals.{create_code, first_row_code, session_code, begin_code, savepoint_code, statement_code, schedule_code, any_unknown_in, stock_of, writes_in, groups_in}
 use Rattle.hy_script.specs.Stocks.{key_there}
 use Rattle.hy_limits.specs.declared.TheConstants.{MOST_ITEMS, MOST_SESSIONS, MOST_STATEMENTS, MOST_TXNS}
 
@@ -34,7 +34,7 @@ unless : (so : Bool) (x : Code) (other : Option Code) → cond so (Some x) other
 unless true x other h = absurd cc
 unless false x other h = (refl, h)
 
-not_so : (so : Bool) (x : Code) → code_if_so so x ≡ None → so ≡ false
+pub not_so : (so : Bool) (x : Code) → code_if_so so x ≡ None → so ≡ false
 not_so so x h = (unless so x None h).0
 
 without_fault : (fault : Option BindFault) → option_map code_of fault ≡ None → fault ≡ None
@@ -75,6 +75,7 @@ begin_taken session h = leb-false MOST_TXNS (length session.txns) (not_so _ _ h)
 -- a statement of a transaction more
 pub record IsTaken (script : List ℕ) (sofar : SoFar) (txn : OpenTxn) (s : Statement) : Type 0 where
   pub bound : bind_fault script sofar.catalog s ≡ None
+  pub saved_there : savepoint_code script txn.savepoints s ≡ None
   pub writes_there : (txn.read_only && writes_in s) ≡ false
   pub groups_there : (not txn.read_only && groups_in s) ≡ false
   pub room : length txn.statements < MOST_STATEMENTS
@@ -82,10 +83,12 @@ pub record IsTaken (script : List ℕ) (sofar : SoFar) (txn : OpenTxn) (s : Stat
 pub statement_taken : (script : List ℕ) (sofar : SoFar) (txn : OpenTxn) (s : Statement) → statement_code script sofar txn s ≡ None → IsTaken script sofar txn s
 statement_taken script sofar txn s h =
     let parts = neither _ _ h in
-    let others = neither _ _ parts.1 in
+    let opened = neither _ _ parts.1 in
+    let others = neither _ _ opened.1 in
     let last = neither _ _ others.1 in
     record {
       bound = without_fault (bind_fault script sofar.catalog s) parts.0;
+      saved_there = opened.0;
       writes_there = not_so _ _ others.0;
       groups_there = not_so _ _ last.0;
       room = leb-false MOST_STATEMENTS (length txn.statements) (not_so _ _ last.1);

@@ -26,7 +26,7 @@ use Rattle.hy_bound.specs.Fits.{FitsShape, FitsRows, FitsInsert, FitsStatement, 
 use Rattle.hy_bound.specs.Schedules.{FitsSchedule}
 use Rattle.hy_bind.specs.Literals.{text_of_span, literal_value}
 use Rattle.hy_bind.specs.Shapes.{defined_shape, catalog_shapes}
-use Rattle.hy_bind.specs.Statements.{NamesTables, and_number, numbers_or_none, in_scope, fault_of_numbered, bound_in, bind_fault, bound_of}
+use Rattle.hy_bind.specs.Statements.{HasNames, and_number, numbers_or_none, in_scope, fault_of_numbered, bound_in, bind_fault, bound_of}
 use Rattle.hy_script.specs.declared.Options.{Options}
 use Rattle.hy_script.specs.declared.NamedTxns.{NamedTxns}
 use Rattle.hy_script.specs.declared.Script.{Script}
@@ -52,7 +52,7 @@ use Rattle.hy_limits.specs.declared.TheConstants.{MOST_SESSIONS}
 pub record Laws : Type 0 where
   pub order : IsTotalOrder value_cmp
   pub parsing : (bytes : List ℕ) (at : ℕ) (s : Statement) (end : ℕ) → (parsed bytes at ≡ Ok (s, end)) ↔ Parses bytes at s end
-  pub binding : (script : List ℕ) (catalog : List TableDef) (s : Statement) → NamesTables s → All HasItsKey (catalog_shapes catalog) → bind_fault script catalog s ≡ None
+  pub binding : (script : List ℕ) (catalog : List TableDef) (s : Statement) → HasNames s → All HasItsKey (catalog_shapes catalog) → bind_fault script catalog s ≡ None
       → FitsStatement (catalog_shapes catalog) (bound_of script catalog s)
 
 abbrev room : Options → ℕ
@@ -165,7 +165,7 @@ at_section options sofar section is many good = record {
   schedule = good.schedule;
 }
 
-statement_kept : Laws → (script : List ℕ) (options : Options) (sofar : SoFar) (s : Statement) (section : Section) → sofar.section ≡ section → NamesTables s → statement_code_at script sofar section s ≡ None → IsGood options sofar
+statement_kept : Laws → (script : List ℕ) (options : Options) (sofar : SoFar) (s : Statement) (section : Section) → sofar.section ≡ section → HasNames s → statement_code_at script sofar section s ≡ None → IsGood options sofar
     → IsGood options (with_statement script sofar s)
 statement_kept laws script options sofar s section is names h good =
     let code : statement_code_at script sofar sofar.section s ≡ None = subst (λ (p : Section). statement_code_at script sofar p s ≡ None) (sym is) h in
@@ -228,6 +228,9 @@ kept laws script options sofar tree.Rollback grouped h good =
 kept laws script options sofar (tree.Select selection) grouped h good = statement_kept laws script options sofar (tree.Select selection) sofar.section refl tt h good
 kept laws script options sofar (tree.Update table sets test) grouped h good = statement_kept laws script options sofar (tree.Update table sets test) sofar.section refl tt h good
 kept laws script options sofar (tree.Delete table test) grouped h good = statement_kept laws script options sofar (tree.Delete table test) sofar.section refl tt h good
+kept laws script options sofar (tree.Savepoint name) grouped h good = statement_kept laws script options sofar (tree.Savepoint name) sofar.section refl tt h good
+kept laws script options sofar (tree.RollbackTo name) grouped h good = statement_kept laws script options sofar (tree.RollbackTo name) sofar.section refl tt h good
+kept laws script options sofar (tree.Release name) grouped h good = statement_kept laws script options sofar (tree.Release name) sofar.section refl tt h good
 kept laws script options sofar (tree.Schedule turns) grouped h good = schedule_more script options sofar turns h good
 kept laws script options sofar tree.End grouped h good = good
 

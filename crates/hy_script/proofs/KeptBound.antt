@@ -20,7 +20,7 @@ use Rattle.hy_bound.specs.declared.Txn.{Txn}
 use Rattle.hy_bind.specs.declared.refusals.BindFault.{BindFault}
 use Rattle.hy_bind.specs.Refusals.{rank, first_of}
 use Rattle.hy_bind.specs.Literals.{text_of_span, literal_value}
-use Rattle.hy_bind.specs.Statements.{NamesTables, and_number, columns_in, values_fault, fault_of_numbered, bind_fault, bound_of}
+use Rattle.hy_bind.specs.Statements.{HasNames, and_number, columns_in, values_fault, fault_of_numbered, bind_fault, bound_of}
 use Rattle.hy_script.specs.declared.Options.{Options}
 use Rattle.hy_script.specs.declared.NamedTxns.{NamedTxns}
 use Rattle.hy_script.specs.declared.Script.{Script}
@@ -149,7 +149,7 @@ at_section : (script : List ℕ) (sofar : SoFar) (section : Section) → IsSecti
     → BoundSoFar script (record sofar { section = section })
 at_section script sofar section is so = record { stocks = so.stocks; sessions = so.sessions; section = is }
 
-statement_bound : (script : List ℕ) (catalog : List TableDef) (s : Statement) → NamesTables s → bind_fault script catalog s ≡ None
+statement_bound : (script : List ℕ) (catalog : List TableDef) (s : Statement) → HasNames s → bind_fault script catalog s ≡ None
     → WasBound script catalog (bound_of script catalog s)
 statement_bound script catalog s names h = record {
   statement = s;
@@ -161,7 +161,7 @@ statement_bound script catalog s names h = record {
   is = refl;
 }
 
-and_bound_bound : (script : List ℕ) (sofar : SoFar) (s : Statement) (section : Section) → NamesTables s → statement_code_at script sofar section s ≡ None
+and_bound_bound : (script : List ℕ) (sofar : SoFar) (s : Statement) (section : Section) → HasNames s → statement_code_at script sofar section s ≡ None
     → IsSection script sofar.catalog section → IsSection script sofar.catalog (and_bound section script sofar.catalog s)
 and_bound_bound script sofar s Defining names h is = tt
 and_bound_bound script sofar s (Between session) names h is = is
@@ -172,7 +172,7 @@ and_bound_bound script sofar s (Within session txn) names h is = (
 )
 and_bound_bound script sofar s Scheduled names h is = tt
 
-with_bound : (script : List ℕ) (sofar : SoFar) (s : Statement) (section : Section) → sofar.section ≡ section → NamesTables s
+with_bound : (script : List ℕ) (sofar : SoFar) (s : Statement) (section : Section) → sofar.section ≡ section → HasNames s
     → statement_code_at script sofar section s ≡ None → BoundSoFar script sofar → BoundSoFar script (with_statement script sofar s)
 with_bound script sofar s section is names h so =
     let code : statement_code_at script sofar sofar.section s ≡ None = subst (λ (p : Section). statement_code_at script sofar p s ≡ None) (sym is) h in
@@ -242,6 +242,9 @@ kept script options sofar tree.Rollback grouped h so =
 kept script options sofar (tree.Select selection) grouped h so = with_bound script sofar (tree.Select selection) sofar.section refl tt h so
 kept script options sofar (tree.Update table sets test) grouped h so = with_bound script sofar (tree.Update table sets test) sofar.section refl tt h so
 kept script options sofar (tree.Delete table test) grouped h so = with_bound script sofar (tree.Delete table test) sofar.section refl tt h so
+kept script options sofar (tree.Savepoint name) grouped h so = with_bound script sofar (tree.Savepoint name) sofar.section refl tt h so
+kept script options sofar (tree.RollbackTo name) grouped h so = with_bound script sofar (tree.RollbackTo name) sofar.section refl tt h so
+kept script options sofar (tree.Release name) grouped h so = with_bound script sofar (tree.Release name) sofar.section refl tt h so
 kept script options sofar (tree.Schedule turns) grouped h so = schedule_more script sofar turns so
 kept script options sofar tree.End grouped h so = so
 

@@ -14,6 +14,7 @@ pub mod Accepted
 pub mod Zips
 pub mod MoreTables
 pub mod FirstRows
+pub mod Opened
 pub mod Standing
 pub mod Defined
 pub mod Turns

@@ -5,7 +5,7 @@ use Rattle.std.proofs.lemmas.List.{get_or_append_left, length-append}
 use Rattle.std.proofs.lemmas.List.Elements.{All-head, All-tail, All-take, All-weaker}
 use Rattle.std.proofs.lemmas.List.Sums.{sum_by-cons}
 use Rattle.hy_bound.specs.declared.Bound.{Bound}
-use Rattle.hy_bound.specs.declared.Bound.TheVariants.{Select, Group, Insert, Update, Delete}
+use Rattle.hy_bound.specs.declared.Bound.TheVariants.{Select, Group, Insert, Update, Delete, Savepoint, RollbackTo, Release}
 use Rattle.hy_bound.specs.declared.Items.{Items}
 use Rattle.hy_bound.specs.declared.On.{On}
 use Rattle.hy_bound.specs.declared.Shape.{Shape}
@@ -57,13 +57,16 @@ statement_kept shapes more (Group table pred key aggregate) fits = one_kept shap
 statement_kept shapes more (Insert table row) fits = one_kept shapes more table (λ shape. FitsInsert shape row) fits
 statement_kept shapes more (Update table sets pred) fits = one_kept shapes more table (λ shape. FitsUpdate shape sets pred) fits
 statement_kept shapes more (Delete table pred) fits = one_kept shapes more table (λ shape. LieWithin shape.width (columns_of pred)) fits
+statement_kept shapes more (Savepoint name) fits = tt
+statement_kept shapes more (RollbackTo name) fits = tt
+statement_kept shapes more (Release name) fits = tt
 
 -- statements that fit tables fit them with more tables behind
 pub statements_kept : (shapes more : List Shape) (statements : List Bound) → All (FitsStatement shapes) statements → All (FitsStatement (shapes ++ more)) statements
 statements_kept shapes more statements fit = All-weaker (FitsStatement shapes) (FitsStatement (shapes ++ more)) (statement_kept shapes more) statements fit
 
 txn_kept : (shapes more : List Shape) (txn : Txn) → FitsTxn shapes txn → FitsTxn (shapes ++ more) txn
-txn_kept shapes more txn fits = record { few = fits.few; fit = statements_kept shapes more txn.statements fits.fit; stand = fits.stand }
+txn_kept shapes more txn fits = record { few = fits.few; fit = statements_kept shapes more txn.statements fits.fit; stand = fits.stand; savepoints = fits.savepoints }
 
 -- sessions do too
 pub session_kept : (shapes more : List Shape) (txns : List Txn) → FitsSession shapes txns → FitsSession (shapes ++ more) txns

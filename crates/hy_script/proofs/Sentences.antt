@@ -58,6 +58,9 @@ may_follow bytes sofar (section.Within session txn) (tree.Select selection) rest
 may_follow bytes sofar (section.Within session txn) (tree.Insert table values) rest allowed last f = f
 may_follow bytes sofar (section.Within session txn) (tree.Update table sets test) rest allowed last f = f
 may_follow bytes sofar (section.Within session txn) (tree.Delete table test) rest allowed last f = f
+may_follow bytes sofar (section.Within session txn) (tree.Savepoint name) rest allowed last f = f
+may_follow bytes sofar (section.Within session txn) (tree.RollbackTo name) rest allowed last f = f
+may_follow bytes sofar (section.Within session txn) (tree.Release name) rest allowed last f = f
 may_follow bytes sofar (section.Within session txn) tree.Commit rest allowed last f = f
 may_follow bytes sofar (section.Within session txn) tree.Rollback rest allowed last f = f
 may_follow bytes sofar (section.Within session txn) other rest allowed last f = absurd cc
@@ -90,6 +93,9 @@ may_stand_there bytes sofar (section.Within session txn) (tree.Select selection)
 may_stand_there bytes sofar (section.Within session txn) (tree.Insert table values) rest last f = (refl, f)
 may_stand_there bytes sofar (section.Within session txn) (tree.Update table sets test) rest last f = (refl, f)
 may_stand_there bytes sofar (section.Within session txn) (tree.Delete table test) rest last f = (refl, f)
+may_stand_there bytes sofar (section.Within session txn) (tree.Savepoint name) rest last f = (refl, f)
+may_stand_there bytes sofar (section.Within session txn) (tree.RollbackTo name) rest last f = (refl, f)
+may_stand_there bytes sofar (section.Within session txn) (tree.Release name) rest last f = (refl, f)
 may_stand_there bytes sofar (section.Within session txn) tree.Commit rest last f = (refl, f)
 may_stand_there bytes sofar (section.Within session txn) tree.Rollback rest last f = (refl, f)
 may_stand_there bytes sofar (section.Within session txn) other rest last f = absurd f

@@ -1,15 +1,17 @@
 -- The section where a script stands: the session and the transaction that are open there.
-use Rattle.std.specs.Prelude.{not, ◌&&◌}
+use Rattle.std.specs.Prelude.{IsTrue, not, ◌&&◌}
 use Rattle.std.specs.List.{All}
-use Rattle.std.proofs.Common.{◌≡◌, ℕ, ◌<◌, ◌≤◌, Bool, true, false, List, [], ◌∷◌, ◌++◌, None, length, refl, sym, ◌∙◌, arith}
+use Rattle.std.proofs.Common.{◌≡◌, ℕ, ◌<◌, ◌≤◌, Bool, true, false, List, [], ◌∷◌, ◌++◌, None, length, refl, sym, ap, ◌∙◌, subst, arith}
 use Rattle.std.proofs.lemmas.List.{length_push}
 use Rattle.std.proofs.lemmas.List.Elements.{All-nil, All-push}
 use Rattle.hy_schema.specs.declared.TableDef.{TableDef}
 use Rattle.hy_ast.specs.Trees.{Selection, Statement}
 use Rattle.hy_ast.specs.Trees as tree
-use Rattle.hy_bind.specs.Statements.{NamesTables, bind_fault, bound_of}
+use Rattle.hy_bind.specs.Statements.{HasNames, bind_fault, bound_of}
 use Rattle.hy_bound.specs.declared.Bound.{Bound}
 use Rattle.hy_bound.specs.declared.Shape.{Shape}
+use Rattle.hy_bound.specs.Savepoints.{saved_after}
+use Rattle.hy_bound.specs.OpenSavepoints.{is_opened, AreOpened}
 use Rattle.hy_bound.specs.Fits.{FitsStatement, MayStand, FitsTxn, FitsSession}
 use Rattle.hy_script.specs.declared.NamedTxns.{NamedTxns}
 use Rattle.hy_script.specs.declared.sofar.OpenTxn.{OpenTxn}
@@ -19,6 +21,7 @@ use Rattle.hy_script.specs.declared.sofar.SoFar.{SoFar}
 use Rattle.hy_script.specs.Growing.{all_sessions, begun, and_bound, closed}
 use Rattle.hy_script.specs.Refusals.{begin_code_at, statement_code_at, writes_in, groups_in}
 use Rattle.hy_script.proofs.Accepted.{begin_taken, statement_taken}
+use Rattle.hy_script.proofs.Opened.{open_after, open_push, opened_push, code_opens}
 use Rattle.hy_script.proofs.MoreTables.{statements_kept, session_kept}
 use Rattle.hy_limits.specs.declared.TheConstants.{MOST_STATEMENTS, MOST_TXNS}
 
@@ -29,6 +32,8 @@ pub record IsOpen (shapes : List Shape) (txn : OpenTxn) : Type 0 where
   pub few : length txn.statements ≤ MOST_STATEMENTS
   pub fit : All (FitsStatement shapes) txn.statements
   pub stand : All (MayStand txn.read_only) txn.statements
+  pub opened : AreOpened txn.statements
+  pub savepoints : txn.savepoints ≡ open_after [] txn.statements
 
 -- an open session with an open transaction
 pub record IsWithin (shapes : List Shape) (session : NamedTxns) (txn : OpenTxn) : Type 0 where
@@ -55,7 +60,7 @@ section_kept shapes more (Between session) is = session_kept shapes more session
 section_kept shapes more (Within session txn) is = record {
   room = is.room;
   earlier = session_kept shapes more session.txns is.earlier;
-  opened = record { few = is.opened.few; fit = statements_kept shapes more txn.statements is.opened.fit; stand = is.opened.stand };
+  opened = record { few = is.opened.few; fit = statements_kept shapes more txn.statements is.opened.fit; stand = is.opened.stand; opened = is.opened.opened; savepoints = is.opened.savepoints };
 }
 section_kept shapes more Scheduled is = tt
 
@@ -66,7 +71,7 @@ begun_section shapes only Defining h is = tt
 begun_section shapes only (Between session) h is = record {
   room = begin_taken session h;
   earlier = is;
-  opened = record { few = omega arith; fit = All-nil (FitsStatement shapes); stand = All-nil (MayStand only) };
+  opened = record { few = omega arith; fit = All-nil (FitsStatement shapes); stand = All-nil (MayStand only); opened = refl; savepoints = refl };
 }
 begun_section shapes only (Within session txn) h is = is
 begun_section shapes only Scheduled h is = tt
@@ -87,14 +92,17 @@ selection_stands only script catalog (tree.Rows listed table joins test) h = tt
 selection_stands only script catalog (tree.Count table test) h = tt
 selection_stands only script catalog (tree.Groups column total table test key) h = groups_alone only h
 
-stands : (only : Bool) (script : List ℕ) (catalog : List TableDef) (s : Statement) → NamesTables s → (only && writes_in s) ≡ false → (not only && groups_in s) ≡ false → MayStand only (bound_of script catalog s)
+stands : (only : Bool) (script : List ℕ) (catalog : List TableDef) (s : Statement) → HasNames s → (only && writes_in s) ≡ false → (not only && groups_in s) ≡ false → MayStand only (bound_of script catalog s)
 stands only script catalog (tree.Insert table values) names w g = writes_alone only w
 stands only script catalog (tree.Update table sets test) names w g = writes_alone only w
 stands only script catalog (tree.Delete table test) names w g = writes_alone only w
 stands only script catalog (tree.Select selection) names w g = selection_stands only script catalog selection g
+stands only script catalog (tree.Savepoint name) names w g = tt
+stands only script catalog (tree.RollbackTo name) names w g = tt
+stands only script catalog (tree.Release name) names w g = tt
 stands only script catalog _ names w g = absurd names
 
-pub bound_section : (shapes : List Shape) (script : List ℕ) (sofar : SoFar) (s : Statement) (section : Section) → NamesTables s → (bind_fault script sofar.catalog s ≡ None → FitsStatement shapes (bound_of script sofar.catalog s))
+pub bound_section : (shapes : List Shape) (script : List ℕ) (sofar : SoFar) (s : Statement) (section : Section) → HasNames s → (bind_fault script sofar.catalog s ≡ None → FitsStatement shapes (bound_of script sofar.catalog s))
     → statement_code_at script sofar section s ≡ None → IsSection shapes section → IsSection shapes (and_bound section script sofar.catalog s)
 bound_section shapes script sofar s Defining names fits h is = tt
 bound_section shapes script sofar s (Between session) names fits h is = is
@@ -109,6 +117,10 @@ bound_section shapes script sofar s (Within session txn) names fits h is =
         few = omega (arith, taken.room, many);
         fit = All-push (FitsStatement shapes) txn.statements bound is.opened.fit (fits taken.bound);
         stand = All-push (MayStand txn.read_only) txn.statements bound is.opened.stand (stands txn.read_only script sofar.catalog s names taken.writes_there taken.groups_there);
+        opened =
+            opened_push [] txn.statements bound is.opened.opened
+            (subst (λ saved. IsTrue (is_opened saved bound)) is.opened.savepoints (code_opens script sofar.catalog txn.savepoints s names taken.saved_there));
+        savepoints = ap (λ saved. saved_after bound saved tt) is.opened.savepoints ∙ sym (open_push [] txn.statements bound);
       };
     }
 bound_section shapes script sofar s Scheduled names fits h is = tt
@@ -122,7 +134,7 @@ closed_section shapes commits (Within session txn) is =
     let many = length_push session.txns (record { read_only = txn.read_only; statements = txn.statements; commits = commits }) in
     record {
       few = omega (arith, is.room, many);
-      fit = All-push (FitsTxn shapes) session.txns (record { read_only = txn.read_only; statements = txn.statements; commits = commits }) is.earlier.fit (record { few = is.opened.few; fit = is.opened.fit; stand = is.opened.stand });
+      fit = All-push (FitsTxn shapes) session.txns (record { read_only = txn.read_only; statements = txn.statements; commits = commits }) is.earlier.fit (record { few = is.opened.few; fit = is.opened.fit; stand = is.opened.stand; savepoints = is.opened.opened });
     }
 closed_section shapes commits Scheduled is = tt
 

@@ -8,7 +8,7 @@ use Rattle.hy_ast.specs.Trees.{Statement}
 use Rattle.hy_bound.specs.declared.Bound.{Bound}
 use Rattle.hy_bound.specs.declared.Txn.{Txn}
 use Rattle.hy_bind.specs.Literals.{literal_value}
-use Rattle.hy_bind.specs.Statements.{NamesTables, values_fault, bind_fault, bound_of}
+use Rattle.hy_bind.specs.Statements.{HasNames, values_fault, bind_fault, bound_of}
 use Rattle.hy_script.specs.declared.NamedTxns.{NamedTxns}
 use Rattle.hy_script.specs.declared.Script.{Script}
 
@@ -29,7 +29,7 @@ pub record WasBound (script : List ℕ) (catalog : List TableDef) (bound : Bound
   pub earlier : List TableDef
   pub later : List TableDef
   pub tables : catalog ≡ earlier ++ later
-  pub names : NamesTables statement
+  pub names : HasNames statement
   pub accepted : bind_fault script earlier statement ≡ None
   pub is : bound ≡ bound_of script earlier statement
 

@@ -3,7 +3,7 @@ use Rattle.std.specs.Prelude.{ℕ, Bool, nat_le, Option, Some, None, if◌then�
 use Rattle.hy_bind.specs.declared.refusals.BindFault.{BindFault}
 use Rattle.hy_bind.specs.declared.refusals.BindFault.TheVariants as fault
 use Rattle.hy_script.specs.declared.codes.Code.{Code}
-use Rattle.hy_script.specs.declared.codes.Code.TheVariants.{TooLong, NotUtf8, BadToken, Syntax, UnknownTable, UnknownColumn, WrongType, Twice, Limit, NoEnd, ReadOnly, KeySet, UnknownSession, TooBig, KeyTwice, KeyNull, GroupInWriter, GroupColumn}
+use Rattle.hy_script.specs.declared.codes.Code.TheVariants.{TooLong, NotUtf8, BadToken, Syntax, UnknownTable, UnknownColumn, WrongType, Twice, Limit, NoEnd, ReadOnly, KeySet, UnknownSession, TooBig, KeyTwice, KeyNull, GroupInWriter, GroupColumn, UnknownSavepoint}
 
 -- the number that stands behind the E
 abbrev pub number : Code → ℕ
@@ -25,6 +25,7 @@ number KeyTwice = 15
 number KeyNull = 16
 number GroupInWriter = 17
 number GroupColumn = 18
+number UnknownSavepoint = 21
 
 -- the order in which the causes of one statement are tested
 abbrev pub rank : Code → ℕ
@@ -37,15 +38,16 @@ rank UnknownTable = 5
 rank UnknownColumn = 6
 rank Twice = 7
 rank UnknownSession = 8
-rank WrongType = 9
-rank ReadOnly = 10
-rank KeySet = 11
-rank KeyNull = 12
-rank GroupInWriter = 13
-rank GroupColumn = 14
-rank Limit = 15
-rank TooBig = 16
-rank KeyTwice = 17
+rank UnknownSavepoint = 9
+rank WrongType = 10
+rank ReadOnly = 11
+rank KeySet = 12
+rank KeyNull = 13
+rank GroupInWriter = 14
+rank GroupColumn = 15
+rank Limit = 16
+rank TooBig = 17
+rank KeyTwice = 18
 
 -- of two causes the one that is tested first
 abbrev pub first_of_two : Option Code → Option Code → Option Code

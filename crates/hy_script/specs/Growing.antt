@@ -6,6 +6,7 @@ use Rattle.hy_schema.specs.declared.Column.{Column}
 use Rattle.hy_schema.specs.declared.TableDef.{TableDef}
 use Rattle.hy_schema.specs.Names.{number_of, table_number}
 use Rattle.hy_bound.specs.declared.schedule.Item.{Item}
+use Rattle.hy_bound.specs.Savepoints.{saved_after}
 use Rattle.hy_ast.specs.declared.ColumnDef.{ColumnDef}
 use Rattle.hy_ast.specs.declared.Turn.{Turn}
 use Rattle.hy_ast.specs.declared.Literal.{Literal}
@@ -63,12 +64,16 @@ with_session script sofar name = record sofar {
 
 -- BEGIN
 abbrev pub begun : Bool → Section → Section
-begun read_only (Between session) = Within session (record { read_only = read_only; statements = [] })
+begun read_only (Between session) = Within session (record { read_only = read_only; statements = []; savepoints = [] })
 begun read_only section = section
 
--- a statement more of the txn transaction
+-- a statement more of the open transaction
 abbrev pub and_bound : Section → List ℕ → List TableDef → Statement → Section
-and_bound (Within session txn) script catalog statement = Within session (record { read_only = txn.read_only; statements = txn.statements ++ bound_of script catalog statement ∷ [] })
+and_bound (Within session txn) script catalog statement = Within session (record {
+  read_only = txn.read_only;
+  statements = txn.statements ++ bound_of script catalog statement ∷ [];
+  savepoints = saved_after (bound_of script catalog statement) txn.savepoints tt;
+})
 and_bound section script catalog statement = section
 
 -- COMMIT or ROLLBACK
@@ -103,6 +108,9 @@ after script sofar (tree.Session name) = with_session script sofar name
 after script sofar (tree.Begin read_only) = record sofar { section = begun read_only sofar.section }
 after script sofar tree.Commit = record sofar { section = closed true sofar.section }
 after script sofar tree.Rollback = record sofar { section = closed false sofar.section }
+after script sofar (tree.Savepoint name) = with_statement script sofar (tree.Savepoint name)
+after script sofar (tree.RollbackTo name) = with_statement script sofar (tree.RollbackTo name)
+after script sofar (tree.Release name) = with_statement script sofar (tree.Release name)
 after script sofar (tree.Select selection) = with_statement script sofar (tree.Select selection)
 after script sofar (tree.Update table sets test) = with_statement script sofar (tree.Update table sets test)
 after script sofar (tree.Delete table test) = with_statement script sofar (tree.Delete table test)

@@ -52,6 +52,8 @@ may_stand_within word.Update = true
 may_stand_within word.Delete = true
 may_stand_within word.Commit = true
 may_stand_within word.Rollback = true
+may_stand_within word.Savepoint = true
+may_stand_within word.Release = true
 may_stand_within _ = false
 
 abbrev pub is_end : Keyword → Bool

@@ -1,5 +1,5 @@
 -- Why a statement is refused, where all its tokens fit: the first of its causes in their order.
-use Rattle.std.specs.Prelude.{ℕ, ◌*◌, Bool, true, false, not, ◌&&◌, ◌||◌, is_some, nat_le, nat_lt, List, [], ◌∷◌, Option, Some, None, length, map, count_by, slice_index_or}
+use Rattle.std.specs.Prelude.{ℕ, ◌*◌, Bool, true, false, not, ◌&&◌, ◌||◌, is_some, is_none, nat_le, nat_lt, List, [], ◌∷◌, Option, Some, None, length, map, count_by, slice_index_or}
 use Rattle.std.specs.Option.{option_map}
 use Rattle.hy_value.specs.TextBytes.{text_of}
 use Rattle.hy_schema.specs.Names.{number_of, table_number}
@@ -9,6 +9,7 @@ use Rattle.hy_ast.specs.Trees.{Selection, Statement}
 use Rattle.hy_ast.specs.Trees as tree
 use Rattle.hy_token.specs.declared.Span.{Span}
 use Rattle.hy_ast.specs.declared.Literal.{Literal}
+use Rattle.hy_bound.specs.Savepoints.{Saved, newest}
 use Rattle.hy_bind.specs.Literals.{text_of_span, literal_value}
 use Rattle.hy_bind.specs.Statements.{bind_fault, repeats}
 use Rattle.hy_script.specs.declared.Options.{Options}
@@ -22,7 +23,7 @@ use Rattle.hy_script.specs.declared.codes.Code.TheVariants as code
 use Rattle.hy_script.specs.Codes.{first_of_two, code_if_so, code_of}
 use Rattle.hy_script.specs.declared.stocks.Stock.{Stock}
 use Rattle.hy_script.specs.Stocks.{no_rows, key_there}
-use Rattle.hy_limits.specs.declared.TheConstants.{MOST_COLUMNS, MOST_ITEMS, MOST_SESSIONS, MOST_STATEMENTS, MOST_TABLES, MOST_TXNS}
+use Rattle.hy_limits.specs.declared.TheConstants.{MOST_COLUMNS, MOST_ITEMS, MOST_SAVEPOINTS, MOST_SESSIONS, MOST_STATEMENTS, MOST_TABLES, MOST_TXNS}
 
 -- the cause that binding gives
 abbrev pub bind_code : List ℕ → SoFar → Statement → Option Code
@@ -76,14 +77,26 @@ abbrev pub groups_in : Statement → Bool
 groups_in (tree.Select (tree.Groups column total table test key)) = true
 groups_in _ = false
 
--- a statement of a transaction: a READ ONLY one doesn't write, GROUP BY stands in a READ ONLY one, and it is one
--- of at most 256
-abbrev pub statement_code : List ℕ → SoFar → OpenTxn → Statement → Option Code
-statement_code script sofar txn statement =
-    first_of_two (bind_code script sofar statement)
+-- a statement where these savepoints are open: SAVEPOINT makes one of at most 16, and of the name of ROLLBACK TO or RELEASE
+-- one is open
+abbrev pub savepoint_code : List ℕ → List (Saved (Unit {0})) → Statement → Option Code
+savepoint_code script saved (tree.Savepoint name) = code_if_so (nat_le MOST_SAVEPOINTS (length saved)) code.Limit
+savepoint_code script saved (tree.RollbackTo name) = code_if_so (is_none (newest (name_in script name) saved)) code.UnknownSavepoint
+savepoint_code script saved (tree.Release name) = code_if_so (is_none (newest (name_in script name) saved)) code.UnknownSavepoint
+savepoint_code script saved _ = None
+
+-- a statement in a transaction, whatever its tables are: it names savepoints that are open, a READ ONLY one doesn't write,
+-- GROUP BY stands in a READ ONLY one, and it is one of at most 256
+abbrev pub txn_code : List ℕ → OpenTxn → Statement → Option Code
+txn_code script txn statement =
+    first_of_two (savepoint_code script txn.savepoints statement)
     (first_of_two (code_if_so (txn.read_only && writes_in statement) code.ReadOnly)
     (first_of_two (code_if_so (not txn.read_only && groups_in statement) code.GroupInWriter)
     (code_if_so (nat_le MOST_STATEMENTS (length txn.statements)) code.Limit)))
+
+-- a statement of a transaction
+abbrev pub statement_code : List ℕ → SoFar → OpenTxn → Statement → Option Code
+statement_code script sofar txn statement = first_of_two (bind_code script sofar statement) (txn_code script txn statement)
 
 -- SCHEDULE: it names sessions, in at most 1,000,000 turns
 unfoldable pub is_unknown_in : List ℕ → List (List ℕ) → Turn → Bool
@@ -117,6 +130,9 @@ refusal_in script options sofar (tree.Session name) = session_code script sofar 
 refusal_in script options sofar (tree.Begin read_only) = begin_code_at sofar.section
 refusal_in script options sofar tree.Commit = None
 refusal_in script options sofar tree.Rollback = None
+refusal_in script options sofar (tree.Savepoint name) = statement_code_at script sofar sofar.section (tree.Savepoint name)
+refusal_in script options sofar (tree.RollbackTo name) = statement_code_at script sofar sofar.section (tree.RollbackTo name)
+refusal_in script options sofar (tree.Release name) = statement_code_at script sofar sofar.section (tree.Release name)
 refusal_in script options sofar (tree.Select selection) = statement_code_at script sofar sofar.section (tree.Select selection)
 refusal_in script options sofar (tree.Update table sets test) = statement_code_at script sofar sofar.section (tree.Update table sets test)
 refusal_in script options sofar (tree.Delete table test) = statement_code_at script sofar sofar.section (tree.Delete table test)

@@ -24,12 +24,15 @@ IsDefinition (tree.Create table columns) = Unit {0}
 IsDefinition (tree.Insert table values) = Unit {0}
 IsDefinition _ = ⊥
 
--- a statement that stands in a transaction: SELECT, INSERT, UPDATE or DELETE
+-- a statement that stands in a transaction: SELECT, INSERT, UPDATE, DELETE, SAVEPOINT, ROLLBACK TO or RELEASE
 abbrev pub IsTransactional : Statement → Type 0
 IsTransactional (tree.Select selection) = Unit {0}
 IsTransactional (tree.Insert table values) = Unit {0}
 IsTransactional (tree.Update table sets test) = Unit {0}
 IsTransactional (tree.Delete table test) = Unit {0}
+IsTransactional (tree.Savepoint name) = Unit {0}
+IsTransactional (tree.RollbackTo name) = Unit {0}
+IsTransactional (tree.Release name) = Unit {0}
 IsTransactional _ = ⊥
 
 -- what closes a transaction: COMMIT or ROLLBACK

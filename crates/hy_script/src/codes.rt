@@ -44,6 +44,8 @@ pub enum Code {
     GroupInWriter,
     /// The listed column isn't that of GROUP BY.
     GroupColumn,
+    /// No savepoint of the name is open.
+    UnknownSavepoint,
 }
 
 impl Code {
@@ -70,6 +72,7 @@ impl Code {
             Code::KeyNull => 16,
             Code::GroupInWriter => 17,
             Code::GroupColumn => 18,
+            Code::UnknownSavepoint => 21,
         }
     }
 
@@ -87,15 +90,16 @@ impl Code {
             Code::UnknownColumn => 6,
             Code::Twice => 7,
             Code::UnknownSession => 8,
-            Code::WrongType => 9,
-            Code::ReadOnly => 10,
-            Code::KeySet => 11,
-            Code::KeyNull => 12,
-            Code::GroupInWriter => 13,
-            Code::GroupColumn => 14,
-            Code::Limit => 15,
-            Code::TooBig => 16,
-            Code::KeyTwice => 17,
+            Code::UnknownSavepoint => 9,
+            Code::WrongType => 10,
+            Code::ReadOnly => 11,
+            Code::KeySet => 12,
+            Code::KeyNull => 13,
+            Code::GroupInWriter => 14,
+            Code::GroupColumn => 15,
+            Code::Limit => 16,
+            Code::TooBig => 17,
+            Code::KeyTwice => 18,
         }
     }
 }

@@ -77,6 +77,8 @@ impl Section {
                     | Keyword::Delete
                     | Keyword::Commit
                     | Keyword::Rollback
+                    | Keyword::Savepoint
+                    | Keyword::Release
             ),
             Section::Scheduled => matches!(word, Keyword::End),
         }
@@ -134,6 +136,9 @@ impl SoFar {
             Statement::Select(_) => self.statement(alloc, input.script, ast),
             Statement::Update { .. } => self.statement(alloc, input.script, ast),
             Statement::Delete { .. } => self.statement(alloc, input.script, ast),
+            Statement::Savepoint { .. } => self.statement(alloc, input.script, ast),
+            Statement::RollbackTo { .. } => self.statement(alloc, input.script, ast),
+            Statement::Release { .. } => self.statement(alloc, input.script, ast),
             Statement::Schedule { turns } => self.schedule(alloc, input.script, turns.as_slice()),
             Statement::End => Ok(None),
         }

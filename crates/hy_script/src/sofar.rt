@@ -4,13 +4,14 @@ ghost use Rattle.std.specs.Prelude.{◌≡◌, IfOk};
 ghost use Rattle.hy_script.specs.Growing.{nothing, script_of};
 
 mod rows;
+mod savepoints;
 mod schedule;
 mod sessions;
 mod tables;
 
 use crate::stocks::Stock;
 use crate::{NamedTxns, Options, Script};
-use hy_bound::{Schedule, Statements};
+use hy_bound::{SavedName, Schedule, Statements};
 use hy_schema::{Catalog, Names};
 use hy_value::Seq;
 use rows::rows_of;
@@ -23,6 +24,8 @@ pub struct OpenTxn {
     pub read_only: bool,
     /// Its statements so far.
     pub statements: Statements,
+    /// The savepoints that are open behind them, the oldest first.
+    pub savepoints: Seq<SavedName>,
 }
 
 /// Where a script stands between two of its statements.

@@ -2,17 +2,18 @@
 
 ghost use Rattle.std.specs.Prelude.{◌≡◌, IfOk, OnOk};
 ghost use Rattle.hy_ast.specs.Trees.{statement_of};
-ghost use Rattle.hy_bind.specs.Statements.{NamesTables};
+ghost use Rattle.hy_bind.specs.Statements.{HasNames};
 ghost use Rattle.hy_script.specs.declared.sofar.Section.TheVariants as Section;
-ghost use Rattle.hy_script.specs.Refusals.{begin_code_at, groups_in, session_code, statement_code, statement_code_at, writes_in};
+ghost use Rattle.hy_script.specs.Refusals.{begin_code_at, groups_in, session_code, statement_code, statement_code_at, txn_code, writes_in};
 ghost use Rattle.hy_script.specs.Growing.{all_sessions, and_bound, begun, closed, with_session, with_statement, Takes};
 
 use crate::NamedTxns;
 use crate::codes::{Code, code_if, first_of};
+use crate::sofar::savepoints::savepoint_code;
 use crate::sofar::{OpenTxn, Section, SoFar};
 use hy_ast::{Selection, Statement};
 use hy_bind::{BindError, bind, text, text_in};
-use hy_bound::{Statements, Txn, Txns};
+use hy_bound::{SavedName, Statements, Txn, Txns, keep_open};
 use hy_limits::{MOST_SESSIONS, MOST_STATEMENTS, MOST_TXNS};
 use hy_token::Span;
 use hy_value::Seq;
@@ -21,7 +22,7 @@ use std::mem;
 
 /// The types inside a session. A function that moves sessions names them once, since the checker looks for
 /// the types inside another type only among those that the function names.
-type Met = Option<(Txn, OpenTxn, Statements, Txns)>;
+type Met = Option<(Txn, OpenTxn, Statements, Txns, SavedName)>;
 
 impl SoFar {
     /// BEGIN.
@@ -34,6 +35,7 @@ impl SoFar {
                 let txn = OpenTxn {
                     read_only,
                     statements: Seq::new(alloc),
+                    savepoints: Seq::new(alloc),
                 };
                 self.section = Section::Within(session, txn);
                 code_if(full, Code::Limit)
@@ -112,7 +114,7 @@ impl SoFar {
         script: &[u8],
         ast: &Statement,
     ) -> Result<Option<Code>, AllocError>
-        requires { NamesTables (statement_of ast.now) }
+        requires { HasNames (statement_of ast.now) }
         ensures { IfOk result (λ code. Takes code (statement_code_at script.now self.old self.old.section (statement_of ast.now)) self.new
             (with_statement script.now self.old (statement_of ast.now))) }
     {
@@ -134,19 +136,14 @@ impl SoFar {
         session: NamedTxns,
         mut txn: OpenTxn,
     ) -> Result<Option<Code>, AllocError>
-        requires { NamesTables (statement_of ast.now) }
+        requires { HasNames (statement_of ast.now) }
         ensures { IfOk result (λ code. Takes code (statement_code script.now self.old txn (statement_of ast.now)) self.new
             (record self.old { section = and_bound (Section.Within session txn) script.now self.old.catalog (statement_of ast.now) })) }
     {
-        let rest = first_of(
-            code_if(txn.read_only && writes(ast), Code::ReadOnly),
-            first_of(
-                code_if(!txn.read_only && groups(ast), Code::GroupInWriter),
-                code_if(txn.statements.len() >= MOST_STATEMENTS, Code::Limit),
-            ),
-        );
+        let rest = txn_code(alloc, script, &txn, ast);
         match bind(alloc, script, &self.catalog, ast) {
             Ok(bound) => {
+                keep_open(&mut txn.savepoints, &bound)?;
                 txn.statements.push(bound)?;
                 self.section = Section::Within(session, txn);
                 Ok(rest)
@@ -155,6 +152,19 @@ impl SoFar {
             Err(BindError::OutOfMemory) => Err(AllocError),
         }
     }
+}
+
+/// Why a statement may not stand in this transaction, whatever its tables are.
+fn txn_code(alloc: Global, script: &[u8], txn: &OpenTxn, ast: &Statement) -> Option<Code>
+    ensures { result ≡ txn_code script.now txn.now (statement_of ast.now) }
+{
+    let full = txn.statements.len() >= MOST_STATEMENTS;
+    let writer = code_if(!txn.read_only && groups(ast), Code::GroupInWriter);
+    let reader = code_if(txn.read_only && writes(ast), Code::ReadOnly);
+    first_of(
+        savepoint_code(alloc, script, txn.savepoints.as_slice(), ast),
+        first_of(reader, first_of(writer, code_if(full, Code::Limit))),
+    )
 }
 
 /// Whether a statement writes.

@@ -3,7 +3,7 @@ use Rattle.std.specs.Prelude.{ℕ, List, ◌∷◌, ◌++◌, Option, None, Some
 use Rattle.hy_bound.specs.declared.Aggregate.{Aggregate}
 use Rattle.hy_bound.specs.declared.Shape.{Shape}
 use Rattle.hy_bound.specs.declared.Bound.{Bound}
-use Rattle.hy_bound.specs.declared.Bound.TheVariants.{Select, Group, Insert, Update, Delete}
+use Rattle.hy_bound.specs.declared.Bound.TheVariants.{Select, Group, Insert, Update, Delete, Savepoint, RollbackTo, Release}
 use Rattle.hy_bound.specs.declared.Reply.{Reply}
 use Rattle.hy_bound.specs.Condition.{Condition, True}
 use Rattle.hy_bound.specs.Projection.{spread}
@@ -39,6 +39,9 @@ group_plan_for shapes (Group table pred key aggregate) = Some (group_plan (shape
 group_plan_for shapes (Insert table row) = None
 group_plan_for shapes (Update table sets pred) = None
 group_plan_for shapes (Delete table pred) = None
+group_plan_for shapes (Savepoint name) = None
+group_plan_for shapes (RollbackTo name) = None
+group_plan_for shapes (Release name) = None
 
 -- what is told of the rows that were gathered, as rows of their table: NULL in the other columns. WHERE is true of
 -- each of them, so that nothing is left to ask

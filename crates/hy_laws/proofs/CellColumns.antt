@@ -8,7 +8,7 @@ use Rattle.hy_value.specs.declared.Value.{Value}
 use Rattle.hy_value.specs.Columns.{has_column}
 use Rattle.hy_bound.specs.declared.Assign.{Assign}
 use Rattle.hy_bound.specs.declared.Bound.{Bound}
-use Rattle.hy_bound.specs.declared.Bound.TheVariants.{Select, Group, Insert, Update, Delete}
+use Rattle.hy_bound.specs.declared.Bound.TheVariants.{Select, Group, Insert, Update, Delete, Savepoint, RollbackTo, Release}
 use Rattle.hy_bound.specs.declared.On.{On}
 use Rattle.hy_bound.specs.declared.Record.{Record}
 use Rattle.hy_bound.specs.declared.Shape.{Shape}
@@ -110,6 +110,9 @@ reads_have shapes (Group table pred key aggregate) gathered few = (
 reads_have shapes (Insert table row) gathered few = keys_have shapes table row (shape_of shapes table).key (few table)
 reads_have shapes (Update table sets pred) gathered few = (write_has shapes table sets pred (few table), tt)
 reads_have shapes (Delete table pred) gathered few = (write_has shapes table [] pred (few table), tt)
+reads_have shapes (Savepoint name) gathered few = tt
+reads_have shapes (RollbackTo name) gathered few = tt
+reads_have shapes (Release name) gathered few = tt
 
 recorded_have : (shapes : List Shape) (number table : ℕ) (columns : ColMask) (conditions : List Condition)
     → AllByRecursion (HasColumnsOf (shape_of shapes table).width columns) conditions

@@ -9,7 +9,7 @@ use Rattle.hy_bound.specs.declared.Assign.{Assign}
 use Rattle.hy_bound.specs.declared.On.{On}
 use Rattle.hy_bound.specs.declared.Items.{Items}
 use Rattle.hy_bound.specs.declared.Bound.{Bound}
-use Rattle.hy_bound.specs.declared.Bound.TheVariants.{Select, Group, Insert, Update, Delete}
+use Rattle.hy_bound.specs.declared.Bound.TheVariants.{Select, Group, Insert, Update, Delete, Savepoint, RollbackTo, Release}
 use Rattle.hy_bound.specs.declared.Shape.{Shape}
 use Rattle.hy_plan.specs.declared.Read.{Read}
 use Rattle.hy_bound.specs.declared.Record.{Record}
@@ -134,6 +134,9 @@ reads_of shapes (Group table pred key aggregate) gathered =
 reads_of shapes (Insert table row) gathered = key_reads_of (shape_of shapes table) table row (shape_of shapes table).key
 reads_of shapes (Update table sets pred) gathered = write_read_of (shape_of shapes table) table sets pred ∷ []
 reads_of shapes (Delete table pred) gathered = write_read_of (shape_of shapes table) table [] pred ∷ []
+reads_of shapes (Savepoint name) gathered = []
+reads_of shapes (RollbackTo name) gathered = []
+reads_of shapes (Release name) gathered = []
 
 -- a record for each condition under which a table is read
 abbrev pub recorded : ℕ → Read → List Record

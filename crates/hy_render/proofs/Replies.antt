@@ -7,7 +7,7 @@ use Rattle.std.specs.List.{All, flat_map}
 use Rattle.hy_value.specs.Print.{printed}
 use Rattle.hy_bound.specs.declared.Grouped.{Grouped}
 use Rattle.hy_bound.specs.declared.Reply.{Reply}
-use Rattle.hy_bound.specs.declared.Reply.TheVariants.{Rows, Value as Total, Groups, Inserted, Duplicate, Updated, Deleted}
+use Rattle.hy_bound.specs.declared.Reply.TheVariants.{Rows, Value as Total, Groups, Inserted, Duplicate, Updated, Deleted, Saved, Back, Released}
 use Rattle.hy_render.specs.Named.{IsPrinted, IsPrintedGroup, IsPrintedReply}
 use Rattle.hy_render.specs.Report.{line, row_line, group_line, reply_text}
 use Rattle.hy_render.proofs.Reading.{Reads, AnyText, byte, behind_first, reads_list}
@@ -28,6 +28,8 @@ pub record EndsReplies (x : List ℕ) : Type 0 where
   pub no_inserted : byte 2 x ≢ 115
   pub no_deleted_or_duplicate : byte 0 x ≢ 100
   pub no_updated : byte 0 x ≢ 117
+  pub no_saved_or_released : byte 3 x ≢ 101
+  pub no_back : byte 0 x ≢ 98
 
 -- lines of groups are read, whatever follows
 reads_group : Reads IsPrintedGroup AnyText group_line
@@ -79,6 +81,9 @@ reads_reply (Deleted m) (Deleted n) x y k l h i e =
     let whole : codes "deleted " ++ (decimal m ++ 10 ∷ x) ≡ codes "deleted " ++ (decimal n ++ 10 ∷ y) = simp append_assoc at e in
     let read = reads_count m n x y k l (append_cancel_left (codes "deleted ") _ _ whole) in
     (ap Deleted read.0, read.1)
+reads_reply Saved Saved x y k l h i e = (refl, append_cancel_left (line (codes "saved")) x y e)
+reads_reply Back Back x y k l h i e = (refl, append_cancel_left (line (codes "back")) x y e)
+reads_reply Released Released x y k l h i e = (refl, append_cancel_left (line (codes "released")) x y e)
 reads_reply r s x y k l h i e = absurd (omega (arith, ap (byte 0) e, ap (byte 1) e, ap (byte 2) e))
 
 -- a reply begins no line of a row or a group
@@ -89,6 +94,8 @@ reply_ends reply x = record { no_row = omega arith; no_group = inl (omega arith)
 -- what ends replies begins none
 no_reply : (x : List ℕ) → EndsReplies x → (reply : Reply) (z : List ℕ) → x ≡ reply_text reply ++ z → ⊥
 no_reply x h Inserted z e = h.no_inserted (ap (byte 2) e)
+no_reply x h Saved z e = h.no_saved_or_released (ap (byte 3) e)
+no_reply x h Released z e = h.no_saved_or_released (ap (byte 3) e)
 no_reply x h reply z e = omega (arith, ap (byte 0) e, ap (byte 2) e)
 
 -- replies are read where no further reply follows

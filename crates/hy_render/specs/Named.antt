@@ -6,7 +6,7 @@ use Rattle.hy_value.specs.declared.Value.TheVariants.{Null, Int, Text}
 use Rattle.hy_stamp.specs.declared.Label.{Label}
 use Rattle.hy_bound.specs.declared.Reply.{Reply}
 use Rattle.hy_bound.specs.declared.Grouped.{Grouped}
-use Rattle.hy_bound.specs.declared.Reply.TheVariants.{Rows, Value as Total, Groups, Inserted, Duplicate, Updated, Deleted}
+use Rattle.hy_bound.specs.declared.Reply.TheVariants.{Rows, Value as Total, Groups, Inserted, Duplicate, Updated, Deleted, Saved, Back, Released}
 use Rattle.hy_value.specs.declared.change.Change.{Change}
 use Rattle.hy_render.specs.declared.Names.{Names}
 use Rattle.hy_bound.specs.declared.Ending.{Ending}
@@ -66,6 +66,9 @@ IsPrintedReply Inserted = Unit {0}
 IsPrintedReply Duplicate = Unit {0}
 IsPrintedReply (Updated count) = IsPrinted count
 IsPrintedReply (Deleted count) = IsPrinted count
+IsPrintedReply Saved = Unit {0}
+IsPrintedReply Back = Unit {0}
+IsPrintedReply Released = Unit {0}
 
 -- a label's session has a name
 pub record IsNamedLabel (names : Names) (label : Label) : Type 0 where

@@ -7,7 +7,7 @@ use Rattle.hy_value.specs.Print.{printed, printed_row}
 use Rattle.hy_stamp.specs.declared.Label.{Label}
 use Rattle.hy_bound.specs.declared.Reply.{Reply}
 use Rattle.hy_bound.specs.declared.Grouped.{Grouped}
-use Rattle.hy_bound.specs.declared.Reply.TheVariants.{Rows, Value as Total, Groups, Inserted, Duplicate, Updated, Deleted}
+use Rattle.hy_bound.specs.declared.Reply.TheVariants.{Rows, Value as Total, Groups, Inserted, Duplicate, Updated, Deleted, Saved, Back, Released}
 use Rattle.hy_value.specs.declared.change.Change.{Change}
 use Rattle.hy_render.specs.declared.Names.{Names}
 use Rattle.hy_bound.specs.declared.Ending.{Ending}
@@ -43,7 +43,7 @@ row_line row = line (codes "row " ++ printed_row row)
 abbrev pub group_line : Grouped → List ℕ
 group_line group = line (codes "group " ++ printed group.value ++ (124 ∷ []) ++ signed_decimal group.total)
 
--- what a SELECT shows, what an INSERT came to, how many rows an UPDATE selected or a DELETE removed
+-- what a SELECT shows, what an INSERT came to, how many rows an UPDATE selected or a DELETE removed, what became of a savepoint
 abbrev pub reply_text : Reply → List ℕ
 reply_text (Rows rows) = line (codes "rows " ++ decimal (length rows)) ++ flat_map row_line rows
 reply_text (Total total) = line (codes "value " ++ signed_decimal total)
@@ -52,6 +52,9 @@ reply_text Inserted = line (codes "inserted")
 reply_text Duplicate = line (codes "duplicate")
 reply_text (Updated count) = line (codes "updated " ++ decimal count)
 reply_text (Deleted count) = line (codes "deleted " ++ decimal count)
+reply_text Saved = line (codes "saved")
+reply_text Back = line (codes "back")
+reply_text Released = line (codes "released")
 
 abbrev pub ending_text : Names → Ending → List ℕ
 ending_text names (Committed rank) = codes "committed " ++ decimal rank

@@ -274,6 +274,9 @@ fn print_reply(reply: &Reply, out: &mut Vec<u8>) -> Result<(), AllocError>
         Reply::Duplicate => print_line(b"duplicate", out),
         Reply::Updated(count) => print_changed(b"updated ", *count, out),
         Reply::Deleted(count) => print_changed(b"deleted ", *count, out),
+        Reply::Saved => print_line(b"saved", out),
+        Reply::Back => print_line(b"back", out),
+        Reply::Released => print_line(b"released", out),
     }
 }
 

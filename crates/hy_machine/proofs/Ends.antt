@@ -11,10 +11,10 @@ use Rattle.hy_machine.specs.declared.Setting.{Setting}
 use Rattle.hy_protocol.specs.declared.Phase.{Phase}
 use Rattle.hy_protocol.specs.declared.Phase.TheVariants.{Stamping}
 use Rattle.hy_machine.specs.States.{State, Session, Finished, Open}
-use Rattle.hy_protocol.specs.Turns.{Turn, Done, Waits, Begins, Visits, Answers, Enters, Ends, unless_blocked, is_stamping}
+use Rattle.hy_protocol.specs.Turns.{Turn, Done, Waits, Begins, Visits, Answers, Saves, Enters, Ends, unless_blocked, is_stamping}
 use Rattle.hy_machine.specs.Turns.{turn, phase_turn, session_turn}
 use Rattle.hy_machine.specs.Sessions.{fresh, session_at, program_of, txn_at, has_ended, blocker_of, blocker}
-use Rattle.hy_machine.specs.Steps.{after_turn, step_of, with_open, beginning, after_visit, after_answer, with_changed, with_ended}
+use Rattle.hy_machine.specs.Steps.{after_turn, step_of, with_open, beginning, after_visit, after_answer, after_saving, with_changed, with_ended}
 use Rattle.hy_machine.specs.Measures.{later_left, txns_left, steps_left, all_left, measure_of}
 use Rattle.hy_machine.specs.Runs.{is_moved, moves, whole_of, round_from, round_of, all_ended_from, repeated, opening_of, items_of, RunsEnd}
 use Rattle.hy_machine.proofs.Falls.{IsActing, phase_falls, drop_at, left_is, session_set, whole_first}
@@ -30,6 +30,7 @@ IsIdle (Waits by) = Unit {0}
 IsIdle Begins = ⊥
 IsIdle (Visits writes phase) = ⊥
 IsIdle (Answers writes reply took records) = ⊥
+IsIdle (Saves statement reply) = ⊥
 IsIdle Enters = ⊥
 IsIdle (Ends how) = ⊥
 
@@ -40,6 +41,7 @@ idle_stays setting state number (Waits by) i = (refl, refl)
 idle_stays setting state number Begins i = absurd i
 idle_stays setting state number (Visits writes phase) i = absurd i
 idle_stays setting state number (Answers writes reply took records) i = absurd i
+idle_stays setting state number (Saves statement reply) i = absurd i
 idle_stays setting state number Enters i = absurd i
 idle_stays setting state number (Ends how) i = absurd i
 
@@ -49,6 +51,7 @@ idle_or_acting by phase (Waits other) f = inl tt
 idle_or_acting by phase Begins f = absurd f
 idle_or_acting by phase (Visits writes next) f = inr tt
 idle_or_acting by phase (Answers writes reply took records) f = inr tt
+idle_or_acting by phase (Saves statement reply) f = inr tt
 idle_or_acting by phase Enters f = inr tt
 idle_or_acting by phase (Ends how) f = inr tt
 
@@ -121,6 +124,7 @@ put_by setting state number (Waits by) = (session_at state number, sym (set-get_
 put_by setting state number Begins = (with_open (beginning setting state) (session_at state number), refl)
 put_by setting state number (Visits writes phase) = (with_changed (after_visit writes phase) (session_at state number), refl)
 put_by setting state number (Answers writes reply took records) = (with_changed (after_answer writes reply took records) (session_at state number), refl)
+put_by setting state number (Saves statement reply) = (with_changed (after_saving statement reply) (session_at state number), refl)
 put_by setting state number Enters = (with_changed (after_visit [] (Stamping 0)) (session_at state number), refl)
 put_by setting state number (Ends how) = (with_ended how (session_at state number), refl)
 
@@ -242,6 +246,7 @@ waits_why by phase Done f i = absurd f
 waits_why by phase Begins f i = absurd i
 waits_why by phase (Visits writes next) f i = absurd i
 waits_why by phase (Answers writes reply took records) f i = absurd i
+waits_why by phase (Saves statement reply) f i = absurd i
 waits_why by phase Enters f i = absurd i
 waits_why by phase (Ends how) f i = absurd i
 

@@ -1,14 +1,14 @@
 -- A step that goes on brings its session nearer to its end.
-use Rattle.std.proofs.Common.{◌≡◌, ℕ, ◌+◌, ◌-◌, ◌*◌, ◌<◌, ◌≤◌, List, [], ◌∷◌, ◌++◌, length, drop, get_or, refl, ap, ◌∙◌, sym, arith, zero, suc, Option, None, Some, Bool, true, cond, inl, inr}
-use Rattle.std.proofs.Math.ListN.{set}
+use Rattle.std.proofs.Common.{◌≡◌, ℕ, ◌+◌, ◌-◌, ◌<◌, ◌≤◌, List, [], ◌∷◌, ◌++◌, length, drop, refl, ap, ◌∙◌, sym, arith, zero, suc, Option, None, Some, true, cond, inl, inr}
 use Rattle.std.specs.Prelude.{slice_get}
-use Rattle.std.specs.List.{filter, range_with_len}
 use Rattle.std.proofs.lemmas.Bool.{cases_Bool, cases_lt}
-use Rattle.std.proofs.lemmas.List.{length-append, length-map, length-set, get_or-set_same, get_or_past}
-use Rattle.std.proofs.lemmas.Option.{same_Some, none-some}
+use Rattle.std.proofs.lemmas.List.{length-append, get_or-set_same, get_or_past}
+use Rattle.std.proofs.lemmas.Option.{same_Some, none-some, slice_get_within}
 use Rattle.hy_bound.specs.declared.Txn.{Txn}
 use Rattle.hy_bound.specs.declared.Bound.{Bound}
-use Rattle.hy_bound.specs.declared.Bound.TheVariants.{Select, Group, Insert, Update, Delete}
+use Rattle.hy_bound.specs.declared.Bound.TheVariants.{Select, Group, Insert, Update, Delete, Savepoint, RollbackTo, Release}
+use Rattle.hy_bound.specs.declared.Reply.{Reply}
+use Rattle.hy_bound.specs.declared.Reply.TheVariants.{Saved, Back, Released}
 use Rattle.hy_bound.specs.Records.{shape_of}
 use Rattle.hy_stamp.specs.declared.Label.{Label}
 use Rattle.hy_bound.specs.declared.Ending.{Ending}
@@ -17,39 +17,50 @@ use Rattle.hy_machine.specs.declared.Setting.{Setting}
 use Rattle.hy_protocol.specs.declared.Phase.{Phase}
 use Rattle.hy_protocol.specs.declared.Phase.TheVariants.{Working, Stamping, Undoing}
 use Rattle.hy_machine.specs.States.{State, Session, Finished, Open, Begun}
-use Rattle.hy_machine.specs.Writes.{Write, with_write, with_writes, chunks_in_table, chunks_from, written_chunks, has_written_in}
-use Rattle.hy_protocol.specs.Turns.{Turn, Done, Waits, Begins, Visits, Answers, Enters, Ends}
-use Rattle.hy_machine.specs.Tables.{Own}
+use Rattle.hy_machine.specs.Writes.{Write, with_writes, written_chunks}
+use Rattle.hy_machine.specs.Saving.{written_since}
+use Rattle.hy_protocol.specs.Turns.{Turn, Done, Waits, Begins, Visits, Answers, Saves, Enters, Ends}
 use Rattle.hy_machine.specs.Sessions.{fresh, session_at, program_of, txn_at, blocker}
 use Rattle.hy_protocol.specs.declared.Progress.TheVariants.{Ended}
 use Rattle.hy_machine.specs.Runs.{is_moved, moves, whole_of}
 use Rattle.hy_machine.specs.Visits.{visits_of, checks_of}
 use Rattle.hy_protocol.specs.Turns.{unless_blocked}
 use Rattle.hy_machine.specs.Turns.{statement_turn, phase_turn, session_turn}
-use Rattle.hy_machine.specs.Steps.{with_session, after_turn, step_of, after_visit, after_answer, with_changed, with_ended}
-use Rattle.hy_machine.specs.TurnCases.{StatementCases, UndoCases, CommitCases, statement_cases, undo_cases, stamp_cases, working_cases}
+use Rattle.hy_machine.specs.Steps.{with_session, after_turn, step_of, after_visit, after_answer, after_saving, with_changed, with_ended}
+use Rattle.hy_machine.specs.TurnCases.{StatementCases, SaveCases, UndoCases, CommitCases, statement_cases, undo_cases, stamp_cases, working_cases}
+use Rattle.hy_machine.specs.ChunkCounts.{chunks_few, with_writes_length, since_few}
 use Rattle.hy_machine.specs.Measures.{parts_of, open_left, later_left, txns_left, steps_left}
+
+-- ---- how many chunks may be written
+
+written_few : (setting : Setting) (begun : Begun) → length (written_chunks setting begun.own) ≤ parts_of setting begun
+written_few setting begun = chunks_few setting 0 begun.own
 
 -- ---- what a statement's turn may be
 
--- it goes on in its statement, is refused, or answers
-abbrev pub Advances : ℕ → ℕ → Turn Write → Type 0
-Advances visited most Done = ⊥
-Advances visited most (Waits by) = ⊥
-Advances visited most Begins = ⊥
-Advances visited most (Visits writes (Working next count)) = (next ≡ suc visited) × (visited < most)
-Advances visited most (Visits writes (Stamping next)) = ⊥
-Advances visited most (Visits writes (Undoing next cause)) = next ≡ 0
-Advances visited most (Answers writes reply took records) = Unit {0}
-Advances visited most Enters = ⊥
-Advances visited most (Ends ending) = ⊥
+-- it goes on in its statement, is refused, answers, or waits for the transaction that blocks it, if one does
+abbrev pub Advances : Option Label → ℕ → ℕ → Turn Write → Type 0
+Advances by visited most Done = ⊥
+Advances by visited most (Waits other) = by ≡ Some other
+Advances by visited most Begins = ⊥
+Advances by visited most (Visits writes (Working next count)) = (next ≡ suc visited) × (visited < most)
+Advances by visited most (Visits writes (Stamping next)) = ⊥
+Advances by visited most (Visits writes (Undoing next cause)) = next ≡ 0
+Advances by visited most (Answers writes reply took records) = Unit {0}
+Advances by visited most (Saves statement reply) = Unit {0}
+Advances by visited most Enters = ⊥
+Advances by visited most (Ends ending) = ⊥
+
+saving_advances : (state : State) (number visited most : ℕ) (statement : Bound) (reply : Reply)
+    → SaveCases state number (Advances (blocker state number) visited most) statement reply
+saving_advances state number visited most statement reply = record { waits = λ by is. is; saves = λ free. tt }
 
 few_checks : (setting : Setting) (key : Option ℕ) → checks_of setting key ≤ setting.chunks
 few_checks setting None = omega arith
 few_checks setting (Some key) = omega arith
 
 advances_in : (setting : Setting) (state : State) (number : ℕ) (begun : Begun) (visited count : ℕ) (statement : Bound)
-    → StatementCases setting state number begun (Advances visited (visits_of setting statement)) visited count statement
+    → StatementCases setting state number begun (Advances (blocker state number) visited (visits_of setting statement)) visited count statement
 advances_in setting state number begun visited count (Select tables ons pred items) = record { goes = λ few. (refl, omega (arith, few)); ends = tt }
 advances_in setting state number begun visited count (Group table pred key aggregate) = record { goes = λ few. (refl, omega (arith, few)); ends = tt }
 advances_in setting state number begun visited count (Insert table row) =
@@ -64,41 +75,18 @@ advances_in setting state number begun visited count (Update table sets pred) =
     record { out = λ cause e. refl; goes = λ writes e few. (refl, omega (arith, few)); ends = λ writes e. tt }
 advances_in setting state number begun visited count (Delete table pred) =
     record { out = λ cause e. refl; goes = λ writes e few. (refl, omega (arith, few)); ends = λ writes e. tt }
+advances_in setting state number begun visited count (Savepoint name) = saving_advances state number visited 1 (Savepoint name) Saved
+advances_in setting state number begun visited count (RollbackTo name) = record {
+  goes = λ chunk e. (refl, omega (arith, since_few setting begun name, slice_get_within (written_since setting begun name) visited chunk e));
+  ends = λ none. saving_advances state number visited (visits_of setting (RollbackTo name)) (RollbackTo name) Back;
+}
+advances_in setting state number begun visited count (Release name) = saving_advances state number visited 1 (Release name) Released
 
 pub statement_advances : (setting : Setting) (state : State) (number : ℕ) (begun : Begun) (visited count : ℕ) (statement : Bound)
-    → Advances visited (visits_of setting statement) (statement_turn setting state number begun visited count statement)
+    → Advances (blocker state number) visited (visits_of setting statement) (statement_turn setting state number begun visited count statement)
 statement_advances setting state number begun visited count statement =
-    statement_cases setting state number begun (Advances visited (visits_of setting statement)) visited count statement
+    statement_cases setting state number begun (Advances (blocker state number) visited (visits_of setting statement)) visited count statement
     (advances_in setting state number begun visited count statement)
-
--- ---- how many chunks may be written
-
-filter_few : {A : Type 0} (p : A → Bool) (xs : List A) → length (filter p xs) ≤ length xs
-filter_few p [] = omega arith
-filter_few p (x ∷ xs) = elim (cases_Bool (p x)) [
-  | inl t ↦ rw t (omega (arith, filter_few p xs))
-  | inr f ↦ rw f (omega (arith, filter_few p xs))
-]
-
-range_length : (a n : ℕ) → length (range_with_len a n) ≡ n
-range_length a zero = refl
-range_length a (suc n) = ap suc (range_length (a + 1) n)
-
-chunks_few : (setting : Setting) (table : ℕ) (own : Own) → length (chunks_from setting table own) ≤ setting.chunks * length own
-chunks_few setting table [] = omega arith
-chunks_few setting table (cells ∷ own) =
-    let one : length (chunks_in_table setting table cells) ≤ setting.chunks =
-    rw (length-map {B = ℕ × ℕ} (filter (has_written_in setting cells) (range_with_len 0 setting.chunks)) (λ (chunk : ℕ). (table, chunk)))
-    (omega (arith, filter_few (has_written_in setting cells) (range_with_len 0 setting.chunks), range_length 0 setting.chunks)) in
-    let rest = chunks_few setting (suc table) own in
-    rw (length-append (chunks_in_table setting table cells) (chunks_from setting (suc table) own)) (grind (arith, one, rest))
-
-written_few : (setting : Setting) (begun : Begun) → length (written_chunks setting begun.own) ≤ parts_of setting begun
-written_few setting begun = chunks_few setting 0 begun.own
-
-with_writes_length : (own : Own) (writes : List Write) → length (with_writes own writes) ≡ length own
-with_writes_length own [] = refl
-with_writes_length own (write ∷ writes) = with_writes_length (with_write own write) writes ∙ length-set own write.table (set (get_or own write.table []) write.pos (Some write.cell))
 
 -- ---- what is left after a turn of an open transaction
 
@@ -110,6 +98,8 @@ left_after setting txn begun rest Begins = 0
 left_after setting txn begun rest (Visits writes phase) = open_left setting txn (record begun { own = with_writes begun.own writes }) phase + rest
 left_after setting txn begun rest (Answers writes reply took records) =
     open_left setting txn (after_answer writes reply took records (record { begun = begun; phase = Working 0 0 })).begun (Working 0 0) + rest
+left_after setting txn begun rest (Saves statement reply) =
+    open_left setting txn (after_saving statement reply (record { begun = begun; phase = Working 0 0 })).begun (Working 0 0) + rest
 left_after setting txn begun rest Enters = open_left setting txn begun (Stamping 0) + rest
 left_after setting txn begun rest (Ends ending) = rest
 
@@ -120,6 +110,7 @@ IsActing (Waits by) = ⊥
 IsActing Begins = ⊥
 IsActing (Visits writes phase) = Unit {0}
 IsActing (Answers writes reply took records) = Unit {0}
+IsActing (Saves statement reply) = Unit {0}
 IsActing Enters = Unit {0}
 IsActing (Ends ending) = Unit {0}
 
@@ -128,27 +119,32 @@ drop_at [] n x e = absurd (cc e)
 drop_at (y ∷ ys) zero x e = ap (λ z. z ∷ ys) (same_Some y x e)
 drop_at (y ∷ ys) (suc n) x e = drop_at ys n x e
 
-advance_falls : (setting : Setting) (txn : Txn) (begun : Begun) (visited count rest : ℕ) (statement : Bound) (turn : Turn Write) → slice_get txn.statements (length begun.replies) ≡ Some statement
-    → Advances visited (visits_of setting statement) turn → left_after setting txn begun rest turn < open_left setting txn begun (Working visited count) + rest
-advance_falls setting txn begun visited count rest statement (Visits writes (Working next more)) e a =
-    let left = drop_at txn.statements (length begun.replies) statement e in
-    rw (left, with_writes_length begun.own writes, a.0) (omega (arith, a.1))
-advance_falls setting txn begun visited count rest statement (Visits writes (Undoing next cause)) e a =
-    rw (with_writes_length begun.own writes) (omega (arith, a))
-advance_falls setting txn begun visited count rest statement (Answers writes reply took records) e a =
-    let left = drop_at txn.statements (length begun.replies) statement e in
-    let one : length (begun.replies ++ reply ∷ []) ≡ suc (length begun.replies) = omega (arith, length-append begun.replies (reply ∷ [])) in
-    rw (left, with_writes_length begun.own writes, one) (omega arith)
-advance_falls setting txn begun visited count rest statement Done e a = absurd a
-advance_falls setting txn begun visited count rest statement (Waits by) e a = absurd a
-advance_falls setting txn begun visited count rest statement Begins e a = absurd a
-advance_falls setting txn begun visited count rest statement (Visits writes (Stamping next)) e a = absurd a
-advance_falls setting txn begun visited count rest statement Enters e a = absurd a
-advance_falls setting txn begun visited count rest statement (Ends how) e a = absurd a
-
 -- a turn that changes something leaves less than so many steps and the rest
 abbrev FallsBelow : Setting → Txn → Begun → ℕ → ℕ → Turn Write → Type 0
 FallsBelow setting txn begun rest bound turn = IsActing turn → left_after setting txn begun rest turn < bound + rest
+
+advance_falls : (setting : Setting) (txn : Txn) (begun : Begun) (by : Option Label) (visited count rest : ℕ) (statement : Bound) (turn : Turn Write)
+    → slice_get txn.statements (length begun.replies) ≡ Some statement → Advances by visited (visits_of setting statement) turn
+    → FallsBelow setting txn begun rest (open_left setting txn begun (Working visited count)) turn
+advance_falls setting txn begun by visited count rest statement (Visits writes (Working next more)) e a acts =
+    let left = drop_at txn.statements (length begun.replies) statement e in
+    rw (left, with_writes_length begun.own writes, a.0) (omega (arith, a.1))
+advance_falls setting txn begun by visited count rest statement (Visits writes (Undoing next cause)) e a acts =
+    rw (with_writes_length begun.own writes) (omega (arith, a))
+advance_falls setting txn begun by visited count rest statement (Answers writes reply took records) e a acts =
+    let left = drop_at txn.statements (length begun.replies) statement e in
+    let one : length (begun.replies ++ reply ∷ []) ≡ suc (length begun.replies) = omega (arith, length-append begun.replies (reply ∷ [])) in
+    rw (left, with_writes_length begun.own writes, one) (omega arith)
+advance_falls setting txn begun by visited count rest statement (Saves saving reply) e a acts =
+    let left = drop_at txn.statements (length begun.replies) statement e in
+    let one : length (begun.replies ++ reply ∷ []) ≡ suc (length begun.replies) = omega (arith, length-append begun.replies (reply ∷ [])) in
+    rw (left, one) (omega arith)
+advance_falls setting txn begun by visited count rest statement Done e a acts = absurd a
+advance_falls setting txn begun by visited count rest statement (Waits other) e a acts = absurd acts
+advance_falls setting txn begun by visited count rest statement Begins e a acts = absurd a
+advance_falls setting txn begun by visited count rest statement (Visits writes (Stamping next)) e a acts = absurd a
+advance_falls setting txn begun by visited count rest statement Enters e a acts = absurd a
+advance_falls setting txn begun by visited count rest statement (Ends how) e a acts = absurd a
 
 undo_falls : (setting : Setting) (state : State) (number : ℕ) (txn : Txn) (begun : Begun) (visited rest bound : ℕ) (cause : Ending)
     → suc (parts_of setting begun - visited) ≤ bound → UndoCases setting state number begun (FallsBelow setting txn begun rest bound) visited cause
@@ -172,7 +168,7 @@ pub phase_falls : (setting : Setting) (state : State) (number : ℕ) (txn : Txn)
 phase_falls setting state number txn begun (Working visited count) rest =
     let most : ℕ = open_left setting txn begun (Working visited count) in
     working_cases setting state number begun (FallsBelow setting txn begun rest most) txn visited count
-    (λ statement e a. advance_falls setting txn begun visited count rest statement (statement_turn setting state number begun visited count statement) e
+    (λ statement e. advance_falls setting txn begun (blocker state number) visited count rest statement (statement_turn setting state number begun visited count statement) e
     (statement_advances setting state number begun visited count statement))
     (λ none commits. commit_falls setting state number txn begun rest most (omega arith))
     (λ none rolls. undo_falls setting state number txn begun 0 rest most RolledBack (omega arith))
@@ -207,6 +203,10 @@ left_is setting state number done current txn txns (Visits writes phase) l s d a
 left_is setting state number done current txn txns (Answers writes reply took records) l s d a =
     ap (steps_left setting number) (session_set state number (with_changed (after_answer writes reply took records) (session_at state number)) l ∙ ap (with_changed (after_answer writes reply took records)) s)
     ∙ ap (txns_left setting (Some (after_answer writes reply took records current))) d
+left_is setting state number done current txn txns (Saves statement reply) l s d a =
+    ap (steps_left setting number) (session_set state number (with_changed (after_saving statement reply) (session_at state number)) l
+    ∙ ap (with_changed (after_saving statement reply)) s)
+    ∙ ap (txns_left setting (Some (after_saving statement reply current))) d
 left_is setting state number done current txn txns Enters l s d a =
     ap (steps_left setting number) (session_set state number (with_changed (after_visit [] (Stamping 0)) (session_at state number)) l ∙ ap (with_changed (after_visit [] (Stamping 0))) s)
     ∙ ap (txns_left setting (Some (after_visit [] (Stamping 0) current))) d
@@ -224,6 +224,7 @@ moved_acts setting state number (Waits by) e = absurd (cc e)
 moved_acts setting state number Begins e = absurd (cc e)
 moved_acts setting state number (Visits writes phase) e = tt
 moved_acts setting state number (Answers writes reply took records) e = tt
+moved_acts setting state number (Saves statement reply) e = absurd (cc e)
 moved_acts setting state number Enters e = tt
 moved_acts setting state number (Ends how) e = tt
 

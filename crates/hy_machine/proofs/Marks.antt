@@ -13,12 +13,12 @@ use Rattle.hy_machine.specs.declared.Setting.{Setting}
 use Rattle.hy_protocol.specs.declared.Phase.{Phase}
 use Rattle.hy_protocol.specs.declared.Phase.TheVariants.{Working, Stamping, Undoing}
 use Rattle.hy_machine.specs.States.{State, Session, Finished, Open, Begun}
-use Rattle.hy_protocol.specs.Turns.{Turn, Done, Waits, Begins, Visits, Answers, Enters, Ends, unless_blocked, is_stamping}
+use Rattle.hy_protocol.specs.Turns.{Turn, Done, Waits, Begins, Visits, Answers, Saves, Enters, Ends, unless_blocked, is_stamping}
 use Rattle.hy_machine.specs.Writes.{Write}
 use Rattle.hy_machine.specs.Sessions.{fresh, session_at, program_of, txn_at, blocker_of, blocker}
 use Rattle.hy_machine.specs.Visits.{visits_of}
 use Rattle.hy_machine.specs.Turns.{statement_turn, phase_turn, session_turn}
-use Rattle.hy_machine.specs.Steps.{after_turn, step_of, with_open, beginning, after_visit, after_answer, with_changed, with_ended}
+use Rattle.hy_machine.specs.Steps.{after_turn, step_of, with_open, beginning, after_visit, after_answer, after_saving, with_changed, with_ended}
 use Rattle.hy_machine.specs.Runs.{opening_of, after_steps}
 use Rattle.hy_machine.specs.TurnCases.{UndoCases, undo_cases, stamp_cases, working_cases}
 use Rattle.hy_machine.proofs.Falls.{Advances, statement_advances}
@@ -56,15 +56,17 @@ Follows by phase (Waits other) = (by ≡ Some other) × (is_stamping phase ≡ f
 Follows by phase Begins = ⊥
 Follows by phase (Visits writes next) = is_stamping next ≡ is_stamping phase
 Follows by phase (Answers writes reply took records) = is_stamping phase ≡ false
+Follows by phase (Saves statement reply) = is_stamping phase ≡ false
 Follows by phase Enters = by ≡ None
 Follows by phase (Ends how) = is_stamping phase ≡ false → by ≡ None
 
-advance_follows : (by : Option Label) (visited count most : ℕ) (turn : Turn Write) → Advances visited most turn → Follows by (Working visited count) turn
+advance_follows : (by : Option Label) (visited count most : ℕ) (turn : Turn Write) → Advances by visited most turn → Follows by (Working visited count) turn
 advance_follows by visited count most (Visits writes (Working next more)) a = refl
 advance_follows by visited count most (Visits writes (Undoing next cause)) a = refl
 advance_follows by visited count most (Answers writes reply took records) a = refl
+advance_follows by visited count most (Saves statement reply) a = refl
+advance_follows by visited count most (Waits other) a = (a, refl)
 advance_follows by visited count most Done a = absurd a
-advance_follows by visited count most (Waits other) a = absurd a
 advance_follows by visited count most Begins a = absurd a
 advance_follows by visited count most (Visits writes (Stamping next)) a = absurd a
 advance_follows by visited count most Enters a = absurd a
@@ -155,6 +157,11 @@ kept_open setting state number done current (Answers writes reply took records) 
     kept_by setting state (after_turn setting state number (Answers writes reply took records)).0 number
     (record { done = done; now = Some (after_answer writes reply took records current) }) k l
     (ap (λ (one : Session). set state.sessions number (with_changed (after_answer writes reply took records) one)) s) w
+    (sym f ∙ (ap (λ (one : Session). has_entered one.now) (sym s) ∙ k.marks number)) (λ other n. refl)
+kept_open setting state number done current (Saves statement reply) k l s w f =
+    kept_by setting state (after_turn setting state number (Saves statement reply)).0 number
+    (record { done = done; now = Some (after_saving statement reply current) }) k l
+    (ap (λ (one : Session). set state.sessions number (with_changed (after_saving statement reply) one)) s) w
     (sym f ∙ (ap (λ (one : Session). has_entered one.now) (sym s) ∙ k.marks number)) (λ other n. refl)
 kept_open setting state number done current Enters k l s w f =
     kept_by setting state (after_turn setting state number Enters).0 number (record { done = done; now = Some (after_visit [] (Stamping 0) current) }) k l

@@ -1,11 +1,14 @@
 -- What is taken of the machine alone: it holds of every state that the machine comes to.
-use Rattle.std.specs.Prelude.{◌≡◌, ◌≢◌, ◌⊎◌, ℕ, suc, ◌+◌, ◌-◌, ◌*◌, ◌<◌, ◌≤◌, true, false, Option, None, Some, is_some, slice_get, length}
+use Rattle.std.specs.Prelude.{◌≡◌, ◌≢◌, ◌⊎◌, ℕ, suc, ◌+◌, ◌-◌, ◌*◌, ◌<◌, ◌≤◌, true, false, List, Option, None, Some, is_some, slice_get, length, take}
 use Rattle.std.specs.List.{AllByRecursion}
 use Rattle.hy_stamp.specs.declared.Label.{Label}
 use Rattle.hy_bound.specs.declared.Txn.{Txn}
 use Rattle.hy_bound.specs.declared.Bound.{Bound}
-use Rattle.hy_bound.specs.declared.Bound.TheVariants.{Select, Group, Insert, Update, Delete}
+use Rattle.hy_bound.specs.declared.Bound.TheVariants.{Select, Group, Insert, Update, Delete, Savepoint, RollbackTo, Release}
+use Rattle.hy_value.specs.declared.Value.{Value}
+use Rattle.hy_bound.specs.Predicate.{column_of}
 use Rattle.hy_bound.specs.Records.{shape_of}
+use Rattle.hy_bound.specs.Savepoints.{Saved}
 use Rattle.hy_bound.specs.declared.Ending.TheVariants.{Committed}
 use Rattle.hy_machine.specs.declared.Setting.{Setting}
 use Rattle.hy_protocol.specs.declared.Phase.{Phase}
@@ -14,7 +17,7 @@ use Rattle.hy_protocol.specs.Turns.{is_stamping}
 use Rattle.hy_machine.specs.States.{State, Open, Begun, Finished}
 use Rattle.hy_machine.specs.Tables.{Entry, Own, capacity}
 use Rattle.hy_machine.specs.Positions.{item_at}
-use Rattle.hy_machine.specs.Writes.{written_chunks}
+use Rattle.hy_machine.specs.Writes.{blank_own, with_writes, written_chunks}
 use Rattle.hy_machine.specs.Sessions.{session_at, program_of, txn_at, label_of, snapshot, pair_of}
 use Rattle.hy_machine.specs.Holding.{holds, has_pair}
 use Rattle.hy_machine.specs.Visits.{checks_of}
@@ -43,14 +46,23 @@ pub record OwnFits (setting : Setting) (own : Own) : Type 0 where
   pub tables : length own ≡ length setting.first
   pub positions : AllByRecursion (λ cells. length cells ≡ capacity setting) own
 
+-- what a transaction wrote is what its writes come to, one after another, and each savepoint was made behind some of them
+pub record TrailFits (setting : Setting) (begun : Begun) : Type 0 where
+  pub own_is : begun.own ≡ with_writes (blank_own setting) begun.trail
+  pub within : AllByRecursion (λ (one : Saved ℕ). one.was ≤ length begun.trail) begun.saved
+
 -- how many visits a statement has, if it is answered by none before the last: an INSERT into a table that has a key checks
--- each chunk for it, and then looks for a free position
+-- each chunk for it, and then looks for a free position; a ROLLBACK TO is answered
+-- after the chunks that it takes back
 abbrev pub visits_in : Setting → Bound → ℕ
 visits_in setting (Select tables ons pred items) = setting.chunks * length tables
 visits_in setting (Group table pred key aggregate) = setting.chunks
 visits_in setting (Insert table row) = checks_of setting (shape_of setting.shapes table).key + setting.chunks
 visits_in setting (Update table sets pred) = setting.chunks
 visits_in setting (Delete table pred) = setting.chunks
+visits_in setting (Savepoint name) = 1
+visits_in setting (RollbackTo name) = suc (setting.chunks * length setting.first)
+visits_in setting (Release name) = 1
 
 -- a transaction at work has answered at most its statements; of the present one no visit is done, or some but not all
 pub record WorkFits (setting : Setting) (txn : Txn) (begun : Begun) (visited : ℕ) : Type 0 where
@@ -68,6 +80,7 @@ PhaseFits setting (Some txn) begun (Undoing visited cause) = visited ≤ length 
 
 pub record OpenFits (setting : Setting) (state : State) (number : ℕ) (current : Open) : Type 0 where
   pub own : OwnFits setting current.begun.own
+  pub trail : TrailFits setting current.begun
   pub took : length current.begun.took ≡ length current.begun.replies
   pub phase : PhaseFits setting (txn_at setting number (session_at state number)) current.begun current.phase
 
@@ -135,6 +148,14 @@ abbrev pub BornEmpty : Setting → State → Type 0
 BornEmpty setting state = (rank : ℕ) (begun : Begun) → IsAtOrOpen state rank begun → (table pos : ℕ) → is_some (item_at begun.own table pos) ≡ true
     → item_at (snapshot setting state begun.prefix) table pos ≡ None
     → (at : ℕ) → begun.low ≤ at → at ≤ begun.prefix → item_at (snapshot setting state at) table pos ≡ None
+
+-- where an open transaction has written a row at a position that had a row at its start, the two have the same key; so it was when it
+-- had written less
+abbrev pub KeysStay : Setting → State → Type 0
+KeysStay setting state = (number : ℕ) (current : Open) → IsNow state number current → (count table pos column : ℕ) (row new : List Value)
+    → (shape_of setting.shapes table).key ≡ Some column → item_at (snapshot setting state current.begun.prefix) table pos ≡ Some row
+    → item_at (with_writes (blank_own setting) (take count current.begun.trail)) table pos ≡ Some (Some new)
+    → column_of new column ≡ column_of row column
 
 -- ---- what is kept
 

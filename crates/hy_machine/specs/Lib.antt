@@ -6,6 +6,8 @@ pub mod Sessions
 pub mod Holding
 pub mod Validation
 pub mod Visits
+pub mod Saving
+pub mod ChunkCounts
 pub mod Turns
 pub mod TurnCases
 pub mod Steps
@@ -14,3 +16,7 @@ pub mod Measures
 pub mod Runs
 pub mod Kept
 pub mod Begun
+pub mod OwnCells
+pub mod Trails
+pub mod WrittenPlaces
+pub mod OwnChunks

@@ -4,7 +4,7 @@ use Rattle.hy_value.specs.declared.Value.{Value}
 use Rattle.hy_value.specs.Sorted.{sorted}
 use Rattle.hy_bound.specs.declared.Txn.{Txn}
 use Rattle.hy_bound.specs.declared.Bound.{Bound}
-use Rattle.hy_bound.specs.declared.Bound.TheVariants.{Select, Group, Insert, Update, Delete}
+use Rattle.hy_bound.specs.declared.Bound.TheVariants.{Select, Group, Insert, Update, Delete, Savepoint, RollbackTo, Release}
 use Rattle.hy_bound.specs.Changes.{present}
 use Rattle.hy_render.specs.declared.TxnOutcome.{TxnOutcome}
 use Rattle.hy_render.specs.declared.Outcome.{Outcome}
@@ -22,6 +22,9 @@ inserts_into table (Group other pred key aggregate) = false
 inserts_into table (Insert other row) = other == table
 inserts_into table (Update other sets pred) = false
 inserts_into table (Delete other pred) = false
+inserts_into table (Savepoint name) = false
+inserts_into table (RollbackTo name) = false
+inserts_into table (Release name) = false
 
 -- one more where a statement took a position of a table
 abbrev pub placed_by : ℕ → Bound → Option ℕ → ℕ

@@ -3,14 +3,16 @@ use Rattle.std.specs.Prelude.{ℕ, List, [], ◌∷◌, ◌++◌, Option, None, 
 use Rattle.std.specs.Option.{option_map}
 use Rattle.hy_bound.specs.declared.Record.{Record}
 use Rattle.hy_bound.specs.declared.Reply.{Reply}
+use Rattle.hy_bound.specs.declared.Bound.{Bound}
 use Rattle.hy_bound.specs.declared.Ending.{Ending}
+use Rattle.hy_bound.specs.Savepoints.{saved_after}
 use Rattle.hy_machine.specs.declared.Setting.{Setting}
 use Rattle.hy_protocol.specs.declared.Phase.{Phase}
 use Rattle.hy_protocol.specs.declared.Phase.TheVariants.{Working, Stamping}
 use Rattle.hy_machine.specs.States.{State, Session, Open, Begun, Finished}
 use Rattle.hy_machine.specs.Tables.{Entry}
-use Rattle.hy_machine.specs.Writes.{Write, blank_own, with_writes}
-use Rattle.hy_protocol.specs.Turns.{Turn, Done, Waits, Begins, Visits, Answers, Enters, Ends}
+use Rattle.hy_machine.specs.Writes.{Write, blank_own, with_writes, with_trail}
+use Rattle.hy_protocol.specs.Turns.{Turn, Done, Waits, Begins, Visits, Answers, Saves, Enters, Ends}
 use Rattle.hy_machine.specs.Turns.{turn}
 use Rattle.hy_protocol.specs.declared.Progress.{Progress}
 use Rattle.hy_protocol.specs.declared.Progress.TheVariants.{Blocked, Moved, Answered, Ended}
@@ -30,6 +32,8 @@ beginning setting state = record {
   prefix = length state.order;
   low = least_prefix (length state.order) state.sessions;
   own = blank_own setting;
+  trail = [];
+  saved = [];
   took = [];
   replies = [];
   records = [];
@@ -42,7 +46,7 @@ with_open begun session = record { done = session.done; now = Some (record { beg
 -- an open transaction after a visit that wrote this
 abbrev pub after_visit : List Write → Phase → Open → Open
 after_visit writes phase current = record {
-  begun = record current.begun { own = with_writes current.begun.own writes };
+  begun = record current.begun { own = with_writes current.begun.own writes; trail = with_trail current.begun.trail writes };
   phase = phase;
 }
 
@@ -51,12 +55,19 @@ abbrev pub after_answer : List Write → Reply → Option ℕ → List Record �
 after_answer writes reply took records current = record {
   begun = record current.begun {
     own = with_writes current.begun.own writes;
+    trail = with_trail current.begun.trail writes;
     took = current.begun.took ++ took ∷ [];
     replies = current.begun.replies ++ reply ∷ [];
     records = current.begun.records ++ records;
   };
   phase = Working 0 0;
 }
+
+-- an open transaction after its savepoints became those after a statement, which was answered so
+abbrev pub after_saving : Bound → Reply → Open → Open
+after_saving statement reply current = after_answer [] reply None [] (record current {
+  begun = record current.begun { saved = saved_after statement current.begun.saved (length current.begun.trail) };
+})
 
 -- a session whose open transaction, if it has one, is changed
 abbrev pub with_changed : (Open → Open) → Session → Session
@@ -98,6 +109,8 @@ after_turn setting state number (Visits writes phase) =
     (with_session state number (with_changed (after_visit writes phase) (session_at state number)), Moved)
 after_turn setting state number (Answers writes reply took records) =
     (with_session state number (with_changed (after_answer writes reply took records) (session_at state number)), Answered)
+after_turn setting state number (Saves statement reply) =
+    (with_session state number (with_changed (after_saving statement reply) (session_at state number)), Answered)
 after_turn setting state number Enters = (with_entry setting state number, Moved)
 after_turn setting state number (Ends ending) =
     (without_mark (with_session state number (with_ended ending (session_at state number))), Answered)

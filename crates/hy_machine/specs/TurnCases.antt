@@ -1,11 +1,12 @@
 -- What holds of the turn of an open transaction, whatever it is: it is enough that it holds of each turn that there may be.
-use Rattle.std.proofs.Common.{◌≡◌, ℕ, suc, ◌+◌, ◌-◌, ◌*◌, ◌<◌, ◌≤◌, List, [], ◌∷◌, Option, None, Some, true, false, Result, Ok, Err, length, map, drop, refl, ltb, cond}
+use Rattle.std.proofs.Common.{◌≡◌, ℕ, suc, ◌+◌, ◌-◌, ◌*◌, ◌<◌, ◌≤◌, List, [], ◌∷◌, Option, None, Some, true, false, Result, Ok, Err}
+use Rattle.std.proofs.Common.{length, map, drop, refl, ltb, cond}
 use Rattle.std.specs.Prelude.{slice_get}
 use Rattle.std.proofs.lemmas.Bool.{cond_both, ltb-true, ltb-false}
 use Rattle.hy_value.specs.declared.Value.{Value}
 use Rattle.hy_bound.specs.declared.Txn.{Txn}
 use Rattle.hy_bound.specs.declared.Bound.{Bound}
-use Rattle.hy_bound.specs.declared.Bound.TheVariants.{Select, Group, Insert, Update, Delete}
+use Rattle.hy_bound.specs.declared.Bound.TheVariants.{Select, Group, Insert, Update, Delete, Savepoint, RollbackTo, Release}
 use Rattle.hy_bound.specs.declared.Reply.{Reply}
 use Rattle.hy_bound.specs.declared.Reply.TheVariants as reply
 use Rattle.hy_bound.specs.declared.WriteKind.{WriteKind}
@@ -16,7 +17,7 @@ use Rattle.hy_stamp.specs.declared.Label.{Label}
 use Rattle.hy_bound.specs.declared.Ending.{Ending}
 use Rattle.hy_bound.specs.declared.Ending.TheVariants.{Committed, Read, RolledBack, Full}
 use Rattle.hy_protocol.specs.declared.Phase.TheVariants.{Working, Stamping, Undoing}
-use Rattle.hy_protocol.specs.Turns.{Turn, Waits, Visits, Enters, Ends, goes_on, refused, unless_blocked}
+use Rattle.hy_protocol.specs.Turns.{Turn, Waits, Visits, Saves, Enters, Ends, goes_on, refused, unless_blocked}
 use Rattle.hy_protocol.specs.Statements.{told_by}
 use Rattle.hy_protocol.specs.Closing.{validated_turn}
 use Rattle.hy_machine.specs.declared.Setting.{Setting}
@@ -25,7 +26,8 @@ use Rattle.hy_machine.specs.Writes.{Write, wrote_nothing, written_chunks}
 use Rattle.hy_machine.specs.Sessions.{blocker, view}
 use Rattle.hy_machine.specs.Validation.{committed_of, first_hit}
 use Rattle.hy_machine.specs.Visits.{swept, sees_key, free_position, checks_of}
-use Rattle.hy_machine.specs.Turns.{rows_seen, row_written, answers, read_turn, write_turn, check_turn, place_turn, insert_turn, statement_turn}
+use Rattle.hy_machine.specs.Saving.{written_since, taken_back}
+use Rattle.hy_machine.specs.Turns.{rows_seen, row_written, answers, read_turn, write_turn, check_turn, place_turn, insert_turn, back_turn, statement_turn}
 use Rattle.hy_machine.specs.Turns.{undo_turn, stamp_turn, commit_turn, working_turn}
 
 -- ---- what there may be
@@ -55,6 +57,18 @@ pub record WriteCases (setting : Setting) (begun : Begun) (P : Turn Write → Ty
   pub goes : (writes : List Write) → result ≡ Ok writes → suc visited < setting.chunks → P (Visits writes (Working (suc visited) (count + length writes)))
   pub ends : (writes : List Write) → result ≡ Ok writes → P (answers setting begun statement [] writes (told_by kind (count + length writes)) None)
 
+-- of a statement that opens or closes savepoints, which is answered so
+pub record SaveCases (state : State) (number : ℕ) (P : Turn Write → Type 0) (statement : Bound) (reply : Reply) : Type 0 where
+  pub waits : (by : Label) → blocker state number ≡ Some by → P (Waits by)
+  pub saves : blocker state number ≡ None → P (Saves statement reply)
+
+-- of a ROLLBACK TO
+pub record BackCases (setting : Setting) (state : State) (number : ℕ) (begun : Begun) (P : Turn Write → Type 0) (visited : ℕ) (name : List ℕ)
+    : Type 0 where
+  pub goes : (chunk : ℕ × ℕ) → slice_get (written_since setting begun name) visited ≡ Some chunk
+      → P (Visits (taken_back setting state begun name chunk.0 chunk.1) (Working (suc visited) 0))
+  pub ends : slice_get (written_since setting begun name) visited ≡ None → SaveCases state number P (RollbackTo name) reply.Back
+
 abbrev pub StatementCases : Setting → State → ℕ → Begun → (Turn Write → Type 0) → ℕ → ℕ → Bound → Type 0
 StatementCases setting state number begun P visited count (Select tables ons pred items) =
     ReadCases setting begun P visited (length tables) (Select tables ons pred items) (map (rows_seen (view setting state begun)) tables)
@@ -67,6 +81,9 @@ StatementCases setting state number begun P visited count (Update table sets pre
     WriteCases setting begun P visited count (Update table sets pred) (kind.Set sets) (swept setting state number begun (kind.Set sets) pred table visited)
 StatementCases setting state number begun P visited count (Delete table pred) =
     WriteCases setting begun P visited count (Delete table pred) kind.Delete (swept setting state number begun kind.Delete pred table visited)
+StatementCases setting state number begun P visited count (Savepoint name) = SaveCases state number P (Savepoint name) reply.Saved
+StatementCases setting state number begun P visited count (RollbackTo name) = BackCases setting state number begun P visited name
+StatementCases setting state number begun P visited count (Release name) = SaveCases state number P (Release name) reply.Released
 
 -- of what was undone so far, and ends so
 pub record UndoCases (setting : Setting) (state : State) (number : ℕ) (begun : Begun) (P : Turn Write → Type 0) (visited : ℕ) (cause : Ending) : Type 0 where
@@ -118,6 +135,20 @@ module _ (setting : Setting) (state : State) (number : ℕ) (begun : Begun) (P :
       (answers setting begun statement [] writes (told_by kind (count + length writes)) None) P
       (λ t. h.goes writes e (ltb-true (suc visited) setting.chunks t)) (λ f. h.ends writes e)
 
+  unless_cases : (turn : Turn Write) (by : Option Label) → ((other : Label) → by ≡ Some other → P (Waits other)) → (by ≡ None → P turn)
+      → P (unless_blocked by turn)
+  unless_cases turn None waits h = h refl
+  unless_cases turn (Some by) waits h = waits by refl
+
+  save_cases : (statement : Bound) (reply : Reply) → SaveCases state number P statement reply
+      → P (unless_blocked (blocker state number) (Saves statement reply))
+  save_cases statement reply h = unless_cases (Saves statement reply) (blocker state number) h.waits h.saves
+
+  back_cases : (visited : ℕ) (name : List ℕ) (chunk : Option (ℕ × ℕ)) → slice_get (written_since setting begun name) visited ≡ chunk
+      → BackCases setting state number begun P visited name → P (back_turn setting state number begun visited name chunk)
+  back_cases visited name None e h = save_cases (RollbackTo name) reply.Back (h.ends e)
+  back_cases visited name (Some chunk) e h = h.goes chunk e
+
   pub statement_cases : (visited count : ℕ) (statement : Bound) → StatementCases setting state number begun P visited count statement
       → P (statement_turn setting state number begun visited count statement)
   statement_cases visited count (Select tables ons pred items) h =
@@ -132,11 +163,10 @@ module _ (setting : Setting) (state : State) (number : ℕ) (begun : Begun) (P :
   statement_cases visited count (Delete table pred) h =
       let swept_there = swept setting state number begun kind.Delete pred table visited in
       write_cases visited count (Delete table pred) kind.Delete swept_there swept_there refl h
-
-  unless_cases : (turn : Turn Write) (by : Option Label) → ((other : Label) → by ≡ Some other → P (Waits other)) → (by ≡ None → P turn)
-      → P (unless_blocked by turn)
-  unless_cases turn None waits h = h refl
-  unless_cases turn (Some by) waits h = waits by refl
+  statement_cases visited count (Savepoint name) h = save_cases (Savepoint name) reply.Saved h
+  statement_cases visited count (RollbackTo name) h =
+      back_cases visited name (slice_get (written_since setting begun name) visited) refl h
+  statement_cases visited count (Release name) h = save_cases (Release name) reply.Released h
 
   pub undo_cases : (visited : ℕ) (cause : Ending) → UndoCases setting state number begun P visited cause
       → P (undo_turn setting state number begun visited cause)

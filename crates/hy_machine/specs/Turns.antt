@@ -25,6 +25,7 @@ use Rattle.hy_machine.specs.Tables.{Tables}
 use Rattle.hy_machine.specs.Sessions.{session_at, txn_at, blocker, view}
 use Rattle.hy_machine.specs.Validation.{committed_of, first_hit}
 use Rattle.hy_machine.specs.Visits.{layout_of, swept, sees_key, free_position}
+use Rattle.hy_machine.specs.Saving.{written_since, taken_back}
 
 -- ---- what a session finds out
 
@@ -57,6 +58,8 @@ found_in_chunks setting state number begun = record {
   grouped = grouped_of (view setting state begun);
   swept = swept setting state number begun;
   places = places_of setting state begun;
+  written_since = written_since setting begun;
+  taken_back = taken_back setting state begun;
 }
 
 abbrev pub found_at_core : Setting → State → ℕ → Begun → AtCore
@@ -95,10 +98,20 @@ place_turn setting begun visited chunk statement table row =
 abbrev pub insert_turn : Setting → State → Begun → ℕ → Bound → ℕ → List Value → Option ℕ → Turn Write
 insert_turn setting state begun = by_statement.insert_turn (layout_of setting) (places_of setting state begun) (length begun.replies)
 
+-- a statement that opens or closes savepoints, at the core
+abbrev pub saving_turn : Setting → State → ℕ → Begun → Bound → Turn Write
+saving_turn setting state number begun = by_statement.saving_turn (found_at_core setting state number begun)
+
+-- a visit of a ROLLBACK TO
+abbrev pub back_turn : Setting → State → ℕ → Begun → ℕ → List ℕ → Option (ℕ × ℕ) → Turn Write
+back_turn setting state number begun =
+    by_statement.back_turn (found_in_chunks setting state number begun) (found_at_core setting state number begun)
+
 -- a visit of the present statement
 abbrev pub statement_turn : Setting → State → ℕ → Begun → ℕ → ℕ → Bound → Turn Write
 statement_turn setting state number begun =
-    by_statement.statement_turn (layout_of setting) (found_in_chunks setting state number begun) (length begun.replies)
+    by_statement.statement_turn (layout_of setting) (found_in_chunks setting state number begun) (found_at_core setting state number begun)
+    (length begun.replies)
 
 -- an undo visit for each chunk that was written, and then the end
 abbrev pub undo_turn : Setting → State → ℕ → Begun → ℕ → Ending → Turn Write

@@ -1,10 +1,10 @@
 -- What a statement does in a chunk that it visits.
-use Rattle.std.specs.Prelude.{ℕ, ◌*◌, List, [], ◌∷◌, ◌++◌, Bool, false, Option, None, Some, Result, Ok, Err, find, length, if◌then◌else◌}
+use Rattle.std.specs.Prelude.{ℕ, suc, ◌*◌, List, [], ◌∷◌, ◌++◌, Bool, false, Option, None, Some, Result, Ok, Err, find, length, if◌then◌else◌}
 use Rattle.std.specs.List.{list_any}
 use Rattle.std.specs.Option.{option_map}
 use Rattle.hy_value.specs.declared.Value.{Value}
 use Rattle.hy_bound.specs.declared.Bound.{Bound}
-use Rattle.hy_bound.specs.declared.Bound.TheVariants.{Select, Group, Insert, Update, Delete}
+use Rattle.hy_bound.specs.declared.Bound.TheVariants.{Select, Group, Insert, Update, Delete, Savepoint, RollbackTo, Release}
 use Rattle.hy_bound.specs.declared.WriteKind.{WriteKind}
 use Rattle.hy_bound.specs.declared.WriteKind.TheVariants as kind
 use Rattle.hy_bound.specs.Condition.{Condition}
@@ -95,3 +95,6 @@ visits_of setting (Group table pred key aggregate) = setting.chunks
 visits_of setting (Insert table row) = 2 * setting.chunks
 visits_of setting (Update table sets pred) = setting.chunks
 visits_of setting (Delete table pred) = setting.chunks
+visits_of setting (Savepoint name) = 1
+visits_of setting (RollbackTo name) = suc (setting.chunks * length setting.first)
+visits_of setting (Release name) = 1

@@ -26,6 +26,11 @@ abbrev pub with_writes : Own → List Write → Own
 with_writes own [] = own
 with_writes own (write ∷ writes) = with_writes (with_write own write) writes
 
+-- what was written, and these writes behind it, one after another
+abbrev pub with_trail : List Write → List Write → List Write
+with_trail trail [] = trail
+with_trail trail (write ∷ writes) = with_trail (trail ++ write ∷ []) writes
+
 -- whether a transaction wrote nothing
 abbrev pub wrote_nothing : Own → Bool
 wrote_nothing own = not (list_any (list_any is_some) own)

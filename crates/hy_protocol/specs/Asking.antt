@@ -31,6 +31,10 @@ pub record InChunks (W : Type 0) : Type 0 where
   -- what an UPDATE or a DELETE writes of a table in a chunk, or how it is refused there
   pub swept : WriteKind → Condition → (table chunk : ℕ) → Result (List W) Ending
   pub places : Places W
+  -- the chunks that it wrote since its newest savepoint of a name, by table and then chunk, and what it writes in one of them to
+  -- go back to what it saw there then
+  pub written_since : List ℕ → List (ℕ × ℕ)
+  pub taken_back : List ℕ → (table chunk : ℕ) → List W
 
 -- what it finds out for itself and at the core
 pub record AtCore : Type 0 where

@@ -67,7 +67,7 @@ left_within setting h order txn begun =
     let few = length-take (length txn.replies) all in
     holds_wider ((1000 + 300 * 64000) + 100 * length answered) (1000 + 300 * 64001) (omega (arith, short, few))
     (alone_of setting.shapes answered (database_at setting order txn.start)).database
-    (alone_within setting.shapes answered (all_in_front IsModest (length txn.replies) all modest.modest) (1000 + 300 * 64000) 1
+    (alone_within setting.shapes [] answered (all_in_front IsModest (length txn.replies) all modest.modest) (1000 + 300 * 64000) 1
     (database_at setting order txn.start) begun)
 
 -- ---- none is told that a value is out of range

@@ -15,6 +15,7 @@ use Rattle.hy_value.specs.Sorted.{sorted}
 use Rattle.hy_value.specs.Sorting.{sorted_permutes}
 use Rattle.hy_bound.specs.declared.Bound.{Bound}
 use Rattle.hy_bound.specs.declared.Bound.TheVariants.{Select, Update}
+use Rattle.hy_bound.specs.Savepoints.{Saved, saved_after, value_after}
 use Rattle.hy_bound.specs.declared.Items.{Items}
 use Rattle.hy_bound.specs.declared.On.{On}
 use Rattle.hy_bound.specs.declared.Range.{Range}
@@ -24,7 +25,7 @@ use Rattle.hy_bound.specs.Condition.{Condition}
 use Rattle.hy_bound.specs.Expression.{Expression}
 use Rattle.hy_bound.specs.Predicate.{truth_of}
 use Rattle.hy_meaning.specs.Statement.{Table, Database, rows_in, updated_row, and_row, updated_rows, with_table, mean}
-use Rattle.hy_meaning.specs.Serial.{Alone, goes_on, alone_from}
+use Rattle.hy_meaning.specs.Serial.{Alone, goes_on, database_back, alone_from}
 use Rattle.hy_lawful.specs.Refusing.{goes_out}
 use Rattle.hy_bank.proofs.Updates.{Adds, set_balance}
 
@@ -152,14 +153,24 @@ after_one shapes bound total le number _ (moves amount value pred small adds) _ 
     after_update bound total le number pred rows h (updated_rows (set_balance value) pred rows)
     (rows_within bound amount value small adds pred rows h) rest later
 
+-- none of these goes back to a savepoint
+none_goes_back : (bound : ℕ) (statement : Bound) → IsModest statement → (saved : List (Saved Database)) (db : Database) → HoldsWithin bound db
+    → HoldsWithin bound (value_after database_back statement saved db)
+none_goes_back bound _ (reads tables ons pred items) saved db h = h
+none_goes_back bound _ (moves amount value pred small adds) saved db h = h
+
 -- statements that run one after another widen the bound by 100 each
-pub alone_within : (shapes : List Shape) (statements : List Bound) → AllByRecursion IsModest statements → (bound number : ℕ) (db : Database)
-    → HoldsWithin bound db → HoldsWithin (bound + 100 * length statements) (alone_from shapes number statements db).database
-alone_within shapes [] are bound number db h = holds_wider bound (bound + 100 * 0) (omega arith) db h
-alone_within shapes (statement ∷ statements) are bound number db h =
-    after_one shapes bound (bound + 100 * length (statement ∷ statements)) (omega arith) number statement are.0 db h
-    (alone_from shapes (suc number) statements) (λ after k. holds_wider ((bound + 100) + 100 * length statements) (bound + 100 * length (statement ∷ statements)) (omega arith)
-    (alone_from shapes (suc number) statements after).database (alone_within shapes statements are.1 (bound + 100) (suc number) after k))
+pub alone_within : (shapes : List Shape) (saved : List (Saved Database)) (statements : List Bound) → AllByRecursion IsModest statements
+    → (bound number : ℕ) (db : Database) → HoldsWithin bound db
+    → HoldsWithin (bound + 100 * length statements) (alone_from shapes saved number statements db).database
+alone_within shapes saved [] are bound number db h = holds_wider bound (bound + 100 * 0) (omega arith) db h
+alone_within shapes saved (statement ∷ statements) are bound number db h =
+    let rest : Database → Alone =
+    λ left. alone_from shapes (saved_after statement saved left) (suc number) statements (value_after database_back statement saved left) in
+    after_one shapes bound (bound + 100 * length (statement ∷ statements)) (omega arith) number statement are.0 db h rest
+    (λ after k. holds_wider ((bound + 100) + 100 * length statements) (bound + 100 * length (statement ∷ statements)) (omega arith) (rest after).database
+    (alone_within shapes (saved_after statement saved after) statements are.1 (bound + 100) (suc number) (value_after database_back statement saved after)
+    (none_goes_back (bound + 100) statement are.0 saved after k)))
 
 -- ---- none goes out of range
 

@@ -139,7 +139,7 @@ serial_within shapes (statements ∷ orders) are bound db h =
     let short = are.0.short in
     let one : HoldsWithin (bound + 300) (alone_of shapes statements db).database =
     holds_wider (bound + 100 * length statements) (bound + 300) (omega (arith, short)) (alone_of shapes statements db).database
-    (alone_within shapes statements are.0.modest bound 1 db h) in
+    (alone_within shapes [] statements are.0.modest bound 1 db h) in
     holds_wider ((bound + 300) + 300 * length orders) (bound + 300 * length (statements ∷ orders)) (omega arith)
     (serial shapes orders (alone_of shapes statements db).database)
     (serial_within shapes orders are.1 (bound + 300) (alone_of shapes statements db).database one)

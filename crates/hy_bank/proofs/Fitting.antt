@@ -115,6 +115,7 @@ audit_fits = record {
   few = omega arith;
   fit = All-from_recursion (FitsStatement bank_shapes) audit.statements (total_fits, tt);
   stand = All-from_recursion (MayStand true) audit.statements (tt, tt);
+  savepoints = refl;
 }
 
 transfer_fits : (parts : Transfer) → FitsTxn bank_shapes (transfer parts)
@@ -128,6 +129,7 @@ transfer_fits parts = record {
     ),
   );
   stand = All-from_recursion (MayStand false) (transfer parts).statements (tt, (refl, (refl, tt)));
+  savepoints = refl;
 }
 
 either_fits : (audits : Bool) (parts : Transfer) → FitsTxn bank_shapes (cond audits audit (transfer parts))

@@ -58,11 +58,11 @@ transfer_keeps shapes total parts source target rows h goes =
     let taken : Expression = Sub (Column 1) (Literal (int parts.amount)) in
     let given : Expression = Add (Column 1) (Literal (int parts.amount)) in
     let first = ran (of_account parts.source) 2 rows (updated_rows (set_balance taken) (of_account parts.source) rows)
-    (alone_from shapes 3 (deposit parts.amount parts.target ∷ [])) goes in
+    (alone_from shapes [] 3 (deposit parts.amount parts.target ∷ [])) goes in
     let poorer = money_sorted (total +ℤ neg_ℤ (pos parts.amount)) first.after
     (money_moved (neg_ℤ (pos parts.amount)) taken (withdrawn parts.amount) parts.source source total rows first.after h first.there) in
     let second = ran (of_account parts.target) 3 (sorted first.after) (updated_rows (set_balance given) (of_account parts.target) (sorted first.after))
-    (alone_from shapes 4 []) first.stops_with in
+    (alone_from shapes [] 4 []) first.stops_with in
     let richer = money_sorted ((total +ℤ neg_ℤ (pos parts.amount)) +ℤ pos parts.amount) second.after
     (money_moved (pos parts.amount) given (deposited parts.amount) parts.target target (total +ℤ neg_ℤ (pos parts.amount)) (sorted first.after) second.after
     poorer second.there) in

@@ -157,3 +157,23 @@ join_passed_by = refl
 pub room_taken : Comes right.room_taken together
 unfolding computed
 room_taken = refl
+
+pub held_though_taken_back : Comes right.held_though_taken_back (goes 0 ∷ goes 0 ∷ goes 1 ∷ goes 0 ∷ goes 0 ∷ goes 1 ∷ [])
+unfolding computed
+held_though_taken_back = refl
+
+pub held_without_a_record : Comes right.held_without_a_record (goes 0 ∷ goes 1 ∷ goes 0 ∷ goes 0 ∷ goes 0 ∷ goes 0 ∷ goes 1 ∷ [])
+unfolding computed
+held_without_a_record = refl
+
+pub records_stay : Comes right.records_stay (goes 0 ∷ goes 0 ∷ goes 0 ∷ goes 0 ∷ goes 0 ∷ goes 1 ∷ goes 1 ∷ goes 1 ∷ [])
+unfolding computed
+records_stay = refl
+
+pub own_write_kept : Comes right.own_write_kept by_itself
+unfolding computed
+own_write_kept = refl
+
+pub newest_counts : Comes right.newest_counts by_itself
+unfolding computed
+newest_counts = refl

@@ -67,6 +67,9 @@ same_reply reply.Inserted reply.Inserted = true
 same_reply reply.Duplicate reply.Duplicate = true
 same_reply (reply.Updated count) (reply.Updated other) = count == other
 same_reply (reply.Deleted count) (reply.Deleted other) = count == other
+same_reply reply.Saved reply.Saved = true
+same_reply reply.Back reply.Back = true
+same_reply reply.Released reply.Released = true
 same_reply one other = false
 
 abbrev pub same_replies : List Reply → List Reply → Bool

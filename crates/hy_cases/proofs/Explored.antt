@@ -11,7 +11,7 @@ use Rattle.hy_machine.specs.declared.Setting.{Setting}
 use Rattle.hy_machine.specs.States.{State}
 use Rattle.hy_protocol.specs.declared.Progress.{Progress}
 use Rattle.hy_protocol.specs.declared.Progress.TheVariants.{Blocked, Moved, Answered, Ended}
-use Rattle.hy_protocol.specs.Turns.{Turn, Done, Waits, Begins, Visits, Answers, Enters, Ends}
+use Rattle.hy_protocol.specs.Turns.{Turn, Done, Waits, Begins, Visits, Answers, Saves, Enters, Ends}
 use Rattle.hy_machine.specs.Turns.{session_turn, turn}
 use Rattle.hy_machine.specs.Sessions.{session_at, txn_at}
 use Rattle.hy_machine.specs.Steps.{Step, after_turn, step_of}
@@ -56,6 +56,7 @@ turn_stays setting state number (Waits by) h = refl
 turn_stays setting state number Begins h = absurd cc
 turn_stays setting state number (Visits writes phase) h = absurd cc
 turn_stays setting state number (Answers writes reply took records) h = absurd cc
+turn_stays setting state number (Saves statement reply) h = absurd cc
 turn_stays setting state number Enters h = absurd cc
 turn_stays setting state number (Ends ending) h = absurd cc
 

@@ -16,10 +16,11 @@ use Rattle.hy_bound.specs.declared.Items.TheVariants.{Columns, Sum, Count}
 use Rattle.hy_bound.specs.declared.On.{On}
 use Rattle.hy_bound.specs.declared.Txn.{Txn}
 use Rattle.hy_bound.specs.declared.Bound.{Bound}
-use Rattle.hy_bound.specs.declared.Bound.TheVariants.{Select, Group, Insert, Update, Delete}
+use Rattle.hy_bound.specs.declared.Bound.TheVariants.{Select, Group, Insert, Update, Delete, Savepoint, RollbackTo, Release}
 use Rattle.hy_bound.specs.Condition.{Condition}
 use Rattle.hy_bound.specs.Predicate.{column_of}
 use Rattle.hy_bound.specs.Records.{shape_of, columns_of, columns_shown, columns_summed, on_columns, set_columns}
+use Rattle.hy_bound.specs.OpenSavepoints.{are_opened}
 use Rattle.hy_bound.specs.Fits.{LieWithin, MayStand, FitsShape, FitsRows, FitsSelect, FitsGroup, FitsInsert, FitsUpdate, FitsStatement, FitsTxn}
 use Rattle.hy_bound.specs.Fits.{FitsSession, Fits}
 use Rattle.hy_bound.specs.Fits.{joined_width}
@@ -196,6 +197,9 @@ fits shapes (Update table (set ∷ []) pred) = nat_lt table (length shapes)
     && (nat_lt set.column (shape_of shapes table).width && (of_key (is_not set.column) (shape_of shapes table).key
     && (within (shape_of shapes table).width (set_columns (set ∷ [])) && within (shape_of shapes table).width (columns_of pred))))
 fits shapes (Delete table pred) = nat_lt table (length shapes) && within (shape_of shapes table).width (columns_of pred)
+fits shapes (Savepoint name) = true
+fits shapes (RollbackTo name) = true
+fits shapes (Release name) = true
 fits shapes statement = false
 
 select_fits : (shapes : List Shape) (table : ℕ) (pred : Condition) (items : Items) → IsTrue (fits shapes (Select (table ∷ []) [] pred items))
@@ -290,6 +294,9 @@ fits_statement shapes (Update table (set ∷ []) pred) e =
     (ltb-true table (length shapes) (left _ _ e), update_fits (shape_of shapes table) set pred (right _ _ e))
 fits_statement shapes (Delete table pred) e =
     (ltb-true table (length shapes) (left _ _ e), lie_within (shape_of shapes table).width (columns_of pred) (right _ _ e))
+fits_statement shapes (Savepoint name) e = tt
+fits_statement shapes (RollbackTo name) e = tt
+fits_statement shapes (Release name) e = tt
 fits_statement shapes statement e = absurd cc
 
 -- ---- transactions and scripts
@@ -300,6 +307,9 @@ may_stand read_only (Group table pred key aggregate) = read_only
 may_stand read_only (Insert table row) = not read_only
 may_stand read_only (Update table sets pred) = not read_only
 may_stand read_only (Delete table pred) = not read_only
+may_stand read_only (Savepoint name) = true
+may_stand read_only (RollbackTo name) = true
+may_stand read_only (Release name) = true
 
 is_false : (b : Bool) → IsTrue (not b) → b ≡ false
 is_false true e = absurd cc
@@ -312,17 +322,30 @@ stands read_only (Group table pred key aggregate) e = e
 stands read_only (Insert table row) e = is_false read_only e
 stands read_only (Update table sets pred) e = is_false read_only e
 stands read_only (Delete table pred) e = is_false read_only e
+stands read_only (Savepoint name) e = tt
+stands read_only (RollbackTo name) e = tt
+stands read_only (Release name) e = tt
 
 txn_fits : List Shape → Txn → Bool
-txn_fits shapes txn = nat_lt (length txn.statements) 257 && (list_all (fits shapes) txn.statements && list_all (may_stand txn.read_only) txn.statements)
+txn_fits shapes txn =
+    nat_lt (length txn.statements) 257
+    && (list_all (fits shapes) txn.statements && (list_all (may_stand txn.read_only) txn.statements && are_opened [] txn.statements))
 
 fits_txn : (shapes : List Shape) (txn : Txn) → IsTrue (txn_fits shapes txn) → FitsTxn shapes txn
 unfolding txn_fits
-fits_txn shapes txn e = record {
-  few = at_most (length txn.statements) 256 (left _ _ e);
-  fit = all (FitsStatement shapes) (fits shapes) (fits_statement shapes) txn.statements (left _ _ (right _ _ e));
-  stand = all (MayStand txn.read_only) (may_stand txn.read_only) (stands txn.read_only) txn.statements (right _ _ (right _ _ e));
-}
+fits_txn shapes txn e =
+    let few : Bool = nat_lt (length txn.statements) 257 in
+    let fit : Bool = list_all (fits shapes) txn.statements in
+    let stand : Bool = list_all (may_stand txn.read_only) txn.statements in
+    let opened : Bool = are_opened [] txn.statements in
+    let all_fit : IsTrue (fit && (stand && opened)) = right few (fit && (stand && opened)) e in
+    let all_stand : IsTrue (stand && opened) = right fit (stand && opened) all_fit in
+    record {
+      few = at_most (length txn.statements) 256 (left few (fit && (stand && opened)) e);
+      fit = all (FitsStatement shapes) (fits shapes) (fits_statement shapes) txn.statements (left fit (stand && opened) all_fit);
+      stand = all (MayStand txn.read_only) (may_stand txn.read_only) (stands txn.read_only) txn.statements (left stand opened all_stand);
+      savepoints = right stand opened all_stand;
+    }
 
 session_fits : List Shape → List Txn → Bool
 session_fits shapes txns = nat_lt (length txns) 65536 && list_all (txn_fits shapes) txns

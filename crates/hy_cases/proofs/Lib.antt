@@ -10,6 +10,7 @@ pub mod Orders
 pub mod Commits
 pub mod Refusals
 pub mod Writes
+pub mod Savepoints
 pub mod Explored
 pub mod NeverSerial
 pub mod Never

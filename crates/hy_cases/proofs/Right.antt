@@ -66,4 +66,10 @@ right_outcomes lawful serial = record {
   refuses_a_hit_of_a_join = is_right lawful serial right.join_refused _ comes.join_refused (omega arith) refl;
   passes_by_what_is_not_joined = is_right lawful serial right.join_passed_by _ comes.join_passed_by (omega arith) refl;
   has_no_room_beside_another = is_right lawful serial right.room_taken _ comes.room_taken (omega arith) refl;
+  holds_what_it_took_back = is_right lawful serial right.held_though_taken_back _ comes.held_though_taken_back (omega arith) refl;
+  holds_what_it_read_by_what_it_took_back =
+      is_right lawful serial right.held_without_a_record _ comes.held_without_a_record (omega arith) refl;
+  keeps_records_when_it_goes_back = is_right lawful serial right.records_stay _ comes.records_stay (omega arith) refl;
+  goes_back_to_its_own_write = is_right lawful serial right.own_write_kept _ comes.own_write_kept (omega arith) refl;
+  goes_back_to_the_newest = is_right lawful serial right.newest_counts _ comes.newest_counts (omega arith) refl;
 }

@@ -31,4 +31,4 @@ EveryPositionIsFollowed =
 
 -- what an INSERT comes to at the first position
 abbrev pub placed_first : Ran
-placed_first = record { own = (Some (Some (row_of 1)) ∷ []) ∷ []; replies = Inserted ∷ []; records = [] }
+placed_first = record { own = (Some (Some (row_of 1)) ∷ []) ∷ []; saved = []; replies = Inserted ∷ []; records = [] }

@@ -37,7 +37,7 @@ vacant = (None ∷ []) ∷ []
 
 -- what an INSERT comes to that takes a position which the table doesn't have: its row is nowhere
 abbrev pub placed_nowhere : Ran
-placed_nowhere = record { own = (None ∷ []) ∷ []; replies = Inserted ∷ []; records = [] }
+placed_nowhere = record { own = (None ∷ []) ∷ []; saved = []; replies = Inserted ∷ []; records = [] }
 
 -- what statements come to is what they give alone, over tables of whatever number and length
 abbrev pub AnyTablesSuffice : Type 0
@@ -52,7 +52,7 @@ no_tables = record { chunks = 1; rows = 1; shapes = []; first = []; programs = [
 
 -- what an INSERT into one of them comes to: it is answered, and writes nothing
 abbrev pub placed_in_none : Ran
-placed_in_none = record { own = []; replies = Inserted ∷ []; records = [] }
+placed_in_none = record { own = []; saved = []; replies = Inserted ∷ []; records = [] }
 
 -- rows stay as wide as their tables, whatever rows are inserted
 abbrev pub AnyRowsKeepWidths : Type 0
@@ -73,7 +73,7 @@ abbrev pub inserting_narrow : Bound
 inserting_narrow = Insert 0 []
 
 abbrev pub placed_narrow : Ran
-placed_narrow = record { own = (Some (Some []) ∷ []) ∷ []; replies = Inserted ∷ []; records = [] }
+placed_narrow = record { own = (Some (Some []) ∷ []) ∷ []; saved = []; replies = Inserted ∷ []; records = [] }
 
 -- over tables that differ only by changes that hit no record of it, at whatever positions, an UPDATE or a DELETE writes the
 -- same or is refused alike

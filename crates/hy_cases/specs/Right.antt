@@ -1,9 +1,9 @@
 -- Outcomes that the engine gives: they are lawful and serializable.
 use Rattle.std.specs.Prelude.{List, [], ◌∷◌, None, Some}
-use Rattle.hy_bound.specs.declared.Reply.TheVariants.{Inserted, Duplicate, Updated, Deleted}
+use Rattle.hy_bound.specs.declared.Reply.TheVariants.{Inserted, Duplicate, Updated, Deleted, Saved, Back, Released}
 use Rattle.hy_bound.specs.declared.schedule.Item.{Item}
 use Rattle.hy_bound.specs.declared.Ending.TheVariants.{Committed, Read, RolledBack, Conflict, Invalid, Range, Full}
-use Rattle.hy_cases.specs.Words.{int, greatest, row, overdrawn, goes, a1, a2, b1, b2, c1, at, change, told, entry, rows, balance, total, group, groups}
+use Rattle.hy_cases.specs.Words.{int, greatest, row, overdrawn, pointed, goes, a1, a2, b1, b2, c1, at, change, told, entry, rows, balance, total, group, groups}
 use Rattle.hy_cases.specs.Scripts as script
 use Rattle.hy_cases.specs.Scripts.{hundreds}
 use Rattle.hy_cases.specs.Cases.{Case, IsRight}
@@ -472,6 +472,75 @@ room_taken = record {
   };
 }
 
+-- ---- savepoints
+
+-- what is taken back stays one's own until the end: another one can't write it, and it changes to what it was
+abbrev pub held_though_taken_back : Case
+held_though_taken_back = record {
+  setting = script.takes_back;
+  outcome = record {
+    txns =
+        told a1 0 (Saved ∷ Updated 1 ∷ Back ∷ []) (Committed 0) (at 0 0 ∷ []) (0 ∷ [])
+        ∷ told b1 0 [] (Conflict 0 0 a1) [] (0 ∷ []) ∷ [];
+    order = entry a1 (change 0 0 (Some (row 1 100)) (Some (row 1 100)) ∷ []) ∷ [];
+    tables = hundreds ∷ [];
+  };
+}
+
+-- so nobody changes what was read by it: no record tells of a row that only its writer saw so
+abbrev pub held_without_a_record : Case
+held_without_a_record = record {
+  setting = script.reads_by_what_it_takes_back;
+  outcome = record {
+    txns =
+        told a1 0 (Saved ∷ Updated 1 ∷ rows ((int 0 ∷ []) ∷ []) ∷ Back ∷ Inserted ∷ []) (Committed 0) (at 0 0 ∷ at 1 0 ∷ []) (0 ∷ 1 ∷ [])
+        ∷ told b1 0 [] (Conflict 0 0 a1) [] (0 ∷ 0 ∷ []) ∷ [];
+    order =
+        entry a1 (change 0 0 (Some (pointed 1 100 0)) (Some (pointed 1 100 0)) ∷ change 1 0 None (Some (row 7 7)) ∷ []) ∷ [];
+    tables = (pointed 1 100 0 ∷ []) ∷ (row 7 7 ∷ []) ∷ [];
+  };
+}
+
+-- what was read behind a savepoint counts, though it was gone back: a change of it refuses the reader
+abbrev pub records_stay : Case
+records_stay = record {
+  setting = script.counts_and_goes_back;
+  outcome = record {
+    txns =
+        told a1 0 (Saved ∷ total 2 ∷ Back ∷ Inserted ∷ []) (Invalid 0 0 b1 2) (at 1 0 ∷ []) (0 ∷ 1 ∷ [])
+        ∷ told b1 0 (Updated 1 ∷ []) (Committed 0) (at 0 0 ∷ []) (0 ∷ 0 ∷ []) ∷ [];
+    order = entry b1 (change 0 0 (Some (row 1 100)) (Some (row 1 5)) ∷ []) ∷ [];
+    tables = (row 1 5 ∷ row 2 100 ∷ []) ∷ [] ∷ [];
+  };
+}
+
+-- one goes back to what it had written before the savepoint; an insert that is taken back is no change, though it is counted
+abbrev pub own_write_kept : Case
+own_write_kept = record {
+  setting = script.goes_back_to_what_it_wrote;
+  outcome = record {
+    txns =
+        told a1 0 (Updated 1 ∷ Saved ∷ Deleted 1 ∷ Inserted ∷ Back ∷ rows (row 1 90 ∷ row 2 100 ∷ []) ∷ []) (Committed 0)
+        (at 0 0 ∷ at 0 1 ∷ at 0 2 ∷ []) (1 ∷ []) ∷ [];
+    order =
+        entry a1 (change 0 0 (Some (row 1 100)) (Some (row 1 90)) ∷ change 0 1 (Some (row 2 100)) (Some (row 2 100)) ∷ []) ∷ [];
+    tables = (row 1 90 ∷ row 2 100 ∷ []) ∷ [];
+  };
+}
+
+-- of two savepoints of one name the newer counts, until it is released
+abbrev pub newest_counts : Case
+newest_counts = record {
+  setting = script.goes_back_twice;
+  outcome = record {
+    txns =
+        told a1 0 (Saved ∷ Updated 1 ∷ Saved ∷ Updated 1 ∷ Back ∷ balance 90 ∷ Released ∷ Back ∷ balance 100 ∷ []) RolledBack (at 0 0 ∷ []) (0 ∷ [])
+        ∷ [];
+    order = [];
+    tables = hundreds ∷ [];
+  };
+}
+
 -- ---- what is claimed of them, with a schedule each
 
 -- the sessions go one after another, as far as they can
@@ -519,3 +588,10 @@ pub record RightOutcomes : Type 0 where
   pub refuses_a_hit_of_a_join : IsRight join_refused together
   pub passes_by_what_is_not_joined : IsRight join_passed_by together
   pub has_no_room_beside_another : IsRight room_taken together
+  pub holds_what_it_took_back : IsRight held_though_taken_back (goes 0 ∷ goes 0 ∷ goes 1 ∷ goes 0 ∷ goes 0 ∷ goes 1 ∷ [])
+  pub holds_what_it_read_by_what_it_took_back : IsRight held_without_a_record
+      (goes 0 ∷ goes 1 ∷ goes 0 ∷ goes 0 ∷ goes 0 ∷ goes 0 ∷ goes 1 ∷ [])
+  pub keeps_records_when_it_goes_back : IsRight records_stay
+      (goes 0 ∷ goes 0 ∷ goes 0 ∷ goes 0 ∷ goes 0 ∷ goes 1 ∷ goes 1 ∷ goes 1 ∷ [])
+  pub goes_back_to_its_own_write : IsRight own_write_kept by_itself
+  pub goes_back_to_the_newest : IsRight newest_counts by_itself

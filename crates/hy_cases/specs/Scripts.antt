@@ -3,7 +3,7 @@ use Rattle.std.specs.Prelude.{ℕ, List, [], ◌∷◌}
 use Rattle.hy_value.specs.declared.Value.{Value}
 use Rattle.hy_machine.specs.declared.Setting.{Setting}
 use Rattle.hy_cases.specs.Words.{int, greatest, minus, row, accounts, one_table, two_tables, commits, only_reads, rolls_back, read_all, read_numbers}
-use Rattle.hy_cases.specs.Words.{read_balance, sum_balances}
+use Rattle.hy_cases.specs.Words.{read_balance, sum_balances, pointed, pointed_accounts, read_points_at, set_points, saves, goes_back, releases}
 use Rattle.hy_cases.specs.Words.{count_accounts, count_over, count_by_balance, sum_of_named, insert, set_balance, add_to_balance, add_to_all, delete}
 
 -- the accounts 1 and 2 with 100 each
@@ -193,3 +193,37 @@ insert_and_set = one_table 3 hundreds
 abbrev pub set_and_join : ℕ → Setting
 set_and_join account = two_tables 2 hundreds (row 1 2 ∷ [])
     ((commits (set_balance 0 account 90 ∷ []) ∷ []) ∷ (commits (sum_of_named 1 ∷ insert 1 (row 2 1) ∷ []) ∷ []) ∷ [])
+
+-- ---- savepoints
+
+-- a sets a balance and takes that back; b sets it
+abbrev pub takes_back : Setting
+takes_back = one_table 2 hundreds
+    ((commits (saves ∷ set_balance 0 1 90 ∷ goes_back ∷ []) ∷ []) ∷ (commits (set_balance 0 1 80 ∷ []) ∷ []) ∷ [])
+
+-- a sets a balance, reads the points of the accounts that have it, takes it back and inserts; b sets the points
+abbrev pub reads_by_what_it_takes_back : Setting
+reads_by_what_it_takes_back = record {
+  chunks = 1;
+  rows = 2;
+  shapes = pointed_accounts ∷ accounts ∷ [];
+  first = (pointed 1 100 0 ∷ []) ∷ [] ∷ [];
+  programs =
+      (commits (saves ∷ set_balance 0 1 1 ∷ read_points_at 0 1 ∷ goes_back ∷ insert 1 (row 7 7) ∷ []) ∷ [])
+      ∷ (commits (set_points 0 1 9 ∷ []) ∷ []) ∷ [];
+}
+
+-- a counts behind a savepoint, goes back and inserts; b sets a balance that was counted
+abbrev pub counts_and_goes_back : Setting
+counts_and_goes_back = two_tables 2 hundreds []
+    ((commits (saves ∷ count_over 0 50 ∷ goes_back ∷ insert 1 (row 7 7) ∷ []) ∷ []) ∷ (commits (set_balance 0 1 5 ∷ []) ∷ []) ∷ [])
+
+-- one sets a balance, and takes back what it deletes and inserts behind a savepoint
+abbrev pub goes_back_to_what_it_wrote : Setting
+goes_back_to_what_it_wrote = one_table 3 hundreds
+    ((commits (set_balance 0 1 90 ∷ saves ∷ delete 0 2 ∷ insert 0 (row 3 70) ∷ goes_back ∷ read_all 0 ∷ []) ∷ []) ∷ [])
+
+-- two savepoints of one name: one goes back to the newer, releases it, and goes back to the older
+abbrev pub goes_back_twice : Setting
+goes_back_twice = one_table 2 hundreds ((rolls_back (saves ∷ set_balance 0 1 90 ∷ saves ∷ set_balance 0 1 80 ∷ goes_back ∷ read_balance 0 1
+    ∷ releases ∷ goes_back ∷ read_balance 0 1 ∷ []) ∷ []) ∷ [])

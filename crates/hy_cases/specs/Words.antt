@@ -5,7 +5,7 @@ use Rattle.hy_value.specs.declared.Value.TheVariants.{Int}
 use Rattle.hy_value.specs.declared.Cmp.TheVariants.{Eq, Gt}
 use Rattle.hy_bound.specs.declared.predicate.Side.TheVariants as side
 use Rattle.hy_bound.specs.declared.Bound.{Bound}
-use Rattle.hy_bound.specs.declared.Bound.TheVariants.{Select, Group, Insert, Update, Delete}
+use Rattle.hy_bound.specs.declared.Bound.TheVariants.{Select, Group, Insert, Update, Delete, Savepoint, RollbackTo, Release}
 use Rattle.hy_bound.specs.declared.Items.TheVariants.{Columns, Sum, Count}
 use Rattle.hy_bound.specs.declared.Aggregate.TheVariants as aggregate
 use Rattle.hy_bound.specs.declared.Grouped.{Grouped}
@@ -42,6 +42,10 @@ row id balance = int id ∷ int balance ∷ []
 
 abbrev pub overdrawn : ℕ → ℕ → List Value
 overdrawn id debt = int id ∷ minus debt ∷ []
+
+-- an account with a number of points
+abbrev pub pointed : ℕ → ℕ → ℕ → List Value
+pointed id balance points = int id ∷ int balance ∷ int points ∷ []
 
 -- ---- statements
 
@@ -88,6 +92,26 @@ add_to_all table more = Update table (record { column = 1; value = Add (Column 1
 abbrev pub delete : ℕ → ℕ → Bound
 delete table id = Delete table (is_account id)
 
+abbrev pub read_points_at : ℕ → ℕ → Bound
+read_points_at table balance = Select (table ∷ []) [] (Compare 1 Eq (side.Literal (int balance))) (Columns (2 ∷ []))
+
+abbrev pub set_points : ℕ → ℕ → ℕ → Bound
+set_points table id points = Update table (record { column = 2; value = Literal (int points) } ∷ []) (is_account id)
+
+-- ---- statements of savepoints, which all have one name
+
+abbrev pub the_name : List ℕ
+the_name = 115 ∷ []
+
+abbrev pub saves : Bound
+saves = Savepoint the_name
+
+abbrev pub goes_back : Bound
+goes_back = RollbackTo the_name
+
+abbrev pub releases : Bound
+releases = Release the_name
+
 -- ---- transactions and scripts
 
 abbrev pub commits : List Bound → Txn
@@ -101,6 +125,9 @@ rolls_back statements = record { read_only = false; commits = false; statements 
 
 abbrev pub accounts : Shape
 accounts = record { width = 2; key = Some 0 }
+
+abbrev pub pointed_accounts : Shape
+pointed_accounts = record { width = 3; key = Some 0 }
 
 -- one table of one chunk with so many positions
 abbrev pub one_table : ℕ → List (List Value) → List (List Txn) → Setting

@@ -1,8 +1,9 @@
 -- Outcomes that the engine never gives, each made from a right one by what its name says.
 use Rattle.std.specs.Prelude.{[], ◌∷◌, None, Some}
-use Rattle.hy_bound.specs.declared.Reply.TheVariants.{Inserted, Duplicate, Updated, Deleted}
+use Rattle.hy_bound.specs.declared.Reply.TheVariants.{Inserted, Duplicate, Updated, Deleted, Saved, Back, Released}
 use Rattle.hy_bound.specs.declared.Ending.TheVariants.{Committed, Read, RolledBack, Conflict, Invalid, Range, Full}
-use Rattle.hy_cases.specs.Words.{int, greatest, minus, row, overdrawn, a1, a2, b1, b2, c1, at, change, told, entry, rows, balance, total, group, groups}
+use Rattle.hy_cases.specs.Words.{int, greatest, minus, row, overdrawn, pointed, a1, a2, b1, b2, c1, at, change, told, entry}
+use Rattle.hy_cases.specs.Words.{rows, balance, total, group, groups}
 use Rattle.hy_cases.specs.Words.{commits, rolls_back, read_all, read_balance, sum_balances, insert, set_balance, add_to_balance}
 use Rattle.hy_cases.specs.Scripts.{hundreds}
 use Rattle.hy_cases.specs.Right.{reader, group_reader, writer, own_write, own_delete, new_row, came_and_went, all_written, duplicate, no_room}
@@ -10,6 +11,7 @@ use Rattle.hy_cases.specs.Right.{out_of_range, own_row_out_of_range, chunk_befor
 use Rattle.hy_cases.specs.Right.{insert_undone, different_rows, old_reader, before_and_after, undone_unseen, conflict}
 use Rattle.hy_cases.specs.Right.{undone_rival, undone_before, place_given_back, skew_refused, phantom_refused}
 use Rattle.hy_cases.specs.Right.{hit_without_effect, first_hit_named, refused_then_reads, room_taken, join_refused, join_passed_by}
+use Rattle.hy_cases.specs.Right.{held_though_taken_back, held_without_a_record, records_stay, own_write_kept, newest_counts}
 use Rattle.hy_cases.specs.Cases.{IsUnlawful, IsNotLawful, IsNotSerial, with_programs, with_txns, with_order, with_tables}
 use Rattle.hy_cases.specs.Cases.{with_start, with_replies, with_ending, with_wrote, with_placed, with_changes}
 
@@ -220,3 +222,33 @@ pub record WrongChanges : Type 0 where
   pub do_not_ascend : IsUnlawful (with_changes a1
       (change 0 1 (Some (row 2 100)) (Some (row 2 101)) ∷ change 0 0 (Some (row 1 100)) (Some (row 1 101)) ∷ []) all_written)
   pub behind_the_table : IsUnlawful (with_changes a1 (change 0 3 None (Some (row 3 70)) ∷ []) new_row)
+
+-- ---- what is saved, taken back and released
+
+pub record WrongSavepoints : Type 0 where
+  pub taken_back_write_committed : IsNotSerial (with_changes a1 (change 0 0 (Some (row 1 100)) (Some (row 1 90)) ∷ [])
+      (with_tables ((row 1 90 ∷ row 2 100 ∷ []) ∷ []) held_though_taken_back))
+  pub no_change_where_it_was_taken_back : IsNotSerial (with_changes a1 [] held_though_taken_back)
+  pub taken_back_not_written : IsNotSerial (with_wrote a1 [] newest_counts)
+  pub position_given_back : IsNotSerial (with_ending a1 (Committed 1) (with_wrote a1 (at 1 0 ∷ [])
+      (with_ending b1 (Committed 0) (with_replies b1 (Updated 1 ∷ []) (with_wrote b1 (at 0 0 ∷ [])
+      (with_order (entry b1 (change 0 0 (Some (pointed 1 100 0)) (Some (pointed 1 100 9)) ∷ []) ∷ entry a1 (change 1 0 None (Some (row 7 7)) ∷ []) ∷ [])
+      (with_tables ((pointed 1 100 9 ∷ []) ∷ (row 7 7 ∷ []) ∷ []) held_without_a_record)))))))
+  pub record_dropped : IsNotSerial (with_ending a1 (Committed 1)
+      (with_order (entry b1 (change 0 0 (Some (row 1 100)) (Some (row 1 5)) ∷ []) ∷ entry a1 (change 1 0 None (Some (row 7 7)) ∷ []) ∷ [])
+      (with_tables ((row 1 5 ∷ row 2 100 ∷ []) ∷ (row 7 7 ∷ []) ∷ []) records_stay)))
+  pub names_the_savepoint : IsNotSerial (with_ending a1 (Invalid 0 0 b1 1) records_stay)
+  pub goes_back_to_the_start : IsNotSerial
+      (with_replies a1 (Updated 1 ∷ Saved ∷ Deleted 1 ∷ Inserted ∷ Back ∷ rows hundreds ∷ []) own_write_kept)
+  pub delete_not_taken_back : IsNotSerial
+      (with_replies a1 (Updated 1 ∷ Saved ∷ Deleted 1 ∷ Inserted ∷ Back ∷ rows (row 1 90 ∷ []) ∷ []) own_write_kept)
+  pub insert_not_taken_back : IsNotSerial (with_changes a1 (change 0 0 (Some (row 1 100)) (Some (row 1 90))
+      ∷ change 0 1 (Some (row 2 100)) (Some (row 2 100)) ∷ change 0 2 None (Some (row 3 70)) ∷ [])
+      (with_tables ((row 1 90 ∷ row 2 100 ∷ row 3 70 ∷ []) ∷ []) own_write_kept))
+  pub insert_taken_back_not_counted : IsNotSerial (with_placed a1 (0 ∷ []) own_write_kept)
+  pub goes_back_to_the_oldest_of_a_name : IsNotSerial (with_replies a1
+      (Saved ∷ Updated 1 ∷ Saved ∷ Updated 1 ∷ Back ∷ balance 100 ∷ Released ∷ Back ∷ balance 100 ∷ []) newest_counts)
+  pub goes_back_to_one_that_was_released : IsNotSerial (with_replies a1
+      (Saved ∷ Updated 1 ∷ Saved ∷ Updated 1 ∷ Back ∷ balance 90 ∷ Released ∷ Back ∷ balance 90 ∷ []) newest_counts)
+  pub told_back_for_saved : IsNotSerial (with_replies a1
+      (Back ∷ Updated 1 ∷ Saved ∷ Updated 1 ∷ Back ∷ balance 90 ∷ Released ∷ Back ∷ balance 100 ∷ []) newest_counts)

@@ -6,7 +6,7 @@
 ghost use Rattle.hy_cases.specs.Never.{NeverGiven};
 ghost use Rattle.hy_cases.specs.Right.{RightOutcomes};
 ghost use Rattle.hy_cases.specs.Wrong.{WrongReplies, WrongStarts, WrongOrders, WrongCommits};
-ghost use Rattle.hy_cases.specs.Wrong.{WrongConflicts, WrongInvalids, WrongRefusals, WrongWrites, WrongChanges};
+ghost use Rattle.hy_cases.specs.Wrong.{WrongConflicts, WrongInvalids, WrongRefusals, WrongWrites, WrongChanges, WrongSavepoints};
 
 mod neighbours;
 
@@ -19,8 +19,8 @@ pub use neighbours::{
     an_insert_needs_its_record, an_insert_needs_its_table, an_insert_takes_a_position,
     before_images_do_not_suffice, every_named_column_matters, few_columns_are_read_again,
     inserted_rows_are_not_followed, inserted_rows_must_fit, keys_are_columns,
-    own_positions_must_not_differ, revisits_do_not_add_up, selected_positions_must_not_differ,
-    sets_do_not_suffice, the_rest_must_be_asked, widths_matter,
+    own_positions_must_not_differ, positions_taken_back_must_not_differ, revisits_do_not_add_up,
+    selected_positions_must_not_differ, sets_do_not_suffice, the_rest_must_be_asked, widths_matter,
 };
 
 /// These outcomes are lawful and serializable, and each comes by a schedule: of transactions that read and write, of each
@@ -60,6 +60,12 @@ pub fn wrong_refusals_are_refused()
 pub fn wrong_writes_are_refused()
     ensures writes { WrongWrites }
     ensures changes { WrongChanges }
+{}
+
+/// Where a savepoint gives positions back or drops what was read behind it, keeps another database than the one that there
+/// was, or is not the newest of its name, the outcome is lawful and still not serializable.
+pub fn wrong_savepoints_are_refused()
+    ensures { WrongSavepoints }
 {}
 
 /// These outcomes are lawful and serializable, and still no steps of the machine come to them, whatever the schedule: a

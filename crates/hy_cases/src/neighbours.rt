@@ -7,7 +7,7 @@ ghost use Rattle.hy_cases.specs.Groups.{GatheredColumnsSuffice, GroupedColumnSuf
 ghost use Rattle.hy_cases.specs.Plans.{RestrictionsSuffice, ShownColumnsAnswer};
 ghost use Rattle.hy_cases.specs.Positions.{AnyPositionsSuffice, AnyRowsKeepWidths, AnyRowsLeaveOwn, AnyTablesSuffice, SelectedPositionsMayDiffer};
 ghost use Rattle.hy_cases.specs.Readings.{AnotherKeySuffices, AnyKeysSuffice, ManyColumnsAreReadAgain};
-ghost use Rattle.hy_cases.specs.Runs.{OwnPositionsMayDiffer};
+ghost use Rattle.hy_cases.specs.Runs.{OwnPositionsMayDiffer, TakenBackMayDiffer};
 ghost use Rattle.hy_cases.specs.Shown.{AnyColumnsSuffice, ShownColumnsSuffice};
 ghost use Rattle.hy_cases.specs.Unseen.{AfterImagesSuffice, BeforeImagesSuffice, AnyWidthsSuffice, InsertsNeedNoRecord, ManyColumnsSuffice};
 ghost use Rattle.hy_cases.specs.Visits.{RevisitsAddUp};
@@ -47,6 +47,12 @@ pub fn a_record_needs_the_columns_of_where()
 /// were at its start, though no record is hit there.
 pub fn own_positions_must_not_differ()
     ensures { OwnPositionsMayDiffer → ⊥ }
+{}
+
+/// What a transaction wrote may be read by itself before it is taken back, at a row that no record tells of: positions that
+/// it took back must be as they were at its start too, so they stay its own until it ends.
+pub fn positions_taken_back_must_not_differ()
+    ensures { TakenBackMayDiffer → ⊥ }
 {}
 
 /// A part that goes over positions again selects their rows again: visits add up where each position is visited once.

@@ -8,7 +8,8 @@ use Rattle.std.proofs.lemmas.Bool.{cases_Bool, cases_eq, cases_lt, eqb-true}
 use Rattle.std.proofs.lemmas.Option.{same_Some}
 use Rattle.hy_value.specs.declared.Value.{Value}
 use Rattle.hy_bound.specs.declared.Bound.{Bound}
-use Rattle.hy_bound.specs.declared.Bound.TheVariants.{Select, Group, Insert, Update, Delete}
+use Rattle.hy_bound.specs.declared.Bound.TheVariants.{Select, Group, Insert, Update, Delete, Savepoint, RollbackTo, Release}
+use Rattle.hy_bound.specs.Savepoints.{Saved, saved_after, value_after}
 use Rattle.hy_bound.specs.declared.Record.{Record}
 use Rattle.hy_bound.specs.declared.Reply.TheVariants as reply
 use Rattle.hy_bound.specs.declared.WriteKind.{WriteKind}
@@ -22,7 +23,8 @@ use Rattle.hy_machine.specs.Tables.{Cell, Tables, Own, capacity, covered, over}
 use Rattle.hy_machine.specs.Visits.{verdict}
 use Rattle.hy_replay.specs.BagLaws.{IsPosition}
 use Rattle.hy_replay.specs.Laws.{AreTables}
-use Rattle.hy_replay.specs.Ran.{One, Ran, has_key_at, placed_at, writes_at, changed_by, one, ran_from}
+use Rattle.hy_replay.specs.TakenBack.{back_stays}
+use Rattle.hy_replay.specs.Ran.{One, Ran, has_key_at, placed_at, writes_at, changed_by, one, taken_back, ran_from}
 use Rattle.hy_lawful.specs.EffectRows.{InsertsCountPositions}
 use Rattle.hy_lawful.specs.Rooms.{how_many, has_placed}
 use Rattle.hy_lawful.proofs.Booleans.{and_left, and_right, and_true}
@@ -32,6 +34,7 @@ use Rattle.hy_lawful.proofs.PassSteps.{blank_items}
 use Rattle.hy_lawful.proofs.PassTables.{covered_at}
 use Rattle.hy_lawful.proofs.RunAnswers.{Went, went}
 use Rattle.hy_lawful.proofs.Tables.{blank_fits, writes_fit}
+use Rattle.hy_lawful.proofs.WroteBacks.{after_holds, back_fits, back_room}
 use Rattle.hy_lawful.proofs.WroteCounts.{sweep_all, selects_row}
 use Rattle.hy_lawful.proofs.WroteEnds.{blank_room}
 use Rattle.hy_lawful.proofs.WroteFollows.{Room, writes_room, put_here}
@@ -58,6 +61,11 @@ one_less f g place (suc n) each below fails passes = elim (cases_eq place n) [
   | inr apart ↦
       let short : place < n = below_last place n below apart in omega (arith, if_less (f n) (g n) (each n), one_less f g place n each short fails passes)
 ]
+
+-- tests alike
+same_count : (f g : ℕ → Bool) (n : ℕ) → ((pos : ℕ) → f pos ≡ g pos) → how_many f n ≡ how_many g n
+same_count f g zero same = refl
+same_count f g (suc n) same = omega (arith, same_count f g n same, ap one_if (same n))
 
 -- ---- own writes grow
 
@@ -210,6 +218,12 @@ one_counts setting tables own number (Select from ons pred items) at first table
     reads_count setting tables own first _ table _ h refl e (placed_none table (Select from ons pred items) at refl)
 one_counts setting tables own number (Group of pred key aggregate) at first table are h p e =
     reads_count setting tables own first _ table _ h refl e (placed_none table (Group of pred key aggregate) at refl)
+one_counts setting tables own number (Savepoint name) at first table are h p e =
+    reads_count setting tables own first _ table _ h refl e (placed_none table (Savepoint name) at refl)
+one_counts setting tables own number (RollbackTo name) at first table are h p e =
+    reads_count setting tables own first _ table _ h refl e (placed_none table (RollbackTo name) at refl)
+one_counts setting tables own number (Release name) at first table are h p e =
+    reads_count setting tables own first _ table _ h refl e (placed_none table (Release name) at refl)
 one_counts setting tables own number (Insert of new) at first table are h p e = insert_counts setting tables own of new _ at first table h p e
 one_counts setting tables own number (Update of sets pred) at first table are h p e =
     changes_count setting tables own (kind.Set sets) pred of _ first table _ are h e (placed_none table (Update of sets pred) at refl)
@@ -218,18 +232,37 @@ one_counts setting tables own number (Delete of pred) at first table are h p e =
 
 -- ---- one after another
 
-all_count : (setting : Setting) (tables : Tables) (own : Own) (number : ℕ) (statements : List Bound) (took : List (Option ℕ)) (given : Ran) (table : ℕ)
+-- whoever goes back to a savepoint keeps the positions
+back_counts : (setting : Setting) (tables : Tables) (own later : Own) (saved : List (Saved Own)) (statement : Bound) (table count : ℕ)
+    → Counted setting tables own later table count → Counted setting tables own (value_after (taken_back tables) statement saved later) table count
+back_counts setting tables own later saved statement table count c =
+    after_holds (λ (other : Own). Counted setting tables own other table count) (taken_back tables) statement saved later c
+    (λ was. record {
+      has = record {
+        fits = back_fits setting tables was later c.has.fits;
+        room = λ pos below. back_room tables was later table pos (c.has.room pos below);
+      };
+      count_is = same_count (has_placed tables (taken_back tables was later) table) (has_placed tables later table) (capacity setting)
+          (λ pos. ap (λ (b : Bool). b && not (is_some (item_at tables table pos))) (back_stays tables was later table pos))
+          ∙ c.count_is;
+    })
+
+all_count : (setting : Setting) (tables : Tables) (own : Own) (saved : List (Saved Own)) (number : ℕ) (statements : List Bound)
+    (took : List (Option ℕ)) (given : Ran) (table : ℕ)
     → AreTables setting tables → HasTable setting own table → AllByRecursion (IsPosition setting) took
-    → ran_from setting tables own number statements took ≡ Some given → Counted setting tables own given.own table (placed_in table statements took)
-all_count setting tables own number [] took given table are h p e =
+    → ran_from setting tables own saved number statements took ≡ Some given → Counted setting tables own given.own table (placed_in table statements took)
+all_count setting tables own saved number [] took given table are h p e =
     subst (λ (ran : Ran). Counted setting tables own ran.own table 0) (same_Some _ given e) (record { has = h; count_is = omega arith })
-all_count setting tables own number (statement ∷ statements) [] given table are h p e = absurd cc
-all_count setting tables own number (statement ∷ statements) (at ∷ took) given table are h p e =
-    let w : Went setting tables own number statement statements at took given = went setting tables own number statement statements at took given e in
-    let first : Counted setting tables own w.first.own table (placed_by table statement at) =
-    one_counts setting tables own number statement at w.first table are h p.0 w.first_is in
-    let rest : Counted setting tables w.first.own w.rest.own table (placed_in table statements took) =
-    all_count setting tables w.first.own (suc number) statements took w.rest table are first.has p.1 w.rest_is in
+all_count setting tables own saved number (statement ∷ statements) [] given table are h p e = absurd cc
+all_count setting tables own saved number (statement ∷ statements) (at ∷ took) given table are h p e =
+    let w : Went setting tables own saved number statement statements at took given =
+    went setting tables own saved number statement statements at took given e in
+    let next : Own = value_after (taken_back tables) statement saved w.first.own in
+    let first : Counted setting tables own next table (placed_by table statement at) =
+    back_counts setting tables own w.first.own saved statement table (placed_by table statement at)
+    (one_counts setting tables own number statement at w.first table are h p.0 w.first_is) in
+    let rest : Counted setting tables next w.rest.own table (placed_in table statements took) =
+    all_count setting tables next (saved_after statement saved w.first.own) (suc number) statements took w.rest table are first.has p.1 w.rest_is in
     subst (λ (ran : Ran). Counted setting tables own ran.own table (placed_by table statement at + placed_in table statements took)) w.both
     (record { has = rest.has; count_is = omega (arith, rest.count_is, first.count_is) })
 
@@ -238,7 +271,7 @@ inserts_count_positions setting tables statements took given table are there p e
     let start : HasTable setting (blank_own setting) table =
     record { fits = blank_fits setting; room = λ pos below. blank_room (capacity setting) setting.first table pos there below } in
     let all : Counted setting tables (blank_own setting) given.own table (placed_in table statements took) =
-    all_count setting tables (blank_own setting) 1 statements took given table are start p e in
+    all_count setting tables (blank_own setting) [] 1 statements took given table are start p e in
     let nothing : how_many (has_placed tables (blank_own setting) table) (capacity setting) ≡ 0 =
     none_pass (has_placed tables (blank_own setting) table) (capacity setting)
     (λ pos h. let there : is_some (item_at (blank_own setting) table pos) ≡ true =

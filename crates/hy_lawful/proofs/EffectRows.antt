@@ -1,5 +1,5 @@
 -- What is one's own at a position where a row stood: that row followed through the statements, where one selects it.
-use Rattle.std.proofs.Common.{◌≡◌, ℕ, List, Option, None, Some, Bool, true, false, is_some, refl, ap}
+use Rattle.std.proofs.Common.{◌≡◌, ℕ, List, [], Option, None, Some, Bool, true, false, is_some, refl, ap}
 use Rattle.std.specs.Prelude.{IfSome, if◌then◌else◌}
 use Rattle.hy_value.specs.declared.Value.{Value}
 use Rattle.hy_bound.specs.declared.Bound.{Bound}
@@ -30,8 +30,8 @@ row_followed setting tables statements took given table pos are e None is = tt
 row_followed setting tables statements took given table pos are e (Some row) is =
     let at : IsCellAt setting tables table pos (Some row) = row_at setting tables table pos row are is in
     let stands : StandsSo setting given.own table pos (Some row) (followed table statements (Some row)) (some_writes table statements (Some row)) =
-    all_follow setting tables (blank_own setting) 1 statements took given table pos row (Some row) false at e
-    (starts_so setting tables table pos row at) in
+    all_follow setting tables (blank_own setting) [] 1 statements took given table pos row [] (Some row) false at e
+    (record { stands = starts_so setting tables table pos row at; was = tt }) in
     own_is row (item_at given.own table pos) (followed table statements (Some row)) (some_writes table statements (Some row)) stands.wrote_is stands.cell_is
 
 pub rows_are_followed : RowsAreFollowed

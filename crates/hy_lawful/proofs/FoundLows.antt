@@ -11,10 +11,10 @@ use Rattle.hy_machine.specs.declared.Setting.{Setting}
 use Rattle.hy_protocol.specs.declared.Phase.TheVariants.{Stamping}
 use Rattle.hy_machine.specs.States.{State, Session, Open, Finished}
 use Rattle.hy_machine.specs.Tables.{Entry}
-use Rattle.hy_protocol.specs.Turns.{Turn, Done, Waits, Begins, Visits, Answers, Enters, Ends}
+use Rattle.hy_protocol.specs.Turns.{Turn, Done, Waits, Begins, Visits, Answers, Saves, Enters, Ends}
 use Rattle.hy_machine.specs.Turns.{phase_turn}
 use Rattle.hy_machine.specs.Sessions.{fresh, session_at, least_with, least_prefix}
-use Rattle.hy_machine.specs.Steps.{with_open, beginning, with_changed, after_visit, after_answer, done_with, order_with, after_turn}
+use Rattle.hy_machine.specs.Steps.{with_open, beginning, with_changed, after_visit, after_answer, after_saving, done_with, order_with, after_turn}
 use Rattle.hy_machine.specs.Runs.{opening_of, IsReached}
 use Rattle.hy_lawful.specs.Outcomes.{committed_at}
 use Rattle.hy_lawful.proofs.Lists.{all_so, all_more}
@@ -167,6 +167,8 @@ turn_low setting state number current there all is (Visits writes phase) f =
     goes_on state state.order state.mark number (after_visit writes phase) (λ one. refl) (λ one. refl) there all
 turn_low setting state number current there all is (Answers writes reply took records) f =
     goes_on state state.order state.mark number (after_answer writes reply took records) (λ one. refl) (λ one. refl) there all
+turn_low setting state number current there all is (Saves statement reply) f =
+    goes_on state state.order state.mark number (after_saving statement reply) (λ one. refl) (λ one. refl) there all
 turn_low setting state number current there all is Enters f =
     goes_on state (order_with setting state number (session_at state number).now) (Some number) number (after_visit [] (Stamping 0)) (λ one. refl)
     (λ one. refl) there all

@@ -14,11 +14,11 @@ use Rattle.hy_protocol.specs.declared.Phase.TheVariants.{Stamping}
 use Rattle.hy_machine.specs.States.{State, Session, Open, Begun, Finished}
 use Rattle.hy_machine.specs.Tables.{Entry, Cell, Own}
 use Rattle.hy_machine.specs.Writes.{Write, with_write, with_writes}
-use Rattle.hy_protocol.specs.Turns.{Turn, Done, Waits, Begins, Visits, Answers, Enters, Ends}
+use Rattle.hy_protocol.specs.Turns.{Turn, Done, Waits, Begins, Visits, Answers, Saves, Enters, Ends}
 use Rattle.hy_machine.specs.Turns.{session_turn}
 use Rattle.hy_machine.specs.Positions.{item_at}
 use Rattle.hy_machine.specs.Sessions.{session_at, txn_at, entry_of}
-use Rattle.hy_machine.specs.Steps.{with_open, beginning, with_changed, with_ended, after_visit, after_answer, order_with, after_turn, step_of}
+use Rattle.hy_machine.specs.Steps.{with_open, beginning, with_changed, with_ended, after_visit, after_answer, after_saving, order_with, after_turn, step_of}
 use Rattle.hy_lawful.proofs.Fits.{Fits}
 use Rattle.hy_lawful.proofs.Moves.{moved_to, sessions_moved}
 use Rattle.hy_lawful.proofs.PassHolds.{write_cases}
@@ -200,6 +200,12 @@ turn_goes setting state number there (Answers writes reply took records) h l =
     (sym (append-nil state.order))
     (changed_still (after_answer writes reply took records)
     (λ current. gone_writes current.begun writes (after_answer writes reply took records current).begun refl refl)
+    (session_at state number).done (session_at state number).now)
+turn_goes setting state number there (Saves statement reply) h l =
+    goes_moved state state.order [] state.mark number (with_changed (after_saving statement reply) (session_at state number)) there l
+    (sym (append-nil state.order))
+    (changed_still (after_saving statement reply)
+    (λ current. gone_writes current.begun [] (after_saving statement reply current).begun refl refl)
     (session_at state number).done (session_at state number).now)
 turn_goes setting state number there Enters h l =
     let more = order_entries setting state number (session_at state number).now in

@@ -9,10 +9,10 @@ use Rattle.hy_machine.specs.declared.Setting.{Setting}
 use Rattle.hy_protocol.specs.declared.Phase.TheVariants.{Stamping}
 use Rattle.hy_machine.specs.States.{State, Open}
 use Rattle.hy_machine.specs.Tables.{Entry}
-use Rattle.hy_protocol.specs.Turns.{Turn, Done, Waits, Begins, Visits, Answers, Enters, Ends}
+use Rattle.hy_protocol.specs.Turns.{Turn, Done, Waits, Begins, Visits, Answers, Saves, Enters, Ends}
 use Rattle.hy_machine.specs.Turns.{phase_turn}
 use Rattle.hy_machine.specs.Sessions.{session_at, label_of, blocker_of, entry_of}
-use Rattle.hy_machine.specs.Steps.{with_changed, after_visit, after_answer, order_with, after_turn}
+use Rattle.hy_machine.specs.Steps.{with_changed, after_visit, after_answer, after_saving, order_with, after_turn}
 use Rattle.hy_machine.specs.Runs.{IsReached}
 use Rattle.hy_lawful.proofs.Fits.{OpenFits, NowFits, NowStamps, Fits}
 use Rattle.hy_lawful.proofs.Moves.{moved_to, sessions_moved}
@@ -60,6 +60,8 @@ turn_before setting state number current fits there all is (Visits writes phase)
     goes_on state number (after_visit writes phase) (λ one. refl) there all
 turn_before setting state number current fits there all is (Answers writes reply took records) f =
     goes_on state number (after_answer writes reply took records) (λ one. refl) there all
+turn_before setting state number current fits there all is (Saves statement reply) f =
+    goes_on state number (after_saving statement reply) (λ one. refl) there all
 turn_before setting state number current fits there all is Enters f =
     let order : List Entry = order_with setting state number (session_at state number).now in
     let more : length state.order < length order =

@@ -7,7 +7,7 @@ use Rattle.std.proofs.lemmas.Bool.{cases_Bool, cases_lt}
 use Rattle.hy_value.specs.declared.Value.{Value}
 use Rattle.hy_bound.specs.declared.Txn.{Txn}
 use Rattle.hy_bound.specs.declared.Bound.{Bound}
-use Rattle.hy_bound.specs.declared.Bound.TheVariants.{Select, Group, Insert, Update, Delete}
+use Rattle.hy_bound.specs.declared.Bound.TheVariants.{Select, Group, Insert, Update, Delete, Savepoint, RollbackTo, Release}
 use Rattle.hy_bound.specs.declared.Record.{Record}
 use Rattle.hy_bound.specs.declared.WriteKind.{WriteKind}
 use Rattle.hy_bound.specs.declared.WriteKind.TheVariants as kind
@@ -22,7 +22,7 @@ use Rattle.hy_protocol.specs.declared.Phase.TheVariants.{Working, Stamping, Undo
 use Rattle.hy_machine.specs.States.{State, Session, Open, Begun, Finished}
 use Rattle.hy_machine.specs.Tables.{Entry, capacity, positions_in}
 use Rattle.hy_machine.specs.Writes.{Write}
-use Rattle.hy_protocol.specs.Turns.{Turn, Done, Waits, Begins, Visits, Answers, Enters, Ends}
+use Rattle.hy_protocol.specs.Turns.{Turn, Done, Waits, Begins, Visits, Answers, Saves, Enters, Ends}
 use Rattle.hy_machine.specs.Positions.{item_at}
 use Rattle.hy_machine.specs.Sessions.{session_at, view}
 use Rattle.hy_machine.specs.Holding.{opponent, is_free}
@@ -82,6 +82,9 @@ WorkRoom setting state number before prefix visited (Some (Insert table row)) =
     RoomBelow setting state number before prefix table ((visited - checks_of setting (key_of setting table)) * setting.rows)
 WorkRoom setting state number before prefix visited (Some (Update table sets pred)) = Unit {0}
 WorkRoom setting state number before prefix visited (Some (Delete table pred)) = Unit {0}
+WorkRoom setting state number before prefix visited (Some (Savepoint name)) = Unit {0}
+WorkRoom setting state number before prefix visited (Some (RollbackTo name)) = Unit {0}
+WorkRoom setting state number before prefix visited (Some (Release name)) = Unit {0}
 
 abbrev pub PhaseRoom : Setting → State → ℕ → ℕ → ℕ → Option Bound → Phase → Type 0
 PhaseRoom setting state number before prefix statement (Working visited count) = WorkRoom setting state number before prefix visited statement
@@ -152,6 +155,9 @@ work_goes setting state later g number before prefix visited (Some (Insert table
     λ pos below. accounted_goes setting state later g number before prefix table pos (h pos below)
 work_goes setting state later g number before prefix visited (Some (Update table sets pred)) h = tt
 work_goes setting state later g number before prefix visited (Some (Delete table pred)) h = tt
+work_goes setting state later g number before prefix visited (Some (Savepoint name)) h = tt
+work_goes setting state later g number before prefix visited (Some (RollbackTo name)) h = tt
+work_goes setting state later g number before prefix visited (Some (Release name)) h = tt
 
 pub phase_goes : (setting : Setting) (state later : State) → Goes state later → (number before prefix : ℕ) (statement : Option Bound) (phase : Phase)
     → PhaseRoom setting state number before prefix statement phase → PhaseRoom setting later number before prefix statement phase
@@ -205,6 +211,7 @@ RoomTurn setting state number before prefix statement (Waits by) = Unit {0}
 RoomTurn setting state number before prefix statement Begins = Unit {0}
 RoomTurn setting state number before prefix statement (Visits writes phase) = PhaseRoom setting state number before prefix statement phase
 RoomTurn setting state number before prefix statement (Answers writes reply took records) = Unit {0}
+RoomTurn setting state number before prefix statement (Saves saved reply) = Unit {0}
 RoomTurn setting state number before prefix statement Enters = Unit {0}
 RoomTurn setting state number before prefix statement (Ends ending) = EndRoom setting state number before prefix ending
 
@@ -310,6 +317,10 @@ statement_room setting state number current w visited count (Update table sets p
     write_room setting state number current w visited count (Update table sets pred) (kind.Set sets) pred table tt
 statement_room setting state number current w visited count (Delete table pred) h =
     write_room setting state number current w visited count (Delete table pred) kind.Delete pred table tt
+statement_room setting state number current w visited count (Savepoint name) h = record { waits = λ by is. tt; saves = λ free. tt }
+statement_room setting state number current w visited count (RollbackTo name) h =
+    record { goes = λ chunk e. tt; ends = λ none. record { waits = λ by is. tt; saves = λ free. tt } }
+statement_room setting state number current w visited count (Release name) h = record { waits = λ by is. tt; saves = λ free. tt }
 
 pub undo_room : (setting : Setting) (state : State) (number before prefix : ℕ) (statement : Option Bound) (begun : Begun) (visited : ℕ) (cause : Ending)
     → EndRoom setting state number before prefix cause

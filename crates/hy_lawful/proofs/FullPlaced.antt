@@ -8,7 +8,7 @@ use Rattle.std.proofs.lemmas.List.{length-append}
 use Rattle.hy_value.specs.declared.Value.{Value}
 use Rattle.hy_bound.specs.declared.Txn.{Txn}
 use Rattle.hy_bound.specs.declared.Bound.{Bound}
-use Rattle.hy_bound.specs.declared.Bound.TheVariants.{Select, Group, Insert, Update, Delete}
+use Rattle.hy_bound.specs.declared.Bound.TheVariants.{Select, Group, Insert, Update, Delete, Savepoint, RollbackTo, Release}
 use Rattle.hy_bound.specs.declared.Reply.{Reply}
 use Rattle.hy_bound.specs.declared.Record.{Record}
 use Rattle.hy_bound.specs.declared.WriteKind.{WriteKind}
@@ -22,18 +22,20 @@ use Rattle.hy_protocol.specs.declared.Phase.TheVariants.{Working, Stamping, Undo
 use Rattle.hy_machine.specs.States.{State, Session, Open, Begun, Finished}
 use Rattle.hy_machine.specs.Tables.{Entry, Cell, Tables, capacity, positions_in, covered}
 use Rattle.hy_machine.specs.Writes.{Write, with_writes, blank_own}
-use Rattle.hy_protocol.specs.Turns.{Turn, Done, Waits, Begins, Visits, Answers, Enters, Ends}
+use Rattle.hy_protocol.specs.Turns.{Turn, Done, Waits, Begins, Visits, Answers, Saves, Enters, Ends}
 use Rattle.hy_machine.specs.Positions.{item_at}
+use Rattle.hy_machine.specs.Saving.{taken_back}
 use Rattle.hy_machine.specs.Sessions.{session_at, view, entry_of}
 use Rattle.hy_machine.specs.Holding.{opponent}
 use Rattle.hy_machine.specs.Visits.{verdict_at, swept}
 use Rattle.hy_machine.specs.Turns.{phase_turn}
 use Rattle.hy_machine.specs.Outcomes.{placed_in, placed_by, statements_in}
-use Rattle.hy_machine.specs.Steps.{with_session, beginning, after_visit, after_answer, done_with, order_with, after_turn}
+use Rattle.hy_machine.specs.Steps.{with_session, beginning, after_visit, after_answer, after_saving, done_with, order_with, after_turn}
 use Rattle.hy_machine.specs.Runs.{IsReached}
 use Rattle.hy_lawful.specs.Reached.{statements_at}
 use Rattle.hy_lawful.specs.Rooms.{how_many, has_placed, ReachedPlaced}
 use Rattle.hy_lawful.proofs.Booleans.{and_left}
+use Rattle.hy_lawful.proofs.Backs.{SinceIsOwn, backs_all, since_own}
 use Rattle.hy_lawful.proofs.Fits.{FitsTables}
 use Rattle.hy_lawful.proofs.Turns.{FitsTurn}
 use Rattle.hy_machine.specs.TurnCases.{WriteCases, StatementCases, UndoCases, statement_cases, undo_cases, stamp_cases, working_cases}
@@ -63,6 +65,7 @@ PlacesTurn tables statements begun (Waits by) = Unit {0}
 PlacesTurn tables statements begun Begins = Unit {0}
 PlacesTurn tables statements begun (Visits writes phase) = AllRowed tables begun.own writes
 PlacesTurn tables statements begun (Answers writes reply took records) = AllRowed tables begun.own writes ⊎ Takes statements begun writes took
+PlacesTurn tables statements begun (Saves statement reply) = Unit {0}
 PlacesTurn tables statements begun Enters = Unit {0}
 PlacesTurn tables statements begun (Ends ending) = Unit {0}
 
@@ -103,40 +106,56 @@ writes_place setting state statements number begun visited count statement kind 
   ends = λ writes e. inl (swept_rowed setting state number begun kind pred table visited writes own e);
 }
 
+-- a step back writes where one has written
+backs_rowed : (setting : Setting) (state : State) (begun : Begun) (name : List ℕ) (table chunk : ℕ) → SinceIsOwn setting begun
+    → AllRowed (start_tables setting state begun) begun.own (taken_back setting state begun name table chunk)
+backs_rowed setting state begun name table chunk since =
+    backs_all (λ (write : Write). (is_some (item_at begun.own write.table write.pos) ≡ true)
+    ⊎ (is_some (item_at (start_tables setting state begun) write.table write.pos) ≡ true)) setting state begun name table chunk
+    (λ pos s. inl (since name table pos s))
+
 statement_places : (setting : Setting) (state : State) (statements : List Bound) (number : ℕ) (begun : Begun) (visited count : ℕ)
-    → FitsTables setting begun.own → (statement : Bound) → slice_get statements (length begun.replies) ≡ Some statement
+    → FitsTables setting begun.own → SinceIsOwn setting begun → (statement : Bound) → slice_get statements (length begun.replies) ≡ Some statement
     → StatementCases setting state number begun (PlacesTurn (start_tables setting state begun) statements begun) visited count statement
-statement_places setting state statements number begun visited count own (Select tables ons pred items) here =
+statement_places setting state statements number begun visited count own since (Select tables ons pred items) here =
     record { goes = λ few. tt; ends = inl tt }
-statement_places setting state statements number begun visited count own (Group table pred key aggregate) here =
+statement_places setting state statements number begun visited count own since (Group table pred key aggregate) here =
     record { goes = λ few. tt; ends = inl tt }
-statement_places setting state statements number begun visited count own (Insert table row) here = record {
+statement_places setting state statements number begun visited count own since (Insert table row) here = record {
   checked = λ few. tt;
   twice = inl tt;
   takes = λ pos e. inr (record { of = table; at = pos; row = row; here = here; took_it = refl; wrote = refl });
   goes = λ past e few. tt;
   full = λ past e most. tt;
 }
-statement_places setting state statements number begun visited count own (Update table sets pred) here =
+statement_places setting state statements number begun visited count own since (Update table sets pred) here =
     writes_place setting state statements number begun visited count (Update table sets pred) (kind.Set sets) pred table own
-statement_places setting state statements number begun visited count own (Delete table pred) here =
+statement_places setting state statements number begun visited count own since (Delete table pred) here =
     writes_place setting state statements number begun visited count (Delete table pred) kind.Delete pred table own
+statement_places setting state statements number begun visited count own since (Savepoint name) here =
+    record { waits = λ by is. tt; saves = λ free. tt }
+statement_places setting state statements number begun visited count own since (RollbackTo name) here = record {
+  goes = λ chunk e. backs_rowed setting state begun name chunk.0 chunk.1 since;
+  ends = λ none. record { waits = λ by is. tt; saves = λ free. tt };
+}
+statement_places setting state statements number begun visited count own since (Release name) here =
+    record { waits = λ by is. tt; saves = λ free. tt }
 
 undo_places : (setting : Setting) (state : State) (statements : List Bound) (number : ℕ) (begun : Begun) (visited : ℕ) (cause : Ending)
     → UndoCases setting state number begun (PlacesTurn (start_tables setting state begun) statements begun) visited cause
 undo_places setting state statements number begun visited cause = record { goes = λ few. tt; waits = λ by is. tt; ends = λ free. tt }
 
-pub phase_places : (setting : Setting) (state : State) (number : ℕ) (txn : Txn) (begun : Begun) → FitsTables setting begun.own → (phase : Phase)
-    → PlacesTurn (start_tables setting state begun) txn.statements begun (phase_turn setting state number txn begun phase)
-phase_places setting state number txn begun own (Working visited count) =
+pub phase_places : (setting : Setting) (state : State) (number : ℕ) (txn : Txn) (begun : Begun) → FitsTables setting begun.own → SinceIsOwn setting begun
+    → (phase : Phase) → PlacesTurn (start_tables setting state begun) txn.statements begun (phase_turn setting state number txn begun phase)
+phase_places setting state number txn begun own since (Working visited count) =
     working_cases setting state number begun (PlacesTurn (start_tables setting state begun) txn.statements begun) txn visited count
     (λ statement e. statement_cases setting state number begun (PlacesTurn (start_tables setting state begun) txn.statements begun) visited count statement
-    (statement_places setting state txn.statements number begun visited count own statement e))
+    (statement_places setting state txn.statements number begun visited count own since statement e))
     (λ none commits. record { waits = λ by is. tt; reads = λ free nothing. tt; enters = λ free some e. tt; out = λ some cause e. tt })
     (λ none rolls. undo_places setting state txn.statements number begun 0 RolledBack)
-phase_places setting state number txn begun own (Stamping visited) =
+phase_places setting state number txn begun own since (Stamping visited) =
     stamp_cases setting state number begun (PlacesTurn (start_tables setting state begun) txn.statements begun) visited (λ few. tt) tt
-phase_places setting state number txn begun own (Undoing visited cause) =
+phase_places setting state number txn begun own since (Undoing visited cause) =
     undo_cases setting state number begun (PlacesTurn (start_tables setting state begun) txn.statements begun) visited cause
     (undo_places setting state txn.statements number begun visited cause)
 
@@ -185,13 +204,17 @@ session_grows setting order more number session h = record {
   now = now_grows setting order more (statements_at setting number (length session.done)) session.now h.now;
 }
 
-visit_counted : (setting : Setting) (order : List Entry) (statements : List Bound) (begun : Begun) (writes : List Write)
-    → AllRowed (tables_at setting order begun.prefix) begun.own writes → Counted setting order statements begun
-    → Counted setting order statements (record begun { own = with_writes begun.own writes })
-visit_counted setting order statements begun writes rowed c = record {
+visit_counted : (setting : Setting) (order : List Entry) (statements : List Bound) (current : Open) (writes : List Write) (phase : Phase)
+    → AllRowed (tables_at setting order current.begun.prefix) current.begun.own writes → Counted setting order statements current.begun
+    → Counted setting order statements (after_visit writes phase current).begun
+visit_counted setting order statements current writes phase rowed c = record {
   start = c.start;
   long = c.long;
-  few = λ table. omega (arith, c.few table, rowed_count (tables_at setting order begun.prefix) begun.own writes rowed table (capacity setting));
+  few = λ table. omega (
+    arith,
+    c.few table,
+    rowed_count (tables_at setting order current.begun.prefix) current.begun.own writes rowed table (capacity setting),
+  );
 }
 
 answer_counted : (setting : Setting) (order : List Entry) (statements : List Bound) (current : Open) (writes : List Write) (reply : Reply) (took : Option ℕ)
@@ -230,6 +253,15 @@ answer_counted setting order statements current writes reply took records h c = 
         ≤ how_many (has_placed tables current.begun.own table) (capacity setting) + placed_by table (Insert t.of t.row) (Some t.at)) (sym t.wrote)
         (insert_count tables current.begun.own t.of t.at t.row table (capacity setting)) in
         omega (arith, more, taken, count, c.few table)
+
+-- an answered statement that took no position places nothing
+saving_counted : (setting : Setting) (order : List Entry) (statements : List Bound) (current : Open) (statement : Bound) (reply : Reply)
+    → Counted setting order statements current.begun → Counted setting order statements (after_saving statement reply current).begun
+saving_counted setting order statements current statement reply c = record {
+  start = c.start;
+  long = omega (arith, c.long, length-append current.begun.took (None ∷ []), length-append current.begun.replies (reply ∷ []));
+  few = λ table. omega (arith, c.few table, took_least table statements current.begun.took None);
+}
 
 -- ---- steps
 
@@ -289,12 +321,17 @@ turn_counted setting state number current o (Visits writes phase) f h =
     subst (λ (now : Option Open). AllCounted setting
     (with_session state number (record { done = (session_at state number).done; now = option_map (after_visit writes phase) now })))
     (sym o.is) (goes_on setting state number (after_visit writes phase current) o.all o.there
-    (visit_counted setting state.order (statements_now setting state number) current.begun writes h o.counted))
+    (visit_counted setting state.order (statements_now setting state number) current writes phase h o.counted))
 turn_counted setting state number current o (Answers writes reply took records) f h =
     subst (λ (now : Option Open). AllCounted setting
     (with_session state number (record { done = (session_at state number).done; now = option_map (after_answer writes reply took records) now })))
     (sym o.is) (goes_on setting state number (after_answer writes reply took records current) o.all o.there
     (answer_counted setting state.order (statements_now setting state number) current writes reply took records h o.counted))
+turn_counted setting state number current o (Saves statement reply) f h =
+    subst (λ (now : Option Open). AllCounted setting
+    (with_session state number (record { done = (session_at state number).done; now = option_map (after_saving statement reply) now })))
+    (sym o.is) (goes_on setting state number (after_saving statement reply current) o.all o.there
+    (saving_counted setting state.order (statements_now setting state number) current statement reply o.counted))
 turn_counted setting state number current o Enters f h =
     subst (λ (now : Option Open). AllCounted setting (moved_to state (order_with setting state number now) (Some number) number
     (record { done = (session_at state number).done; now = option_map (after_visit [] (Stamping 0)) now })))
@@ -333,7 +370,8 @@ reached_counted setting = reached_by setting (AllCounted setting) (record {
       (phase_turn setting state number txn current.begun current.phase) takes.turn
       (subst (λ (of : List Bound). PlacesTurn (tables_at setting state.order current.begun.prefix) of current.begun
       (phase_turn setting state number txn current.begun current.phase)) (sym (ap statements_in takes.at))
-      (phase_places setting state number txn current.begun takes.present.own current.phase));
+      (phase_places setting state number txn current.begun takes.present.own (since_own setting state takes.reached number current takes.is)
+      current.phase));
 }) (λ number. subst (SessionCounted setting [] number) (sym (fresh_at setting number)) (record { done = λ before finished e. absurd cc; now = tt }))
 
 pub reached_placed : ReachedPlaced

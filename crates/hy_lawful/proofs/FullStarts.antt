@@ -15,10 +15,10 @@ use Rattle.hy_machine.specs.declared.Setting.{Setting}
 use Rattle.hy_protocol.specs.declared.Phase.TheVariants.{Stamping}
 use Rattle.hy_machine.specs.States.{State, Session, Open, Finished}
 use Rattle.hy_machine.specs.Tables.{Entry}
-use Rattle.hy_protocol.specs.Turns.{Turn, Done, Waits, Begins, Visits, Answers, Enters, Ends}
+use Rattle.hy_protocol.specs.Turns.{Turn, Done, Waits, Begins, Visits, Answers, Saves, Enters, Ends}
 use Rattle.hy_machine.specs.Turns.{session_turn, phase_turn}
 use Rattle.hy_machine.specs.Sessions.{session_at, txn_at, entry_of}
-use Rattle.hy_machine.specs.Steps.{with_open, beginning, with_changed, with_ended, after_visit, after_answer, order_with, after_turn, step_of}
+use Rattle.hy_machine.specs.Steps.{with_open, beginning, with_changed, with_ended, after_visit, after_answer, after_saving, order_with, after_turn, step_of}
 use Rattle.hy_machine.specs.Runs.{after_steps}
 use Rattle.hy_lawful.proofs.Fits.{OpenFits, NowFits, NowStamps, Fits}
 use Rattle.hy_lawful.proofs.Lists.{kept_in_front, all_so, all_joined, one_of}
@@ -137,6 +137,9 @@ turn_later setting state number there (Visits writes phase) h =
 turn_later setting state number there (Answers writes reply took records) h =
     later_moved state state.order state.mark number (with_changed (after_answer writes reply took records) (session_at state number)) there (omega arith)
     (adds_none (length state.order) _ _ (changed_starts (after_answer writes reply took records) (λ current. refl) (session_at state number)))
+turn_later setting state number there (Saves statement reply) h =
+    later_moved state state.order state.mark number (with_changed (after_saving statement reply) (session_at state number)) there (omega arith)
+    (adds_none (length state.order) _ _ (changed_starts (after_saving statement reply) (λ current. refl) (session_at state number)))
 turn_later setting state number there Enters h =
     later_moved state (order_with setting state number (session_at state number).now) (Some number) number
     (with_changed (after_visit [] (Stamping 0)) (session_at state number)) there (order_longer setting state number (session_at state number).now)

@@ -7,7 +7,7 @@ use Rattle.std.specs.Option.{option_map}
 use Rattle.std.proofs.lemmas.Option.{same_Some}
 use Rattle.hy_bound.specs.declared.Txn.{Txn}
 use Rattle.hy_bound.specs.declared.Bound.{Bound}
-use Rattle.hy_bound.specs.declared.Bound.TheVariants.{Select, Group, Insert, Update, Delete}
+use Rattle.hy_bound.specs.declared.Bound.TheVariants.{Select, Group, Insert, Update, Delete, Savepoint, RollbackTo, Release}
 use Rattle.hy_bound.specs.declared.Record.{Record}
 use Rattle.hy_bound.specs.Records.{shape_of}
 use Rattle.hy_machine.specs.Writes.{Write}
@@ -18,11 +18,11 @@ use Rattle.hy_protocol.specs.declared.Phase.{Phase}
 use Rattle.hy_protocol.specs.declared.Phase.TheVariants.{Working, Stamping, Undoing}
 use Rattle.hy_machine.specs.States.{State, Open, Begun, Finished}
 use Rattle.hy_machine.specs.Tables.{Entry}
-use Rattle.hy_protocol.specs.Turns.{Turn, Done, Waits, Begins, Visits, Answers, Enters, Ends, unless_blocked}
+use Rattle.hy_protocol.specs.Turns.{Turn, Done, Waits, Begins, Visits, Answers, Saves, Enters, Ends, unless_blocked}
 use Rattle.hy_machine.specs.Turns.{phase_turn, session_turn}
 use Rattle.hy_machine.specs.Sessions.{session_at, txn_at, blocker, entry_of}
 use Rattle.hy_machine.specs.Outcomes.{statements_in}
-use Rattle.hy_machine.specs.Steps.{with_session, beginning, after_visit, after_answer, done_with, order_with, after_turn, step_of}
+use Rattle.hy_machine.specs.Steps.{with_session, beginning, after_visit, after_answer, after_saving, done_with, order_with, after_turn, step_of}
 use Rattle.hy_machine.specs.Runs.{opening_of, after_steps, IsReached}
 use Rattle.hy_lawful.specs.Reached.{statements_at}
 use Rattle.hy_lawful.proofs.Fits.{IsNumbered, OpenFits, NowFits, NowStamps, Fits}
@@ -51,6 +51,9 @@ work_zero setting state number before prefix (Some (Insert table row)) =
     λ pos below. absurd (omega (arith, below, none))
 work_zero setting state number before prefix (Some (Update table sets pred)) = tt
 work_zero setting state number before prefix (Some (Delete table pred)) = tt
+work_zero setting state number before prefix (Some (Savepoint name)) = tt
+work_zero setting state number before prefix (Some (RollbackTo name)) = tt
+work_zero setting state number before prefix (Some (Release name)) = tt
 
 phase_room : (setting : Setting) (state : State) → Fits setting state → Passes setting state → AllBefore state → AllLow state
     → (number : ℕ) (txn : Txn) (begun : Begun) (phase : Phase)
@@ -138,6 +141,14 @@ turn_room setting state number current there all is (Answers writes reply took r
     (work_zero setting state number (length (session_at state number).done) current.begun.prefix
     (present_statement (statements_at setting number (length (session_at state number).done))
     (after_answer writes reply took records current).begun))) g
+turn_room setting state number current there all is (Saves statement reply) f h g =
+    subst (λ (now : Option Open).
+    Goes state (with_session state number (record { done = (session_at state number).done; now = option_map (after_saving statement reply) now }))
+    → AllRoom setting
+    (with_session state number (record { done = (session_at state number).done; now = option_map (after_saving statement reply) now })))
+    (sym is) (goes_on setting state state.order state.mark number (after_saving statement reply current) there all
+    (work_zero setting state number (length (session_at state number).done) current.begun.prefix
+    (present_statement (statements_at setting number (length (session_at state number).done)) (after_saving statement reply current).begun))) g
 turn_room setting state number current there all is Enters f h g =
     subst (λ (now : Option Open). Goes state (moved_to state (order_with setting state number now) (Some number) number
     (record { done = (session_at state number).done; now = option_map (after_visit [] (Stamping 0)) now }))

@@ -14,11 +14,11 @@ use Rattle.hy_protocol.specs.declared.Phase.{Phase}
 use Rattle.hy_protocol.specs.declared.Phase.TheVariants.{Working, Stamping, Undoing}
 use Rattle.hy_machine.specs.States.{State, Session, Open, Begun}
 use Rattle.hy_machine.specs.Tables.{Entry}
-use Rattle.hy_protocol.specs.Turns.{Turn, Done, Waits, Begins, Visits, Answers, Enters, Ends}
+use Rattle.hy_protocol.specs.Turns.{Turn, Done, Waits, Begins, Visits, Answers, Saves, Enters, Ends}
 use Rattle.hy_machine.specs.Turns.{phase_turn, stamp_turn}
 use Rattle.hy_machine.specs.Sessions.{fresh, session_at, entry_of}
 use Rattle.hy_machine.specs.Writes.{Write, written_chunks}
-use Rattle.hy_machine.specs.Steps.{with_session, beginning, after_visit, after_answer, done_with, order_with, after_turn}
+use Rattle.hy_machine.specs.Steps.{with_session, beginning, after_visit, after_answer, after_saving, done_with, order_with, after_turn}
 use Rattle.hy_machine.specs.Runs.{IsReached}
 use Rattle.hy_machine.specs.Begun.{count_open, count_begun}
 use Rattle.hy_lawful.proofs.FullTables.{sum_less}
@@ -58,6 +58,7 @@ TurnCounts many (Waits by) = Unit {0}
 TurnCounts many Begins = ⊥
 TurnCounts many (Visits writes phase) = many ≤ count_stamping phase
 TurnCounts many (Answers writes reply took records) = many ≡ 0
+TurnCounts many (Saves statement reply) = many ≡ 0
 TurnCounts many Enters = many ≡ 0
 TurnCounts many (Ends ending) = Unit {0}
 
@@ -68,6 +69,7 @@ nothing_lost setting statements begun (Waits by) h = tt
 nothing_lost setting statements begun Begins h = absurd h
 nothing_lost setting statements begun (Visits writes phase) h = omega arith
 nothing_lost setting statements begun (Answers writes reply took records) h = refl
+nothing_lost setting statements begun (Saves statement reply) h = refl
 nothing_lost setting statements begun Enters h = refl
 nothing_lost setting statements begun (Ends ending) h = tt
 
@@ -120,6 +122,12 @@ turn_few setting state number current few there is = by_turn
         (moves_few state state.order state.mark number
         (record { done = (session_at state number).done; now = Some (after_answer writes reply took records current) }) few there
         (omega (arith, h, counts)))
+    by_turn (Saves statement reply) h =
+        subst (λ (now : Option Open). FewEntered
+        (with_session state number (record { done = (session_at state number).done; now = option_map (after_saving statement reply) now })))
+        (sym is)
+        (moves_few state state.order state.mark number
+        (record { done = (session_at state number).done; now = Some (after_saving statement reply current) }) few there (omega (arith, h, counts)))
     by_turn Enters h =
         subst (λ (now : Option Open). FewEntered (moved_to state (order_with setting state number now) (Some number) number
         (record { done = (session_at state number).done; now = option_map (after_visit [] (Stamping 0)) now })))

@@ -17,6 +17,7 @@ use Rattle.hy_lawful.proofs.Lists.{over_past}
 use Rattle.hy_lawful.proofs.Fits.{PhaseFits, OpenFits, NowFits}
 use Rattle.hy_lawful.proofs.Reached.{reached_fits}
 use Rattle.hy_lawful.proofs.KeptStands.{PhaseStands}
+use Rattle.hy_lawful.proofs.Trails.{reached_trails}
 use Rattle.hy_lawful.proofs.KeptSteps.{OpenStands, NowStands, reached_stands}
 
 -- an open transaction fits
@@ -49,6 +50,7 @@ open_kept setting state r number current is =
     subst (NowStands setting (statements_at setting number (length (session_at state number).done))) is (reached_stands setting state r number).now in
     record {
       own = stands.own;
+      trail = reached_trails setting state r number current is;
       took = stands.took;
       phase = phase_kept setting state number current.begun (txn_at setting number (session_at state number)) refl fits.there current.phase fits.phase
           stands.phase;

@@ -5,11 +5,11 @@ use Rattle.std.proofs.Math.ListN.{set}
 use Rattle.std.specs.Prelude.{slice_get}
 use Rattle.std.specs.List.{AllByRecursion}
 use Rattle.std.proofs.lemmas.List.{length-map, length-set, length-replicate}
-use Rattle.std.proofs.lemmas.Option.{same_Some}
+use Rattle.std.proofs.lemmas.Option.{same_Some, slice_get_within}
 use Rattle.hy_value.specs.declared.Value.{Value}
 use Rattle.hy_bound.specs.declared.Txn.{Txn}
 use Rattle.hy_bound.specs.declared.Bound.{Bound}
-use Rattle.hy_bound.specs.declared.Bound.TheVariants.{Select, Group, Insert, Update, Delete}
+use Rattle.hy_bound.specs.declared.Bound.TheVariants.{Select, Group, Insert, Update, Delete, Savepoint, RollbackTo, Release}
 use Rattle.hy_bound.specs.declared.Reply.{Reply}
 use Rattle.hy_bound.specs.declared.WriteKind.{WriteKind}
 use Rattle.hy_bound.specs.declared.WriteKind.TheVariants as kind
@@ -22,9 +22,11 @@ use Rattle.hy_protocol.specs.declared.Phase.{Phase}
 use Rattle.hy_protocol.specs.declared.Phase.TheVariants.{Working, Stamping, Undoing}
 use Rattle.hy_machine.specs.States.{State, Begun}
 use Rattle.hy_machine.specs.Writes.{Write, blank_own, with_write, with_writes, written_chunks}
-use Rattle.hy_protocol.specs.Turns.{Turn, Done, Waits, Begins, Visits, Answers, Enters, Ends}
+use Rattle.hy_protocol.specs.Turns.{Turn, Done, Waits, Begins, Visits, Answers, Saves, Enters, Ends}
 use Rattle.hy_machine.specs.Tables.{Cell, Own, capacity}
 use Rattle.hy_machine.specs.Sessions.{view}
+use Rattle.hy_machine.specs.Saving.{written_since}
+use Rattle.hy_machine.specs.ChunkCounts.{since_few}
 use Rattle.hy_machine.specs.Visits.{swept, checks_of}
 use Rattle.hy_machine.specs.Turns.{rows_seen}
 use Rattle.hy_machine.specs.Turns.{phase_turn}
@@ -77,6 +79,7 @@ TurnStands setting statements begun (Waits by) = Unit {0}
 TurnStands setting statements begun Begins = ⊥
 TurnStands setting statements begun (Visits writes phase) = PhaseStands setting statements (record begun { own = with_writes begun.own writes }) phase
 TurnStands setting statements begun (Answers writes reply took records) = Unit {0}
+TurnStands setting statements begun (Saves statement reply) = Unit {0}
 TurnStands setting statements begun Enters = Unit {0}
 TurnStands setting statements begun (Ends ending) = Unit {0}
 
@@ -99,7 +102,8 @@ writes_stand setting statements begun visited count statement kind result e many
 }
 
 reads_stand : (setting : Setting) (statements : List Bound) (begun : Begun) (visited tables : ℕ) (statement : Bound)
-    (gathered : List (List (List Value))) (reply : Reply) → slice_get statements (length begun.replies) ≡ Some statement → visits_in setting statement ≡ setting.chunks * tables
+    (gathered : List (List (List Value))) (reply : Reply) → slice_get statements (length begun.replies) ≡ Some statement
+    → visits_in setting statement ≡ setting.chunks * tables
     → ReadCases setting begun (TurnStands setting statements begun) visited tables statement gathered reply
 reads_stand setting statements begun visited tables statement gathered reply e many = record {
   goes = λ few. few_visits setting statements begun statement (suc visited) e (subst (λ (n : ℕ). suc visited < n) (sym many) few);
@@ -134,6 +138,13 @@ statement_stands setting state number statements begun visited count (Update tab
 statement_stands setting state number statements begun visited count (Delete table pred) e =
     writes_stand setting statements begun visited count (Delete table pred) kind.Delete
     (swept setting state number begun kind.Delete pred table visited) e refl
+statement_stands setting state number statements begun visited count (Savepoint name) e = record { waits = λ by is. tt; saves = λ free. tt }
+statement_stands setting state number statements begun visited count (RollbackTo name) e = record {
+  goes = λ chunk is. few_visits setting statements begun (RollbackTo name) (suc visited) e
+      (omega (arith, since_few setting begun name, slice_get_within (written_since setting begun name) visited chunk is));
+  ends = λ none. record { waits = λ by is. tt; saves = λ free. tt };
+}
+statement_stands setting state number statements begun visited count (Release name) e = record { waits = λ by is. tt; saves = λ free. tt }
 
 undo_stands : (setting : Setting) (state : State) (number : ℕ) (statements : List Bound) (begun : Begun) (visited : ℕ) (cause : Ending)
     → UndoCases setting state number begun (TurnStands setting statements begun) visited cause

@@ -11,11 +11,11 @@ use Rattle.hy_machine.specs.declared.Setting.{Setting}
 use Rattle.hy_protocol.specs.declared.Phase.TheVariants.{Working, Stamping}
 use Rattle.hy_machine.specs.States.{State, Session, Open, Finished}
 use Rattle.hy_machine.specs.Tables.{Entry}
-use Rattle.hy_protocol.specs.Turns.{Turn, Done, Waits, Begins, Visits, Answers, Enters, Ends}
+use Rattle.hy_protocol.specs.Turns.{Turn, Done, Waits, Begins, Visits, Answers, Saves, Enters, Ends}
 use Rattle.hy_machine.specs.Turns.{phase_turn}
 use Rattle.hy_machine.specs.Sessions.{session_at}
 use Rattle.hy_machine.specs.Outcomes.{statements_in}
-use Rattle.hy_machine.specs.Steps.{with_session, beginning, after_visit, after_answer, done_with, order_with, after_turn}
+use Rattle.hy_machine.specs.Steps.{with_session, beginning, after_visit, after_answer, after_saving, done_with, order_with, after_turn}
 use Rattle.hy_machine.specs.Runs.{IsReached}
 use Rattle.hy_machine.specs.Kept.{OwnFits}
 use Rattle.hy_lawful.specs.Reached.{statements_at}
@@ -97,6 +97,17 @@ turn_stands setting state number current all there is o (Answers writes reply to
       took = omega (arith, o.took, length-append current.begun.took (took ∷ []), length-append current.begun.replies (reply ∷ []));
       low = o.low;
       phase = λ statement e. inl refl;
+    }))
+turn_stands setting state number current all there is o (Saves statement reply) h =
+    subst (λ (now : Option Open). AllStand setting
+    (with_session state number (record { done = (session_at state number).done; now = option_map (after_saving statement reply) now })))
+    (sym is)
+    (goes_on setting state state.order state.mark number (after_saving statement reply current) all there
+    (record {
+      own = o.own;
+      took = omega (arith, o.took, length-append current.begun.took (None ∷ []), length-append current.begun.replies (reply ∷ []));
+      low = o.low;
+      phase = λ other e. inl refl;
     }))
 turn_stands setting state number current all there is o Enters h =
     subst (λ (now : Option Open). AllStand setting (moved_to state (order_with setting state number now) (Some number) number

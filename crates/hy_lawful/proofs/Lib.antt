@@ -10,6 +10,8 @@ pub mod Places
 pub mod Turns
 pub mod Reached
 pub mod ReachedBy
+pub mod Trails
+pub mod Backs
 pub mod Outcomes
 pub mod Over
 pub mod Endings
@@ -40,6 +42,7 @@ pub mod PassSteps
 pub mod RunSweeps
 pub mod RunFree
 pub mod RunAnswers
+pub mod RunBacks
 pub mod RunVisits
 pub mod RunInserts
 pub mod RunTurns
@@ -48,6 +51,7 @@ pub mod WroteSweeps
 pub mod WroteStates
 pub mod WroteInserts
 pub mod WroteFollows
+pub mod WroteBacks
 pub mod WroteRows
 pub mod WroteEnds
 pub mod KeptChanges
@@ -81,3 +85,6 @@ pub mod ViewRows
 pub mod ViewTurns
 pub mod ViewSteps
 pub mod ViewWidths
+pub mod KeyRows
+pub mod KeyTurns
+pub mod KeySteps

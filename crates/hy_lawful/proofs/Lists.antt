@@ -1,6 +1,6 @@
 -- Lists item by item: what a longer list keeps, and what is said of every item.
-use Rattle.std.proofs.Common.{◌≡◌, ℕ, zero, suc, ◌+◌, ◌≤◌, List, [], ◌∷◌, ◌++◌, Option, None, Some, Bool, true, false, length, map, cond, refl, sym, subst}
-use Rattle.std.proofs.Common.{arith, inl, inr, ◌⊎◌, zero-add, add-zero}
+use Rattle.std.proofs.Common.{◌≡◌, ℕ, zero, suc, ◌+◌, ◌≤◌, List, [], ◌∷◌, ◌++◌, Option, None, Some, Bool, true, false, length}
+use Rattle.std.proofs.Common.{map, take, cond, refl, sym, subst, arith, inl, inr, ◌⊎◌, zero-add, add-zero}
 use Rattle.std.specs.Prelude.{slice_get, filter}
 use Rattle.std.specs.List.{AllByRecursion}
 use Rattle.std.specs.Option.{option_or}
@@ -38,6 +38,12 @@ all_mapped P f (x ∷ xs) h = (h.0, all_mapped P f xs h.1)
 pub all_so : {X : Type 0} (P Q : X → Type 0) (xs : List X) → ((x : X) → P x → Q x) → AllByRecursion P xs → AllByRecursion Q xs
 all_so P Q [] f h = tt
 all_so P Q (x ∷ xs) f h = (f x h.0, all_so P Q xs f h.1)
+
+-- of the first items
+pub all_taken : {X : Type 0} (P : X → Type 0) (n : ℕ) (xs : List X) → AllByRecursion P xs → AllByRecursion P (take n xs)
+all_taken P zero xs h = tt
+all_taken P (suc n) [] h = tt
+all_taken P (suc n) (x ∷ xs) h = (h.0, all_taken P n xs h.1)
 
 kept_then : {X : Type 0} (P : X → Type 0) (x : X) (kept : List X) (b : Bool) → (b ≡ true → P x) → AllByRecursion P kept
     → AllByRecursion P (cond b (x ∷ kept) kept)

@@ -20,6 +20,7 @@ use Rattle.hy_machine.specs.Positions.{item_at, last_some}
 use Rattle.hy_machine.specs.Sessions.{session_at, view, snapshot}
 use Rattle.hy_machine.specs.Holding.{holds, holder_from, changes_row, changer_at, opponent, is_held, has_pair, is_free}
 use Rattle.hy_machine.specs.Visits.{new_cell, judged, verdict, and_write, sweep, verdict_at, swept}
+use Rattle.hy_lawful.proofs.Backs.{SinceIsOwn}
 use Rattle.hy_lawful.proofs.Fits.{FitsTables, Fits}
 use Rattle.hy_lawful.proofs.PassTables.{cell_at, pair_at, tables_are, covered_at, AllFit, cell_next}
 use Rattle.hy_lawful.proofs.PassHits.{from_dropped, dropped_pair, unchanged_by, or_none, none_there, unchanged, unwritten}
@@ -39,7 +40,7 @@ OwnMay setting state number begun = (table pos : ℕ) → is_some (item_at begun
 abbrev pub AllMay : Setting → State → ℕ → Begun → List Write → Type 0
 AllMay setting state number begun writes = AllByRecursion (λ (write : Write). MayWrite setting state number begun write.table write.pos) writes
 
--- a transaction that is at work: it may write where it has written
+-- a transaction that is at work: it may write where it has written, and what it wrote since a savepoint is its own
 pub record IsAtWork (setting : Setting) (state : State) (number : ℕ) (begun : Begun) : Type 0 where
   pub fits : Fits setting state
   pub passes : Passes setting state
@@ -47,6 +48,7 @@ pub record IsAtWork (setting : Setting) (state : State) (number : ℕ) (begun : 
   pub low : begun.low ≤ begun.prefix
   pub start : begun.prefix ≤ length state.order
   pub may : OwnMay setting state number begun
+  pub since : SinceIsOwn setting begun
 
 -- nobody is in the way where one may write
 pub no_opponent : (setting : Setting) (state : State) (number : ℕ) (begun : Begun) (table pos : ℕ) → MayWrite setting state number begun table pos
@@ -175,7 +177,18 @@ found_is p (one ∷ xs) x e = elim (cases_Bool (p one)) [
   | inr f ↦ found_is p xs x (ap (λ b. cond b (Some one) (find p xs)) (sym f) ∙ e)
 ]
 
--- a free position may be written
+-- a free position has no row from the watermark on
+pub free_empty : (setting : Setting) (state : State) (begun : Begun) (table pos : ℕ) → is_free setting state begun table pos ≡ true
+    → (rank : ℕ) → begun.low ≤ rank → cell_at setting state.order rank table pos ≡ None
+free_empty setting state begun table pos e rank from =
+    let parts = all_three (not (is_held setting state table pos)) (not (is_some (item_at (snapshot setting state begun.low) table pos)))
+    (not (list_any (has_pair table pos) (drop begun.low state.order))) e in
+    kept_since (opening_tables setting) state.order begun.low rank table pos from
+    (not-true (list_any (has_pair table pos) (drop begun.low state.order)) parts.2)
+    ∙ none_there (item_at (snapshot setting state begun.low) table pos)
+    (not-true (is_some (item_at (snapshot setting state begun.low) table pos)) parts.1)
+
+-- it may be written
 pub free_may : (setting : Setting) (state : State) (number : ℕ) (begun : Begun) (table pos : ℕ) → begun.low ≤ begun.prefix
     → is_free setting state begun table pos ≡ true → MayWrite setting state number begun table pos
 free_may setting state number begun table pos low e =
@@ -186,9 +199,5 @@ free_may setting state number begun table pos low e =
           (unwritten table pos (drop begun.low state.order) (not-true (list_any (has_pair table pos) (drop begun.low state.order)) parts.2))
           rank (omega (arith, low, h));
       alone = λ other apart. held_by_none setting table pos state.sessions (not-true (is_held setting state table pos) parts.0) other;
-      empty = λ none rank from to.
-          kept_since (opening_tables setting) state.order begun.low rank table pos from
-          (not-true (list_any (has_pair table pos) (drop begun.low state.order)) parts.2)
-          ∙ none_there (item_at (snapshot setting state begun.low) table pos)
-          (not-true (is_some (item_at (snapshot setting state begun.low) table pos)) parts.1);
+      empty = λ none rank from to. free_empty setting state begun table pos e rank from;
     }

@@ -11,18 +11,19 @@ use Rattle.hy_machine.specs.declared.Setting.{Setting}
 use Rattle.hy_protocol.specs.declared.Phase.TheVariants.{Working, Stamping}
 use Rattle.hy_machine.specs.States.{State, Session, Open, Finished}
 use Rattle.hy_machine.specs.Tables.{Entry, Cell, capacity, chunk_of}
-use Rattle.hy_protocol.specs.Turns.{Turn, Done, Waits, Begins, Visits, Answers, Enters, Ends}
+use Rattle.hy_protocol.specs.Turns.{Turn, Done, Waits, Begins, Visits, Answers, Saves, Enters, Ends}
 use Rattle.hy_machine.specs.Turns.{phase_turn}
 use Rattle.hy_machine.specs.Positions.{item_at}
 use Rattle.hy_machine.specs.Writes.{Write, blank_own, written_chunks, is_among}
 use Rattle.hy_machine.specs.Sessions.{session_at, least_with, least_prefix, entry_of}
 use Rattle.hy_machine.specs.Holding.{holds}
 use Rattle.hy_machine.specs.Validation.{committed_of, first_hit}
-use Rattle.hy_machine.specs.Steps.{with_session, beginning, after_visit, after_answer, done_with, order_with, after_turn}
+use Rattle.hy_machine.specs.Steps.{with_session, beginning, after_visit, after_answer, after_saving, done_with, order_with, after_turn}
 use Rattle.hy_machine.specs.Runs.{opening_of, IsReached}
 use Rattle.hy_lawful.specs.Outcomes.{committed_at}
 use Rattle.hy_lawful.specs.Reached.{ReachedPassUnseen}
 use Rattle.hy_lawful.proofs.Lists.{all_more, one_of}
+use Rattle.hy_lawful.proofs.Backs.{since_own}
 use Rattle.hy_lawful.proofs.Fits.{PhaseFits, OpenFits, NowFits, Fits}
 use Rattle.hy_lawful.proofs.Moves.{moved_to}
 use Rattle.hy_lawful.proofs.Turns.{FitsTurn}
@@ -202,6 +203,10 @@ turn_passes setting state number current o (Answers writes reply took records) f
     subst (λ (now : Option Open). Passes setting
     (with_session state number (record { done = (session_at state number).done; now = option_map (after_answer writes reply took records) now })))
     (sym o.is) (goes setting state number current (after_answer writes reply took records current) o h (writes_keep current.begun.own writes))
+turn_passes setting state number current o (Saves statement reply) f h =
+    subst (λ (now : Option Open). Passes setting
+    (with_session state number (record { done = (session_at state number).done; now = option_map (after_saving statement reply) now })))
+    (sym o.is) (goes setting state number current (after_saving statement reply current) o h (λ table pos own. own))
 turn_passes setting state number current o Enters f h =
     subst (λ (now : Option Open). Passes setting (moved_to state (order_with setting state number now) (Some number) number
     (record { done = (session_at state number).done; now = option_map (after_visit [] (Stamping 0)) now })))
@@ -233,7 +238,8 @@ reached_passes setting = reached_by setting (Passes setting) (record {
       turn_passes setting state number current
       (record { fits = takes.fits; passes = passes; there = takes.there; is = takes.is; low = passing.low; born = passing.born })
       (phase_turn setting state number txn current.begun current.phase) takes.turn
-      (phase_passes setting state takes.fits passes number txn current.begun takes.present.own current.phase passing
+      (phase_passes setting state takes.fits passes number txn current.begun takes.present.own
+      (since_own setting state takes.reached number current takes.is) current.phase passing
       (λ other table pos apart h. passes.alone number other table pos apart (ap (holds setting table pos) takes.is ∙ h))
       (subst (NowNames state) takes.is (passes.names number).now));
 }) (opening_passes setting)

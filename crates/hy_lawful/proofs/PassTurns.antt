@@ -1,11 +1,11 @@
 -- What a session's turn makes of its open transaction passes.
-use Rattle.std.proofs.Common.{◌≡◌, ℕ, suc, ◌+◌, ◌-◌, ◌≤◌, List, Option, None, Some, true, is_some, length}
+use Rattle.std.proofs.Common.{◌≡◌, ℕ, suc, ◌+◌, ◌-◌, ◌≤◌, List, [], Option, None, Some, true, is_some, length}
 use Rattle.std.proofs.Common.{map, drop, refl, ap, sym, ◌∙◌, subst, arith}
 use Rattle.std.specs.Prelude.{IfSome, slice_get}
 use Rattle.std.proofs.lemmas.Bool.{and_parts, and_from}
 use Rattle.hy_bound.specs.declared.Txn.{Txn}
 use Rattle.hy_bound.specs.declared.Bound.{Bound}
-use Rattle.hy_bound.specs.declared.Bound.TheVariants.{Select, Group, Insert, Update, Delete}
+use Rattle.hy_bound.specs.declared.Bound.TheVariants.{Select, Group, Insert, Update, Delete, Savepoint, RollbackTo, Release}
 use Rattle.hy_bound.specs.declared.WriteKind.{WriteKind}
 use Rattle.hy_bound.specs.declared.WriteKind.TheVariants as kind
 use Rattle.hy_bound.specs.Condition.{Condition}
@@ -17,16 +17,18 @@ use Rattle.hy_protocol.specs.declared.Phase.{Phase}
 use Rattle.hy_protocol.specs.declared.Phase.TheVariants.{Working, Stamping, Undoing}
 use Rattle.hy_machine.specs.States.{State, Open, Begun}
 use Rattle.hy_machine.specs.Tables.{Entry, Cell, Own, positions_in, chunk_of}
-use Rattle.hy_machine.specs.Writes.{Write, with_writes, written_chunks, is_among}
-use Rattle.hy_protocol.specs.Turns.{Turn, Done, Waits, Begins, Visits, Answers, Enters, Ends}
+use Rattle.hy_machine.specs.Writes.{Write, with_writes, with_trail, written_chunks, is_among}
+use Rattle.hy_protocol.specs.Turns.{Turn, Done, Waits, Begins, Visits, Answers, Saves, Enters, Ends}
 use Rattle.hy_machine.specs.Positions.{item_at}
+use Rattle.hy_machine.specs.Saving.{taken_back}
 use Rattle.hy_machine.specs.Sessions.{view}
 use Rattle.hy_machine.specs.Holding.{undone, holds, is_free, opponent}
 use Rattle.hy_machine.specs.Validation.{committed_of, first_hit}
 use Rattle.hy_machine.specs.Visits.{verdict_at, swept, checks_of}
 use Rattle.hy_machine.specs.Turns.{undo_turn, stamp_turn, working_turn, phase_turn}
-use Rattle.hy_machine.specs.Steps.{after_visit, after_answer}
+use Rattle.hy_machine.specs.Steps.{after_visit, after_answer, after_saving}
 use Rattle.hy_lawful.specs.Outcomes.{committed_at}
+use Rattle.hy_lawful.proofs.Backs.{SinceIsOwn, backs_all}
 use Rattle.hy_lawful.proofs.Fits.{FitsTables, Fits}
 use Rattle.hy_lawful.proofs.Opponents.{label_dropped}
 use Rattle.hy_lawful.proofs.Refusals.{sweep_refuses, verdict_fails, first_hit_is, any_record, is_invalid}
@@ -51,6 +53,7 @@ PassesTurn setting state number current Begins = ⊥
 PassesTurn setting state number current (Visits writes phase) = GoesOn setting state number (after_visit writes phase current)
 PassesTurn setting state number current (Answers writes reply took records) =
     GoesOn setting state number (after_answer writes reply took records current)
+PassesTurn setting state number current (Saves statement reply) = GoesOn setting state number (after_saving statement reply current)
 PassesTurn setting state number current Enters =
     OwnMay setting state number current.begun
     × (first_hit current.begun.records (map committed_of (drop current.begun.prefix state.order)) ≡ None)
@@ -72,8 +75,10 @@ WorkTurn setting state number begun Done = Unit {0}
 WorkTurn setting state number begun (Waits by) = Unit {0}
 WorkTurn setting state number begun Begins = ⊥
 WorkTurn setting state number begun (Visits writes phase) =
-    AllMay setting state number begun writes × NextPhase state (record begun { own = with_writes begun.own writes }) phase
+    AllMay setting state number begun writes
+    × NextPhase state (record begun { own = with_writes begun.own writes; trail = with_trail begun.trail writes }) phase
 WorkTurn setting state number begun (Answers writes reply took records) = AllMay setting state number begun writes
+WorkTurn setting state number begun (Saves statement reply) = Unit {0}
 WorkTurn setting state number begun Enters = first_hit begun.records (map committed_of (drop begun.prefix state.order)) ≡ None
 WorkTurn setting state number begun (Ends ending) = Refused state begun ending
 
@@ -108,6 +113,13 @@ sweep_writes setting state number begun visited count statement kind pred table 
   ends = λ writes e. swept_may setting state number begun kind pred table visited writes w e;
 }
 
+-- what is written back is written where one has written
+backs_may : (setting : Setting) (state : State) (number : ℕ) (begun : Begun) (name : List ℕ) (table chunk : ℕ) → IsAtWork setting state number begun
+    → AllMay setting state number begun (taken_back setting state begun name table chunk)
+backs_may setting state number begun name table chunk w =
+    backs_all (λ (write : Write). MayWrite setting state number begun write.table write.pos) setting state begun name table chunk
+    (λ pos since. w.may table pos (w.since name table pos since))
+
 statement_writes : (setting : Setting) (state : State) (number : ℕ) (begun : Begun) (visited count : ℕ) (statement : Bound)
     → IsAtWork setting state number begun → StatementCases setting state number begun (WorkTurn setting state number begun) visited count statement
 statement_writes setting state number begun visited count (Select tables ons pred items) w = record { goes = λ few. (tt, tt); ends = tt }
@@ -125,6 +137,12 @@ statement_writes setting state number begun visited count (Update table sets pre
     sweep_writes setting state number begun visited count (Update table sets pred) (kind.Set sets) pred table w
 statement_writes setting state number begun visited count (Delete table pred) w =
     sweep_writes setting state number begun visited count (Delete table pred) kind.Delete pred table w
+statement_writes setting state number begun visited count (Savepoint name) w = record { waits = λ by is. tt; saves = λ free. tt }
+statement_writes setting state number begun visited count (RollbackTo name) w = record {
+  goes = λ chunk e. (backs_may setting state number begun name chunk.0 chunk.1 w, tt);
+  ends = λ none. record { waits = λ by is. tt; saves = λ free. tt };
+}
+statement_writes setting state number begun visited count (Release name) w = record { waits = λ by is. tt; saves = λ free. tt }
 
 -- ---- what closes a transaction
 
@@ -216,6 +234,8 @@ writes_pass setting state number current w (Visits writes phase) h =
     goes_on setting state number current.begun writes (after_visit writes phase current) w h.0 refl refl refl h.1
 writes_pass setting state number current w (Answers writes reply took records) h =
     goes_on setting state number current.begun writes (after_answer writes reply took records current) w h refl refl refl tt
+writes_pass setting state number current w (Saves statement reply) h =
+    goes_on setting state number current.begun [] (after_saving statement reply current) w tt refl refl refl tt
 writes_pass setting state number current w Enters h = (w.may, h)
 writes_pass setting state number current w (Ends ending) h =
     ((subst (λ (rank : Option ℕ). IfSome rank (Passed setting state.order current.begun)) (sym h.0) tt, h.1), h.2)
@@ -255,16 +275,18 @@ stamp_passes setting state number begun visited low born passed alone =
 
 -- the turn of an open transaction
 pub phase_passes : (setting : Setting) (state : State) → Fits setting state → Passes setting state → (number : ℕ) (txn : Txn) (begun : Begun)
-    → FitsTables setting begun.own → (phase : Phase) → OpenPasses setting state.order (record { begun = begun; phase = phase })
+    → FitsTables setting begun.own → SinceIsOwn setting begun → (phase : Phase)
+    → OpenPasses setting state.order (record { begun = begun; phase = phase })
     → HoldsAlone setting state number (Some (record { begun = begun; phase = phase })) → PhaseNames state phase
     → PassesTurn setting state number (record { begun = begun; phase = phase }) (phase_turn setting state number txn begun phase)
-phase_passes setting state fits passes number txn begun own (Working visited count) present alone named =
+phase_passes setting state fits passes number txn begun own since (Working visited count) present alone named =
     let works : IsAtWork setting state number begun = record {
       fits = fits;
       passes = passes;
       own = own;
       low = present.low;
       start = present.born.start;
+      since = since;
       may = λ table pos e.
           let held : holds setting table pos (Some (record { begun = begun; phase = Working visited count })) ≡ true =
           and_from (is_some (item_at begun.own table pos)) (is_among (written_chunks setting begun.own) table (chunk_of setting pos)) e
@@ -278,7 +300,7 @@ phase_passes setting state fits passes number txn begun own (Working visited cou
     writes_pass setting state number (record { begun = begun; phase = Working visited count }) works
     (working_turn setting state number txn begun visited count (slice_get txn.statements (length begun.replies)))
     (working_writes setting state number txn begun visited count works)
-phase_passes setting state fits passes number txn begun own (Stamping visited) present alone named =
+phase_passes setting state fits passes number txn begun own since (Stamping visited) present alone named =
     stamp_passes setting state number begun visited present.low present.born present.phase alone
-phase_passes setting state fits passes number txn begun own (Undoing visited cause) present alone named =
+phase_passes setting state fits passes number txn begun own since (Undoing visited cause) present alone named =
     undo_passes setting state number begun visited cause present.low present.born present.phase named alone

@@ -1,5 +1,5 @@
 -- A value goes out of range for the row of the start, as the answered statements left it, or for one that was placed.
-use Rattle.std.proofs.Common.{◌≡◌, ℕ, List, Option, None, Some, true, false, is_some, ap, sym, ◌∙◌, refl}
+use Rattle.std.proofs.Common.{◌≡◌, ℕ, List, [], Option, None, Some, true, false, is_some, ap, sym, ◌∙◌, refl}
 use Rattle.std.specs.Prelude.{◌||◌, ◌&&◌, is_none}
 use Rattle.std.proofs.lemmas.Bool.{or_left, or_right}
 use Rattle.hy_value.specs.declared.Value.{Value}
@@ -27,8 +27,8 @@ left_follows : (setting : Setting) (tables : Tables) (statements : List Bound) (
     → item_at (over tables given.own) table pos ≡ followed table statements (Some row)
 left_follows setting tables statements took given table pos row is e =
     let s : StandsSo setting given.own table pos (Some row) (followed table statements (Some row)) (some_writes table statements (Some row)) =
-    all_follow setting tables (blank_own setting) 1 statements took given table pos row (Some row) false is e
-    (starts_so setting tables table pos row is) in
+    all_follow setting tables (blank_own setting) [] 1 statements took given table pos row [] (Some row) false is e
+    (record { stands = starts_so setting tables table pos row is; was = tt }) in
     covered_at setting (λ (own : Cell). own) tables given.own is.are s.fits table pos
     ∙ (ap (λ (cell : Cell). covered (λ (own : Cell). own) cell (item_at given.own table pos)) is.under_is ∙ s.cell_is)
 

@@ -15,10 +15,10 @@ use Rattle.hy_machine.specs.Writes.{Write}
 use Rattle.hy_machine.specs.declared.Setting.{Setting}
 use Rattle.hy_protocol.specs.declared.Phase.TheVariants.{Working, Stamping}
 use Rattle.hy_machine.specs.States.{State, Open}
-use Rattle.hy_protocol.specs.Turns.{Turn, Done, Waits, Begins, Visits, Answers, Enters, Ends, unless_blocked}
+use Rattle.hy_protocol.specs.Turns.{Turn, Done, Waits, Begins, Visits, Answers, Saves, Enters, Ends, unless_blocked}
 use Rattle.hy_machine.specs.Turns.{session_turn, phase_turn}
 use Rattle.hy_machine.specs.Sessions.{fresh, session_at, program_of, txn_at, blocker, entry_of}
-use Rattle.hy_machine.specs.Steps.{with_session, beginning, after_visit, after_answer, done_with, order_with, after_turn, step_of}
+use Rattle.hy_machine.specs.Steps.{with_session, beginning, after_visit, after_answer, after_saving, done_with, order_with, after_turn, step_of}
 use Rattle.hy_machine.specs.Runs.{opening_of, after_steps, IsReached}
 use Rattle.hy_lawful.proofs.Lists.{all_so, all_joined}
 use Rattle.hy_lawful.proofs.Grows.{last_label}
@@ -129,6 +129,14 @@ turn_fits setting state number current o (Answers writes reply took records) h =
     (numbered_more (length current.begun.replies) (length (current.begun.replies ++ reply ∷ [])) current.begun.records records
     (length-append current.begun.replies (reply ∷ [])) o.open_fits.records h.1)
     (omega (arith, h.0.0, length-append current.begun.replies (reply ∷ []))) (λ e. absurd (h.0.1 e)))
+turn_fits setting state number current o (Saves statement reply) h =
+    subst (λ (now : Option Open). Fits setting
+    (with_session state number (record { done = (session_at state number).done; now = option_map (after_saving statement reply) now })))
+    (sym o.is)
+    (goes_on setting state number current (after_saving statement reply current) o refl o.open_fits.own
+    (numbered_more (length current.begun.replies) (length (current.begun.replies ++ reply ∷ [])) current.begun.records []
+    (length-append current.begun.replies (reply ∷ [])) o.open_fits.records tt)
+    (omega (arith, h.0, length-append current.begun.replies (reply ∷ []))) (λ e. absurd (h.1 e)))
 turn_fits setting state number current o Enters h =
     subst (λ (now : Option Open). Fits setting (moved_to state (order_with setting state number now) (Some number) number
     (record { done = (session_at state number).done; now = option_map (after_visit [] (Stamping 0)) now })))

@@ -129,6 +129,8 @@ check_run setting state statements number begun given visited count table row l 
       position = tt;
       gives = ap (λ (own : Own). placed_at setting tables own table row (logged setting begun table row) None) l.looked.own
           ∙ ap (λ (b : Bool). cond b (Some (record { own = begun.own; reply = reply.Duplicate; records = logged setting begun table row })) None) found;
+      stays = refl;
+      saved = refl;
     }
 check_run setting state statements number begun given visited count table row l few chunks false e =
     visits setting (snapshot setting state begun.prefix) statements begun given (Insert table row) [] (suc visited) 0 l.next
@@ -182,6 +184,8 @@ place_run setting state statements number begun given visited count table row l 
           (Some placed) None) nowhere
           ∙ (ap (λ (item : Option Cell). cond (not (is_some item) && not (is_some (item_at tables table pos))) (Some placed) None) nothing.own_none
           ∙ ap (λ (cell : Cell). cond (not (is_some cell)) (Some placed) None) nothing.tables_none));
+      stays = refl;
+      saved = refl;
     }
 place_run setting state statements number begun given visited count table row l past chunk at None e = elim (cases_Bool (ltb (suc chunk) setting.chunks)) [
   | inl t ↦ rw t (visits setting (snapshot setting state begun.prefix) statements begun given (Insert table row) [] (suc visited) 0 l.next

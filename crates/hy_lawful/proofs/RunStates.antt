@@ -14,11 +14,12 @@ use Rattle.hy_protocol.specs.declared.Phase.TheVariants.{Working, Stamping}
 use Rattle.hy_machine.specs.States.{State, Session, Open, Begun, Finished}
 use Rattle.hy_machine.specs.Tables.{Entry, Tables, history, opening_tables, over}
 use Rattle.hy_machine.specs.Writes.{Write, blank_own, with_writes}
-use Rattle.hy_protocol.specs.Turns.{Turn, Done, Waits, Begins, Visits, Answers, Enters, Ends}
+use Rattle.hy_machine.specs.Trails.{with_more}
+use Rattle.hy_protocol.specs.Turns.{Turn, Done, Waits, Begins, Visits, Answers, Saves, Enters, Ends}
 use Rattle.hy_machine.specs.Turns.{phase_turn}
 use Rattle.hy_machine.specs.Sessions.{session_at, entry_of}
 use Rattle.hy_machine.specs.Outcomes.{statements_in}
-use Rattle.hy_machine.specs.Steps.{with_session, beginning, after_visit, after_answer, done_with, order_with, after_turn}
+use Rattle.hy_machine.specs.Steps.{with_session, beginning, after_visit, after_answer, after_saving, done_with, order_with, after_turn}
 use Rattle.hy_machine.specs.Runs.{IsReached}
 use Rattle.hy_replay.specs.Ran.{Ran}
 use Rattle.hy_lawful.specs.Outcomes.{committed_at}
@@ -27,7 +28,8 @@ use Rattle.hy_lawful.specs.Refusing.{WasRefused}
 use Rattle.hy_lawful.proofs.Moves.{moved_to, sessions_moved}
 use Rattle.hy_lawful.proofs.Reached.{fresh_at}
 use Rattle.hy_lawful.proofs.ReachedBy.{reached_by}
-use Rattle.hy_lawful.proofs.RunAnswers.{with_answer, IsRun, answered, run_more}
+use Rattle.hy_lawful.proofs.Trails.{reached_trails}
+use Rattle.hy_lawful.proofs.RunAnswers.{with_answer, IsRun, SavesNext, answered, saved_answered, longer_saved, run_more, run_saved}
 use Rattle.hy_lawful.proofs.RunVisits.{Stands, RunTurn, at_start}
 use Rattle.hy_lawful.proofs.RunTurns.{phase_run}
 use Rattle.hy_lawful.proofs.PassSteps.{least_below}
@@ -115,9 +117,16 @@ session_grows setting order more number session h = record {
 
 -- what was written since doesn't change what was answered
 written_run : (setting : Setting) (tables : Tables) (statements : List Bound) (begun : Begun) (writes : List Write) (given : Ran)
-    → IsRun setting tables statements begun given → IsRun setting tables statements (record begun { own = with_writes begun.own writes }) given
+    → IsRun setting tables statements begun given → IsRun setting tables statements (with_more begun writes) given
 written_run setting tables statements begun writes given r =
-    record { came_to = r.came_to; replies = r.replies; records = r.records; positions = r.positions; took = r.took }
+    record {
+      came_to = r.came_to;
+      replies = r.replies;
+      records = r.records;
+      positions = r.positions;
+      took = r.took;
+      saved = longer_saved setting begun.trail writes begun.saved given.saved r.saved;
+    }
 
 -- what a session is that is open
 record IsOpen (setting : Setting) (state : State) (number : ℕ) (current : Open) : Type 0 where
@@ -142,11 +151,28 @@ answers : (setting : Setting) (state : State) (number : ℕ) (current : Open) (o
 answers setting state number current o writes reply took records h =
     let tables : Tables = tables_at setting state.order current.begun.prefix in
     let statements : List Bound = statements_now setting state number in
-    let given : Ran = with_answer o.run.given (record { own = with_writes current.begun.own writes; reply = reply; records = records }) in
+    let given : Ran =
+    with_answer tables h.statement o.run.given (record { own = with_writes current.begun.own writes; reply = reply; records = records }) in
     record {
       given = given;
       run = run_more setting tables statements current.begun o.run.given writes reply took records o.run.run h;
-      stands = at_start setting tables (answered current.begun writes reply took records) given o.chunks refl
+      stands = at_start setting tables (answered current.begun writes reply took records) given o.chunks h.stays
+          (slice_get statements (length (current.begun.replies ++ reply ∷ [])));
+      low = o.run.low;
+      start = o.run.start;
+    }
+
+saves : (setting : Setting) (state : State) (number : ℕ) (current : Open) (o : IsOpen setting state number current) (statement : Bound) (reply : Reply)
+    → SavesNext setting (tables_at setting state.order current.begun.prefix) (statements_now setting state number) current.begun o.run.given statement reply
+    → OpenRun setting state.order (statements_now setting state number) (after_saving statement reply current)
+saves setting state number current o statement reply h =
+    let tables : Tables = tables_at setting state.order current.begun.prefix in
+    let statements : List Bound = statements_now setting state number in
+    let given : Ran = with_answer tables statement o.run.given (record { own = o.run.given.own; reply = reply; records = [] }) in
+    record {
+      given = given;
+      run = run_saved setting tables statements current.begun o.run.given statement reply o.run.run h;
+      stands = at_start setting tables (saved_answered current.begun statement reply) given o.chunks h.own
           (slice_get statements (length (current.begun.replies ++ reply ∷ [])));
       low = o.run.low;
       start = o.run.start;
@@ -237,6 +263,11 @@ turn_runs setting state number current o (Answers writes reply took records) h =
     (sym o.is)
     (goes_on setting state number (after_answer writes reply took records current) o.all o.there
     (answers setting state number current o writes reply took records h))
+turn_runs setting state number current o (Saves statement reply) h =
+    subst (λ (now : Option Open). AllRun setting
+    (with_session state number (record { done = (session_at state number).done; now = option_map (after_saving statement reply) now })))
+    (sym o.is)
+    (goes_on setting state number (after_saving statement reply current) o.all o.there (saves setting state number current o statement reply h))
 turn_runs setting state number current o Enters h =
     subst (λ (now : Option Open). AllRun setting (moved_to state (order_with setting state number now) (Some number) number
     (record { done = (session_at state number).done; now = option_map (after_visit [] (Stamping 0)) now })))
@@ -253,11 +284,11 @@ begins : (setting : Setting) (state : State) (number : ℕ) → 0 < setting.chun
 begins setting state number chunks all there =
     let statements : List Bound = statements_now setting state number in
     let tables : Tables = tables_at setting state.order (length state.order) in
-    let nothing : Ran = record { own = blank_own setting; replies = []; records = [] } in
+    let nothing : Ran = record { own = blank_own setting; saved = []; replies = []; records = [] } in
     goes_on setting state number (record { begun = beginning setting state; phase = Working 0 0 }) all there
     (record {
       given = nothing;
-      run = record { came_to = refl; replies = refl; records = refl; positions = tt; took = refl };
+      run = record { came_to = refl; replies = refl; records = refl; positions = tt; took = refl; saved = tt };
       stands = at_start setting tables (beginning setting state) nothing chunks refl (slice_get statements 0);
       low = least_below (length state.order) state.sessions;
       start = omega arith;
@@ -277,7 +308,10 @@ reached_run setting state chunks = reached_by setting (AllRun setting) (record {
       (phase_turn setting state number txn current.begun current.phase)
       (subst (λ (of : List Bound). RunTurn setting (tables_at setting state.order current.begun.prefix) of current.begun present.given
       (phase_turn setting state number txn current.begun current.phase)) (sym same)
-      (phase_run setting state number txn current.begun present.given chunks present.low current.phase takes.is
+      (phase_run setting state number txn current.begun present.given chunks present.low
+      (reached_trails setting state takes.reached number current takes.is)
+      (subst (λ (of : List Bound). IsRun setting (tables_at setting state.order current.begun.prefix) of current.begun present.given) same present.run)
+      current.phase takes.is
       (subst (λ (of : List Bound). Stands setting (tables_at setting state.order current.begun.prefix) of current.begun present.given current.phase) same
       present.stands)));
 })

@@ -66,10 +66,6 @@ writes_apart own (write ∷ writes) table pos h =
     writes_apart (with_write own write) writes table pos h.1
     ∙ write_apart own write.table write.pos write.cell table pos (λ e. absurd (omega (arith, h.0, e)))
 
-pub writes_joined : (own : Own) (writes others : List Write) → with_writes own (writes ++ others) ≡ with_writes (with_writes own writes) others
-writes_joined own [] others = refl
-writes_joined own (write ∷ writes) others = writes_joined (with_write own write) writes others
-
 -- ---- positions
 
 pub range_joined : (first many more end : ℕ) → first + many ≡ end → range_with_len first many ++ range_with_len end more ≡ range_with_len first (many + more)

@@ -9,7 +9,8 @@ use Rattle.std.proofs.lemmas.List.{length-append}
 use Rattle.hy_value.specs.declared.Value.{Value}
 use Rattle.hy_bound.specs.declared.Reply.{Reply}
 use Rattle.hy_bound.specs.declared.Bound.{Bound}
-use Rattle.hy_bound.specs.declared.Bound.TheVariants.{Select, Group, Insert, Update, Delete}
+use Rattle.hy_bound.specs.declared.Bound.TheVariants.{Select, Group, Insert, Update, Delete, Savepoint, RollbackTo, Release}
+use Rattle.hy_bound.specs.Savepoints.{Saved, saved_after, value_after}
 use Rattle.hy_bound.specs.declared.WriteKind.{WriteKind}
 use Rattle.hy_bound.specs.declared.WriteKind.TheVariants as kind
 use Rattle.hy_bound.specs.Condition.{Condition}
@@ -21,7 +22,9 @@ use Rattle.hy_protocol.specs.declared.Phase.{Phase}
 use Rattle.hy_protocol.specs.declared.Phase.TheVariants.{Working, Stamping, Undoing}
 use Rattle.hy_machine.specs.States.{State, Begun}
 use Rattle.hy_machine.specs.Writes.{Write, with_writes}
-use Rattle.hy_protocol.specs.Turns.{Turn, Done, Waits, Begins, Visits, Answers, Enters, Ends}
+use Rattle.hy_machine.specs.OwnCells.{writes_joined}
+use Rattle.hy_machine.specs.Trails.{with_more}
+use Rattle.hy_protocol.specs.Turns.{Turn, Done, Waits, Begins, Visits, Answers, Saves, Enters, Ends}
 use Rattle.hy_protocol.specs.Statements.{told_by}
 use Rattle.hy_machine.specs.Turns.{read_turn, write_turn}
 use Rattle.hy_machine.specs.Positions.{item_at}
@@ -29,14 +32,15 @@ use Rattle.hy_machine.specs.Tables.{Cell, Tables, Own, capacity, positions_in, o
 use Rattle.hy_machine.specs.Sessions.{snapshot}
 use Rattle.hy_machine.specs.Holding.{opponent}
 use Rattle.hy_machine.specs.Visits.{has_key_in, new_cell, verdict, verdict_at, sweep, swept, checks_of}
-use Rattle.hy_replay.specs.Ran.{Ran, writes_at, changed_by, one}
+use Rattle.hy_replay.specs.Ran.{Ran, writes_at, changed_by, one, taken_back}
 use Rattle.hy_bound.specs.Predicate.{truth_of}
 use Rattle.hy_lawful.specs.Outcomes.{committed_at}
 use Rattle.hy_lawful.specs.Refusing.{goes_out, goes_out_at, WasRefused}
 use Rattle.hy_lawful.specs.Written.{would_write}
 use Rattle.hy_lawful.proofs.Refusals.{range_refuses, verdict_fails}
-use Rattle.hy_lawful.proofs.RunSweeps.{alike_over, writes_apart, writes_joined, range_joined, sweep_joined, sweep_same, sweep_below, verdict_alone}
-use Rattle.hy_lawful.proofs.RunAnswers.{AnswersNext}
+use Rattle.hy_lawful.proofs.RunSweeps.{alike_over, writes_apart, range_joined, sweep_joined, sweep_same, sweep_below, verdict_alone}
+use Rattle.hy_lawful.proofs.RunAnswers.{AnswersNext, SavesNext}
+use Rattle.hy_lawful.proofs.RunBacks.{HasBacked, nothing_backed}
 
 -- ---- where a transaction stands
 
@@ -65,6 +69,9 @@ At setting tables begun given visited count (Some (Insert table row)) =
     HasLooked setting tables begun given visited table row (shape_of setting.shapes table).key
 At setting tables begun given visited count (Some (Update table sets pred)) = HasSwept setting tables begun given visited count (kind.Set sets) pred table
 At setting tables begun given visited count (Some (Delete table pred)) = HasSwept setting tables begun given visited count kind.Delete pred table
+At setting tables begun given visited count (Some (Savepoint name)) = given.own ≡ begun.own
+At setting tables begun given visited count (Some (RollbackTo name)) = HasBacked setting tables begun given visited name
+At setting tables begun given visited count (Some (Release name)) = given.own ≡ begun.own
 
 -- how one that is undone ends before this statement: it has not committed, and was refused there
 abbrev pub Undone : Setting → Tables → Begun → Ran → Option Bound → Ending → Type 0
@@ -85,9 +92,10 @@ RunTurn setting tables statements begun given Done = Unit {0}
 RunTurn setting tables statements begun given (Waits by) = Unit {0}
 RunTurn setting tables statements begun given Begins = ⊥
 RunTurn setting tables statements begun given (Visits writes phase) =
-    Stands setting tables statements (record begun { own = with_writes begun.own writes }) given phase
+    Stands setting tables statements (with_more begun writes) given phase
 RunTurn setting tables statements begun given (Answers writes reply took records) =
     AnswersNext setting tables statements begun given writes reply took records
+RunTurn setting tables statements begun given (Saves statement reply) = SavesNext setting tables statements begun given statement reply
 RunTurn setting tables statements begun given Enters = given.own ≡ begun.own
 RunTurn setting tables statements begun given (Ends ending) =
     IfSome (committed_at ending) (λ (rank : ℕ). given.own ≡ begun.own)
@@ -119,31 +127,46 @@ at_start setting tables begun given c same (Some (Insert table row)) = record {
 }
 at_start setting tables begun given c same (Some (Update table sets pred)) = nothing_swept setting tables begun given (kind.Set sets) pred table c same
 at_start setting tables begun given c same (Some (Delete table pred)) = nothing_swept setting tables begun given kind.Delete pred table c same
+at_start setting tables begun given c same (Some (Savepoint name)) = same
+at_start setting tables begun given c same (Some (RollbackTo name)) = nothing_backed setting tables begun given name same
+at_start setting tables begun given c same (Some (Release name)) = same
 
 -- the next statement of an open transaction
 pub record IsNext (statements : List Bound) (begun : Begun) (statement : Bound) : Type 0 where
   pub here : slice_get statements (length begun.replies) ≡ Some statement
 
+-- a statement that makes no savepoint, leaves none, and goes back to none
+pub record LeavesSaved (tables : Tables) (statement : Bound) : Type 0 where
+  pub own : (saved : List (Saved Own)) (own : Own) → value_after (taken_back tables) statement saved own ≡ own
+  pub saved : (saved : List (Saved Own)) (own : Own) → saved_after statement saved own ≡ saved
+
 pub visits : (setting : Setting) (tables : Tables) (statements : List Bound) (begun : Begun) (given : Ran) (statement : Bound) (writes : List Write)
     (visited count : ℕ) → IsNext statements begun statement
-    → At setting tables (record begun { own = with_writes begun.own writes }) given visited count (Some statement)
+    → At setting tables (with_more begun writes) given visited count (Some statement)
     → RunTurn setting tables statements begun given (Visits writes (Working visited count))
 visits setting tables statements begun given statement writes visited count n h =
-    subst (At setting tables (record begun { own = with_writes begun.own writes }) given visited count) (sym n.here) h
+    subst (At setting tables (with_more begun writes) given visited count) (sym n.here) h
 
 -- ---- reads
 
 -- a SELECT or a GROUP BY answers what it sees, and leaves the own writes
 pub read_run : (setting : Setting) (tables : Tables) (statements : List Bound) (begun : Begun) (given : Ran) (visited many : ℕ) (statement : Bound)
-    (gathered : List (List (List Value))) (reply : Reply) → IsNext statements begun statement
+    (gathered : List (List (List Value))) (reply : Reply) → IsNext statements begun statement → LeavesSaved tables statement
     → At setting tables begun given (suc visited) 0 (Some statement)
     → one setting tables given.own (suc (length begun.replies)) statement None
     ≡ Some (record { own = begun.own; reply = reply; records = records_of setting.shapes (suc (length begun.replies)) statement gathered })
     → RunTurn setting tables statements begun given (read_turn setting begun visited many statement gathered reply)
-read_run setting tables statements begun given visited many statement gathered reply n at gives =
+read_run setting tables statements begun given visited many statement gathered reply n leaves at gives =
     elim (cases_Bool (ltb (suc visited) (setting.chunks * many))) [
       | inl t ↦ rw t (visits setting tables statements begun given statement [] (suc visited) 0 n at)
-      | inr f ↦ rw f (record { statement = statement; here = n.here; position = tt; gives = gives })
+      | inr f ↦ rw f (record {
+        statement = statement;
+        here = n.here;
+        position = tt;
+        gives = gives;
+        stays = leaves.own given.saved begun.own;
+        saved = leaves.saved given.saved begun.own;
+      })
     ]
 
 -- ---- UPDATE and DELETE
@@ -205,8 +228,8 @@ refused_run setting state number begun given visited count statement kind pred t
     e
 
 pub write_run : (setting : Setting) (state : State) (statements : List Bound) (number : ℕ) (begun : Begun) (given : Ran) (visited count : ℕ) (statement : Bound)
-    (kind : WriteKind) (pred : Condition) (table : ℕ) → IsNext statements begun statement → Writes statement kind pred table
-    → ((later : Begun) (v c : ℕ) → HasSwept setting (snapshot setting state begun.prefix) later given v c kind pred table
+    (kind : WriteKind) (pred : Condition) (table : ℕ) → IsNext statements begun statement → LeavesSaved (snapshot setting state begun.prefix) statement
+    → Writes statement kind pred table → ((later : Begun) (v c : ℕ) → HasSwept setting (snapshot setting state begun.prefix) later given v c kind pred table
     → At setting (snapshot setting state begun.prefix) later given v c (Some statement))
     → one setting (snapshot setting state begun.prefix) given.own (suc (length begun.replies)) statement None
     ≡ changed_by given.own kind (records_of setting.shapes (suc (length begun.replies)) statement [])
@@ -214,10 +237,10 @@ pub write_run : (setting : Setting) (state : State) (statements : List Bound) (n
     → HasSwept setting (snapshot setting state begun.prefix) begun given visited count kind pred table
     → (writes : Result (List Write) Ending) → swept setting state number begun kind pred table visited ≡ writes
     → RunTurn setting (snapshot setting state begun.prefix) statements begun given (write_turn setting begun visited count statement kind writes)
-write_run setting state statements number begun given visited count statement kind pred table n w at gives s (Err cause) e =
+write_run setting state statements number begun given visited count statement kind pred table n leaves w at gives s (Err cause) e =
     subst (λ (next : Option Bound). Undone setting (snapshot setting state begun.prefix) begun given next cause) (sym n.here)
     (refused_run setting state number begun given visited count statement kind pred table w s cause e)
-write_run setting state statements number begun given visited count statement kind pred table n w at gives s (Ok writes) e =
+write_run setting state statements number begun given visited count statement kind pred table n leaves w at gives s (Ok writes) e =
     let tables : Tables = snapshot setting state begun.prefix in
     let more : writes_at kind pred (over tables given.own) table (range_with_len 0 (suc visited * setting.rows)) ≡ Ok (s.writes ++ writes) =
     swept_more setting state number begun given visited count kind pred table writes s e in
@@ -226,7 +249,7 @@ write_run setting state statements number begun given visited count statement ki
     let counted : length (s.writes ++ writes) ≡ count + length writes = omega (arith, length-append s.writes writes, s.counted) in
     elim (cases_Bool (ltb (suc visited) setting.chunks)) [
       | inl t ↦ rw t (visits setting tables statements begun given statement writes (suc visited) (count + length writes) n
-          (at (record begun { own = with_writes begun.own writes }) (suc visited) (count + length writes)
+          (at (with_more begun writes) (suc visited) (count + length writes)
           (record { writes = s.writes ++ writes; swept = more; own = own; counted = counted; few = ltb-true (suc visited) setting.chunks t })))
       | inr f ↦ rw f (record {
         statement = statement;
@@ -247,6 +270,8 @@ write_run setting state statements number begun given visited count statement ki
               reply = told_by kind many;
               records = records_of setting.shapes (suc (length begun.replies)) statement [];
             })) counted)));
+        stays = leaves.own given.saved (with_writes begun.own writes);
+        saved = leaves.saved given.saved (with_writes begun.own writes);
       })
     ]
   where

@@ -3,8 +3,9 @@ use Rattle.std.proofs.Common.{◌≡◌, ℕ, zero, suc, List, [], ◌∷◌, �
 use Rattle.hy_bound.specs.declared.Bound.{Bound}
 use Rattle.hy_bound.specs.declared.Reply.{Reply}
 use Rattle.hy_bound.specs.declared.Shape.{Shape}
+use Rattle.hy_bound.specs.Savepoints.{Saved, saved_after, value_after}
 use Rattle.hy_meaning.specs.Statement.{Database, mean}
-use Rattle.hy_meaning.specs.Serial.{Alone, goes_on, alone_from, alone_of, serial}
+use Rattle.hy_meaning.specs.Serial.{Alone, database_back, goes_on, alone_from, alone_of, serial}
 use Rattle.hy_lawful.specs.Serial.{AreFirstOf}
 
 -- one transaction more runs from the database that those before it leave
@@ -20,12 +21,15 @@ first_given number db None less more h e = absurd cc
 first_given number db (Some given) less more h e = ap (λ (replies : List Reply). given.0 ∷ replies) (h given.1 e)
 
 -- where the first statements don't stop, their replies are the first of those of all
-pub first_replies : (shapes : List Shape) (number many : ℕ) (statements : List Bound) (db : Database)
-    → (alone_from shapes number (take many statements) db).stop ≡ None
-    → AreFirstOf (alone_from shapes number (take many statements) db).replies (alone_from shapes number statements db).replies
-first_replies shapes number zero [] db e = refl
-first_replies shapes number zero (statement ∷ statements) db e = refl
-first_replies shapes number (suc many) [] db e = refl
-first_replies shapes number (suc many) (statement ∷ statements) db e =
-    first_given number db (mean shapes statement db) (alone_from shapes (suc number) (take many statements)) (alone_from shapes (suc number) statements)
-    (λ after stop. first_replies shapes (suc number) many statements after stop) e
+pub first_replies : (shapes : List Shape) (saved : List (Saved Database)) (number many : ℕ) (statements : List Bound) (db : Database)
+    → (alone_from shapes saved number (take many statements) db).stop ≡ None
+    → AreFirstOf (alone_from shapes saved number (take many statements) db).replies (alone_from shapes saved number statements db).replies
+first_replies shapes saved number zero [] db e = refl
+first_replies shapes saved number zero (statement ∷ statements) db e = refl
+first_replies shapes saved number (suc many) [] db e = refl
+first_replies shapes saved number (suc many) (statement ∷ statements) db e =
+    first_given number db (mean shapes statement db)
+    (λ left. alone_from shapes (saved_after statement saved left) (suc number) (take many statements) (value_after database_back statement saved left))
+    (λ left. alone_from shapes (saved_after statement saved left) (suc number) statements (value_after database_back statement saved left))
+    (λ left stop.
+    first_replies shapes (saved_after statement saved left) (suc number) many statements (value_after database_back statement saved left) stop) e

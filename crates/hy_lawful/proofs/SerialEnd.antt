@@ -181,8 +181,8 @@ logs_alone laws setting state end number before finished at answered =
     sym has.has_run.records
     ∙ (laws.logs setting (snapshot setting state start) (take (length finished.begun.replies) statements) finished.begun.took has.given
     (tables_are setting state.order start) has.has_run.positions has.has_run.came_to
-    ∙ (ap (λ (some : List Bound). logged_from setting.shapes 1 some (bags_of (snapshot setting state start))) answered
-    ∙ (ap (logged_from setting.shapes 1 statements)
+    ∙ (ap (λ (some : List Bound). logged_from setting.shapes [] 1 some (bags_of (snapshot setting state start))) answered
+    ∙ (ap (logged_from setting.shapes [] 1 statements)
     (bags_at laws setting state end start (done_fits setting state end.over.fits number before finished at).start)
-    ∙ ap (λ (some : List Bound). logged_from setting.shapes 1 some (database_at setting (map committed_of state.order) start))
+    ∙ ap (λ (some : List Bound). logged_from setting.shapes [] 1 some (database_at setting (map committed_of state.order) start))
     (sym (statements_behind setting label before refl)))))

@@ -8,7 +8,7 @@ use Rattle.hy_value.specs.declared.Value.{Value}
 use Rattle.hy_value.specs.Order.{row_cmp}
 use Rattle.hy_value.specs.Sorted.{put_row, sorted}
 use Rattle.hy_bound.specs.declared.Bound.{Bound}
-use Rattle.hy_bound.specs.declared.Bound.TheVariants.{Select, Group, Insert, Update, Delete}
+use Rattle.hy_bound.specs.declared.Bound.TheVariants.{Select, Group, Insert, Update, Delete, Savepoint, RollbackTo, Release}
 use Rattle.hy_bound.specs.declared.Shape.{Shape}
 use Rattle.hy_bound.specs.Changes.{present}
 use Rattle.hy_bound.specs.Records.{shape_of}
@@ -65,6 +65,9 @@ found_in_bags shapes table (Some (Insert of new)) tables =
     ∙ any_sorted (has_key_of new (shape_of shapes table).key) (rows_seen tables table))
 found_in_bags shapes table (Some (Update of sets pred)) tables = refl
 found_in_bags shapes table (Some (Delete of pred)) tables = refl
+found_in_bags shapes table (Some (Savepoint name)) tables = refl
+found_in_bags shapes table (Some (RollbackTo name)) tables = refl
+found_in_bags shapes table (Some (Release name)) tables = refl
 
 -- a row out of range at a position is in its table's bag
 pub out_in_bags : (table : ℕ) (statement : Option Bound) (tables : Tables) (pos : ℕ) → goes_out_at table statement (item_at tables table pos) ≡ true

@@ -7,7 +7,7 @@ use Rattle.std.specs.List.{list_any}
 use Rattle.std.specs.Option.{IsSomeAnd}
 use Rattle.std.proofs.lemmas.List.{drop-map}
 use Rattle.hy_bound.specs.declared.Bound.{Bound}
-use Rattle.hy_bound.specs.declared.Bound.TheVariants.{Select, Group, Insert, Update, Delete}
+use Rattle.hy_bound.specs.declared.Bound.TheVariants.{Select, Group, Insert, Update, Delete, Savepoint, RollbackTo, Release}
 use Rattle.hy_bound.specs.declared.Record.{Record}
 use Rattle.hy_bound.specs.declared.Reply.{Reply}
 use Rattle.hy_meaning.specs.Statement.{Database, rows_in}
@@ -148,6 +148,9 @@ row_selected table (Some (Group of pred key aggregate)) None e = absurd cc
 row_selected table (Some (Insert of row)) None e = absurd cc
 row_selected table (Some (Update of sets pred)) None e = and_right (of == table) false e
 row_selected table (Some (Delete of pred)) None e = and_right (of == table) false e
+row_selected table (Some (Savepoint name)) None e = absurd cc
+row_selected table (Some (RollbackTo name)) None e = absurd cc
+row_selected table (Some (Release name)) None e = absurd cc
 
 -- at the end the one that a conflict names found a row at the position
 rival_found : (setting : Setting) (state : State) → AtEnd setting state → (other : Label) (table pos : ℕ) → FoundRow setting state other table pos

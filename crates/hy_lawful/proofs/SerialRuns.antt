@@ -1,5 +1,5 @@
 -- What the machine comes to is serializable, in the order of its commits.
-use Rattle.std.proofs.Common.{◌≡◌, ℕ, suc, ◌<◌, ◌≤◌, List, Option, None, Some, length, map, take, refl, ap, sym, ◌∙◌, subst, arith}
+use Rattle.std.proofs.Common.{◌≡◌, ℕ, suc, ◌<◌, ◌≤◌, List, [], Option, None, Some, length, map, take, refl, ap, sym, ◌∙◌, subst, arith}
 use Rattle.std.specs.Prelude.{IfSome, slice_get}
 use Rattle.std.specs.List.{AllByRecursion}
 use Rattle.std.specs.Option.{IsSomeAnd}
@@ -79,7 +79,7 @@ replies_of_start laws setting state end number before finished at =
     ap (λ (one : Alone). one.replies) first ∙ has.has_run.replies in
     let begins : AreFirstOf finished.begun.replies (alone_of setting.shapes statements db).replies =
     subst (λ (replies : List Reply). AreFirstOf replies (alone_of setting.shapes statements db).replies) told
-    (first_replies setting.shapes 1 many statements db (ap (λ (one : Alone). one.stop) first)) in
+    (first_replies setting.shapes [] 1 many statements db (ap (λ (one : Alone). one.stop) first)) in
     subst (λ (one : Alone). AreFirstOf finished.begun.replies one.replies)
     (alone_there laws setting state end number before start (done_fits setting state end.over.fits number before finished at).start) begins
 

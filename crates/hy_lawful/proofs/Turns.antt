@@ -13,7 +13,7 @@ use Rattle.hy_value.specs.declared.Value.{Value}
 use Rattle.hy_value.specs.declared.ColMask.{ColMask}
 use Rattle.hy_bound.specs.declared.Txn.{Txn}
 use Rattle.hy_bound.specs.declared.Bound.{Bound}
-use Rattle.hy_bound.specs.declared.Bound.TheVariants.{Select, Group, Insert, Update, Delete}
+use Rattle.hy_bound.specs.declared.Bound.TheVariants.{Select, Group, Insert, Update, Delete, Savepoint, RollbackTo, Release}
 use Rattle.hy_bound.specs.declared.WriteKind.{WriteKind}
 use Rattle.hy_bound.specs.declared.WriteKind.TheVariants as kind
 use Rattle.hy_bound.specs.Condition.{Condition}
@@ -25,12 +25,13 @@ use Rattle.hy_protocol.specs.declared.Phase.{Phase}
 use Rattle.hy_protocol.specs.declared.Phase.TheVariants.{Working, Stamping, Undoing}
 use Rattle.hy_machine.specs.States.{State, Begun}
 use Rattle.hy_machine.specs.Writes.{Write, with_writes, wrote_nothing}
-use Rattle.hy_protocol.specs.Turns.{Turn, Done, Waits, Begins, Visits, Answers, Enters, Ends}
+use Rattle.hy_protocol.specs.Turns.{Turn, Done, Waits, Begins, Visits, Answers, Saves, Enters, Ends}
 use Rattle.hy_machine.specs.Tables.{positions_in}
 use Rattle.hy_machine.specs.Sessions.{session_at, blocker_of, label_of, view}
 use Rattle.hy_machine.specs.Positions.{item_at}
 use Rattle.hy_machine.specs.Holding.{opponent}
 use Rattle.hy_machine.specs.Validation.{committed_of, first_hit}
+use Rattle.hy_machine.specs.Saving.{taken_back}
 use Rattle.hy_machine.specs.Visits.{verdict_at, swept}
 use Rattle.hy_machine.specs.Turns.{rows_seen}
 use Rattle.hy_machine.specs.Turns.{phase_turn}
@@ -71,6 +72,7 @@ FitsTurn setting state number begun (Visits writes phase) =
     PhaseFits setting state.order state.mark number (before_of state number) (record begun { own = with_writes begun.own writes }) phase
     × (state.mark ≡ Some number → Stamps phase)
 FitsTurn setting state number begun (Answers writes reply took records) = MayAnswer setting state number begun × AreOfNext begun records
+FitsTurn setting state number begun (Saves statement reply) = MayAnswer setting state number begun
 FitsTurn setting state number begun Enters =
     EndsCommitted setting.programs
     (txn_outcome_of setting number (before_of state number) (record { begun = begun; ending = Committed (length state.order) }))
@@ -193,6 +195,14 @@ statement_fits setting state number begun visited count (Update table sets pred)
     (λ s. eq-eqb table table refl)
 statement_fits setting state number begun visited count (Delete table pred) n =
     writes_fit setting state number begun visited count (Delete table pred) kind.Delete pred table n (eq-eqb table table refl) (λ s. absurd s)
+statement_fits setting state number begun visited count (Savepoint name) n =
+    record { waits = λ by is. tt; saves = λ free. may_answer setting state number begun (Savepoint name) n }
+statement_fits setting state number begun visited count (RollbackTo name) n = record {
+  goes = λ chunk e. goes_on_fits setting state number begun (RollbackTo name) (taken_back setting state begun name chunk.0 chunk.1) (suc visited) 0 n;
+  ends = λ none. record { waits = λ by is. tt; saves = λ free. may_answer setting state number begun (RollbackTo name) n };
+}
+statement_fits setting state number begun visited count (Release name) n =
+    record { waits = λ by is. tt; saves = λ free. may_answer setting state number begun (Release name) n }
 
 -- ---- what closes a transaction
 

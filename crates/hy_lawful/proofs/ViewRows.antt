@@ -11,6 +11,7 @@ use Rattle.hy_machine.specs.Positions.{item_at}
 use Rattle.hy_machine.specs.Tables.{Cell, Tables, Own, capacity, overlaid, covered, covered_tables, after_entry, history, laid_out, opening_tables}
 use Rattle.hy_machine.specs.Sessions.{pairs_from, entry_cells}
 use Rattle.hy_lawful.specs.Rows.{Demand}
+use Rattle.hy_lawful.proofs.Lists.{all_taken}
 use Rattle.hy_lawful.proofs.Tables.{got_of, set_all}
 
 -- a cell of a table has a row that meets the demand, or none
@@ -105,11 +106,6 @@ history_meets P tables [] h k = h
 history_meets P tables (entry ∷ entries) h k =
     history_meets P (after_entry tables entry) entries (over_meets P (λ (pair : Pair). pair.after) tables entry.cells h k.0) k.1
 
-all_taken : {X : Type 0} (P : X → Type 0) (n : ℕ) (xs : List X) → AllByRecursion P xs → AllByRecursion P (take n xs)
-all_taken P zero xs h = tt
-all_taken P (suc n) [] h = tt
-all_taken P (suc n) (x ∷ xs) h = (h.0, all_taken P n xs h.1)
-
 -- ---- the tables before any commit
 
 row_meets : (Q : List Value → Type 0) (rows : List (List Value)) (i : ℕ) → AllByRecursion Q rows → IfSome (slice_get rows i) Q
@@ -161,6 +157,12 @@ entry_meets P tables own h = cells_meet (CellMeets P) tables 0 own (λ table. tt
 
 pub cell_meets : (P : Demand) (tables : Tables) (table pos : ℕ) → TablesMeet P tables → CellMeets P table (item_at tables table pos)
 cell_meets P tables table pos h = got_of (CellMeets P table) (get_or tables table []) pos None (h table) tt
+
+pub own_cell_meets : (P : Demand) (own : Own) (table pos : ℕ) (cell : Cell) → OwnMeets P own → item_at own table pos ≡ Some cell
+    → CellMeets P table cell
+own_cell_meets P own table pos cell h e =
+    subst (λ (item : Option Cell). CellMeets P table (cell_in (λ (cell : Cell). cell) item)) e
+    (got_of (λ (item : Option Cell). CellMeets P table (cell_in (λ (cell : Cell). cell) item)) (get_or own table []) pos None (h table) tt)
 
 pub after_meets : (P : Demand) (entry : Entry) → EntryMeets P entry → (table pos : ℕ) (pair : Pair) → item_at entry.cells table pos ≡ Some pair
     → CellMeets P table pair.after

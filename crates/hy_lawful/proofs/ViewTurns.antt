@@ -9,7 +9,7 @@ use Rattle.std.proofs.lemmas.Bool.{cases_Bool}
 use Rattle.hy_value.specs.declared.Value.{Value}
 use Rattle.hy_bound.specs.declared.Txn.{Txn}
 use Rattle.hy_bound.specs.declared.Bound.{Bound}
-use Rattle.hy_bound.specs.declared.Bound.TheVariants.{Select, Group, Insert, Update, Delete}
+use Rattle.hy_bound.specs.declared.Bound.TheVariants.{Select, Group, Insert, Update, Delete, Savepoint, RollbackTo, Release}
 use Rattle.hy_bound.specs.declared.WriteKind.{WriteKind}
 use Rattle.hy_bound.specs.declared.WriteKind.TheVariants as kind
 use Rattle.hy_bound.specs.Assignment.{assigned}
@@ -23,14 +23,16 @@ use Rattle.hy_protocol.specs.declared.Phase.{Phase}
 use Rattle.hy_protocol.specs.declared.Phase.TheVariants.{Working, Stamping, Undoing}
 use Rattle.hy_machine.specs.States.{State, Begun}
 use Rattle.hy_machine.specs.Writes.{Write}
-use Rattle.hy_protocol.specs.Turns.{Turn, Done, Waits, Begins, Visits, Answers, Enters, Ends}
+use Rattle.hy_protocol.specs.Turns.{Turn, Done, Waits, Begins, Visits, Answers, Saves, Enters, Ends}
 use Rattle.hy_machine.specs.Tables.{Cell, positions_in}
 use Rattle.hy_machine.specs.Holding.{opponent}
 use Rattle.hy_machine.specs.Positions.{item_at}
+use Rattle.hy_machine.specs.Saving.{taken_back}
 use Rattle.hy_machine.specs.Sessions.{view}
 use Rattle.hy_machine.specs.Visits.{new_cell, judged, verdict, and_write, sweep, verdict_at, swept}
 use Rattle.hy_machine.specs.Turns.{phase_turn}
 use Rattle.hy_lawful.specs.Rows.{Demand, StatementMeets}
+use Rattle.hy_lawful.proofs.Backs.{seen_then, backs_all}
 use Rattle.hy_lawful.proofs.ViewRows.{CellMeets, TablesMeet, WritesMeet, cell_meets}
 use Rattle.hy_machine.specs.TurnCases.{WriteCases, StatementCases, UndoCases, statement_cases, undo_cases, stamp_cases, working_cases}
 
@@ -41,6 +43,7 @@ TurnMeets P (Waits by) = Unit {0}
 TurnMeets P Begins = ⊥
 TurnMeets P (Visits writes phase) = WritesMeet P writes
 TurnMeets P (Answers writes reply took records) = WritesMeet P writes
+TurnMeets P (Saves statement reply) = Unit {0}
 TurnMeets P Enters = Unit {0}
 TurnMeets P (Ends ending) = Unit {0}
 
@@ -105,6 +108,17 @@ swept_meets P setting state number begun kind pred table chunk k h =
 
 -- ---- turns
 
+-- the rows that a transaction sees meet the demand, and those that it saw at its savepoints
+pub record SeesMeet (P : Demand) (setting : Setting) (state : State) (begun : Begun) : Type 0 where
+  pub now : TablesMeet P (view setting state begun)
+  pub saved : (name : List ℕ) → TablesMeet P (seen_then setting state begun name)
+
+backs_meet : (P : Demand) (setting : Setting) (state : State) (begun : Begun) (name : List ℕ) (table chunk : ℕ)
+    → TablesMeet P (seen_then setting state begun name) → WritesMeet P (taken_back setting state begun name table chunk)
+backs_meet P setting state begun name table chunk h =
+    backs_all (λ (write : Write). CellMeets P write.table write.cell) setting state begun name table chunk
+    (λ pos since. cell_meets P (seen_then setting state begun name) table pos h)
+
 writes_meet : (P : Demand) (setting : Setting) (begun : Begun) (visited count : ℕ) (statement : Bound) (kind : WriteKind)
     (result : Result (List Write) Ending) → SweptMeets P result → WriteCases setting begun (TurnMeets P) visited count statement kind result
 writes_meet P setting begun visited count statement kind result h = record {
@@ -114,7 +128,7 @@ writes_meet P setting begun visited count statement kind result h = record {
 }
 
 statement_meets : (P : Demand) (setting : Setting) (state : State) (number : ℕ) (begun : Begun) (visited count : ℕ) (statement : Bound)
-    → StatementMeets P statement → TablesMeet P (view setting state begun)
+    → StatementMeets P statement → SeesMeet P setting state begun
     → StatementCases setting state number begun (TurnMeets P) visited count statement
 statement_meets P setting state number begun visited count (Select tables ons pred items) fits h =
     record { goes = λ few. tt; ends = tt }
@@ -124,16 +138,24 @@ statement_meets P setting state number begun visited count (Insert table row) fi
     record { checked = λ few. tt; twice = tt; takes = λ pos e. (fits, tt); goes = λ past e few. tt; full = λ past e most. tt }
 statement_meets P setting state number begun visited count (Update table sets pred) fits h =
     writes_meet P setting begun visited count (Update table sets pred) (kind.Set sets)
-    (swept setting state number begun (kind.Set sets) pred table visited) (swept_meets P setting state number begun (kind.Set sets) pred table visited fits h)
+    (swept setting state number begun (kind.Set sets) pred table visited)
+    (swept_meets P setting state number begun (kind.Set sets) pred table visited fits h.now)
 statement_meets P setting state number begun visited count (Delete table pred) fits h =
     writes_meet P setting begun visited count (Delete table pred) kind.Delete
-    (swept setting state number begun kind.Delete pred table visited) (swept_meets P setting state number begun kind.Delete pred table visited tt h)
+    (swept setting state number begun kind.Delete pred table visited) (swept_meets P setting state number begun kind.Delete pred table visited tt h.now)
+statement_meets P setting state number begun visited count (Savepoint name) fits h = record { waits = λ by is. tt; saves = λ free. tt }
+statement_meets P setting state number begun visited count (RollbackTo name) fits h = record {
+  goes = λ chunk e. backs_meet P setting state begun name chunk.0 chunk.1 (h.saved name);
+  ends = λ none. record { waits = λ by is. tt; saves = λ free. tt };
+}
+statement_meets P setting state number begun visited count (Release name) fits h = record { waits = λ by is. tt; saves = λ free. tt }
 
-present_meets : (P : Bound → Type 0) (statements : List Bound) (n : ℕ) (statement : Bound) → AllByRecursion P statements
+-- what holds of statements holds of the one of this number
+pub present_statement : (P : Bound → Type 0) (statements : List Bound) (n : ℕ) (statement : Bound) → AllByRecursion P statements
     → slice_get statements n ≡ Some statement → P statement
-present_meets P [] n statement h e = absurd cc
-present_meets P (first ∷ statements) zero statement h e = subst P (same_Some first statement e) h.0
-present_meets P (first ∷ statements) (suc n) statement h e = present_meets P statements n statement h.1 e
+present_statement P [] n statement h e = absurd cc
+present_statement P (first ∷ statements) zero statement h e = subst P (same_Some first statement e) h.0
+present_statement P (first ∷ statements) (suc n) statement h e = present_statement P statements n statement h.1 e
 
 undo_meets : (P : Demand) (setting : Setting) (state : State) (number : ℕ) (begun : Begun) (visited : ℕ) (cause : Ending)
     → UndoCases setting state number begun (TurnMeets P) visited cause
@@ -141,13 +163,13 @@ undo_meets P setting state number begun visited cause = record { goes = λ few. 
 
 -- the turn of an open transaction whose statements meet the demand
 pub phase_meets : (P : Demand) (setting : Setting) (state : State) (number : ℕ) (txn : Txn) (begun : Begun) (phase : Phase)
-    → AllByRecursion (StatementMeets P) txn.statements → TablesMeet P (view setting state begun)
+    → AllByRecursion (StatementMeets P) txn.statements → SeesMeet P setting state begun
     → TurnMeets P (phase_turn setting state number txn begun phase)
 phase_meets P setting state number txn begun (Working visited count) fits h =
     working_cases setting state number begun (TurnMeets P) txn visited count
     (λ statement e. statement_cases setting state number begun (TurnMeets P) visited count statement
     (statement_meets P setting state number begun visited count statement
-    (present_meets (StatementMeets P) txn.statements (length begun.replies) statement fits e) h))
+    (present_statement (StatementMeets P) txn.statements (length begun.replies) statement fits e) h))
     (λ none commits. record { waits = λ by is. tt; reads = λ free nothing. tt; enters = λ free some e. tt; out = λ some cause e. tt })
     (λ none rolls. undo_meets P setting state number begun 0 RolledBack)
 phase_meets P setting state number txn begun (Stamping visited) fits h =

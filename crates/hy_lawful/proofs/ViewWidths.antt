@@ -1,6 +1,6 @@
 -- In each state that the machine comes to the rows have the columns of their tables, so that what an open transaction sees
 -- fits: an UPDATE leaves a row's columns as they are, and the row of an INSERT has its table's.
-use Rattle.std.proofs.Common.{◌≡◌, ℕ, zero, suc, ◌≤◌, List, [], ◌∷◌, Option, None, Some, Result, Ok, Err, length, map, get_or, subst, arith, ◌∙◌}
+use Rattle.std.proofs.Common.{◌≡◌, ℕ, zero, suc, ◌≤◌, List, [], ◌∷◌, Option, None, Some, Result, Ok, Err, length, take, map, get_or, subst, arith, ◌∙◌}
 use Rattle.std.proofs.Math.ListN.{set}
 use Rattle.std.specs.Prelude.{IfSome}
 use Rattle.std.specs.List.{All, AllByRecursion, AllZip}
@@ -9,7 +9,7 @@ use Rattle.std.proofs.lemmas.List.Elements.{recursion_from_All, All-weaker}
 use Rattle.hy_value.specs.declared.Value.{Value}
 use Rattle.hy_bound.specs.declared.Assign.{Assign}
 use Rattle.hy_bound.specs.declared.Bound.{Bound}
-use Rattle.hy_bound.specs.declared.Bound.TheVariants.{Select, Group, Insert, Update, Delete}
+use Rattle.hy_bound.specs.declared.Bound.TheVariants.{Select, Group, Insert, Update, Delete, Savepoint, RollbackTo, Release}
 use Rattle.hy_bound.specs.declared.Range.{Range}
 use Rattle.hy_bound.specs.declared.Shape.{Shape}
 use Rattle.hy_bound.specs.declared.Txn.{Txn}
@@ -20,16 +20,17 @@ use Rattle.hy_bound.specs.Fits.{FitsShape, FitsStatement}
 use Rattle.hy_bound.specs.Records.{no_shape, shape_of}
 use Rattle.hy_machine.specs.declared.Setting.{Setting}
 use Rattle.hy_machine.specs.States.{State, Open}
-use Rattle.hy_machine.specs.Tables.{Cell, Tables}
+use Rattle.hy_machine.specs.Tables.{Cell, Tables, Own, over}
+use Rattle.hy_machine.specs.Writes.{blank_own, with_writes}
 use Rattle.hy_machine.specs.Sessions.{snapshot, view}
 use Rattle.hy_machine.specs.Turns.{rows_seen}
 use Rattle.hy_machine.specs.Runs.{IsReached}
 use Rattle.hy_machine.specs.Kept.{IsNow}
 use Rattle.hy_lawful.specs.Rows.{Demand, StatementMeets, SettingMeets}
-use Rattle.hy_lawful.specs.Views.{TablesAreFitted, SeenFits}
+use Rattle.hy_lawful.specs.Views.{TablesAreFitted, SeenFits, ReachedSeenFit}
 use Rattle.hy_lawful.proofs.Tables.{got_of}
-use Rattle.hy_lawful.proofs.ViewRows.{TablesMeet, snapshot_meets}
-use Rattle.hy_lawful.proofs.ViewSteps.{NowMeets, StateMeets, view_meets, reached_state_meets}
+use Rattle.hy_lawful.proofs.ViewRows.{TablesMeet, over_meets, snapshot_meets}
+use Rattle.hy_lawful.proofs.ViewSteps.{NowMeets, TrailMeets, StateMeets, view_meets, first_own_meets, reached_state_meets}
 
 -- a row has its table's columns
 abbrev pub IsWide : List Shape → Demand
@@ -71,6 +72,9 @@ writes_wide shapes (Group table pred key aggregate) fits = tt
 writes_wide shapes (Insert table row) fits = fits.1.width
 writes_wide shapes (Update table sets pred) fits = λ row h. assigned_wide sets row row (shape_of shapes table).width h
 writes_wide shapes (Delete table pred) fits = tt
+writes_wide shapes (Savepoint name) fits = tt
+writes_wide shapes (RollbackTo name) fits = tt
+writes_wide shapes (Release name) fits = tt
 
 first_wide : (shapes : List Shape) (first : List (List (List Value)))
     → AllZip (λ (shape : Shape) (rows : List (List Value)). HaveWidth shape.width rows) shapes first → (table : ℕ)
@@ -140,6 +144,16 @@ reached_see setting state fit r number current is =
     let all : StateMeets (IsWide setting.shapes) state = reached_state_meets (IsWide setting.shapes) setting state begins r in
     seen_fits setting (view setting state current.begun) fit
     (view_meets (IsWide setting.shapes) setting state current.begun begins all (subst (NowMeets (IsWide setting.shapes)) is (all.opens number)))
+
+pub reached_saw : ReachedSeenFit
+reached_saw setting state fit r number current is count =
+    let begins : SettingMeets (IsWide setting.shapes) setting = begins_wide setting fit in
+    let all : StateMeets (IsWide setting.shapes) state = reached_state_meets (IsWide setting.shapes) setting state begins r in
+    let own : Own = with_writes (blank_own setting) (take count current.begun.trail) in
+    seen_fits setting (over (snapshot setting state current.begun.prefix) own) fit
+    (over_meets (IsWide setting.shapes) (λ (cell : Cell). cell) (snapshot setting state current.begun.prefix) own
+    (snapshot_meets (IsWide setting.shapes) setting state.order current.begun.prefix begins.first_rows all.order)
+    (first_own_meets (IsWide setting.shapes) setting current.begun count (subst (TrailMeets (IsWide setting.shapes)) is (all.trails number))))
 
 pub reached_tables : (setting : Setting) (state : State) → TablesAreFitted setting → IsReached setting state → (prefix : ℕ)
     → SeenFits setting (snapshot setting state prefix)

@@ -101,9 +101,9 @@ answers_so : (setting : Setting) (order : List Entry) (statements : List Bound) 
     → StandsSo setting ended.given.own table pos (Some row) (followed table (take (length finished.begun.replies) statements) (Some row))
     (some_writes table (take (length finished.begun.replies) statements) (Some row))
 answers_so setting order statements finished ended table pos row is =
-    all_follow setting (tables_at setting order finished.begun.prefix) (blank_own setting) 1 (take (length finished.begun.replies) statements)
-    finished.begun.took ended.given table pos row (Some row) false is ended.run.came_to
-    (starts_so setting (tables_at setting order finished.begun.prefix) table pos row is)
+    all_follow setting (tables_at setting order finished.begun.prefix) (blank_own setting) [] 1 (take (length finished.begun.replies) statements)
+    finished.begun.took ended.given table pos row [] (Some row) false is ended.run.came_to
+    (record { stands = starts_so setting (tables_at setting order finished.begun.prefix) table pos row is; was = tt })
 
 -- ---- the refused statement
 

@@ -1,14 +1,15 @@
 -- A transaction none of whose statements changes rows has written nothing, and each places as many inserts as were answered so.
 use Rattle.std.proofs.Common.{◌≡◌, ℕ, zero, suc, ◌+◌, ◌<◌, List, [], ◌∷◌, Option, None, Some, Bool, true, false, length, take, map}
-use Rattle.std.proofs.Common.{cond, is_some, refl, ap, sym, ◌∙◌, arith}
+use Rattle.std.proofs.Common.{cond, is_some, refl, ap, sym, ◌∙◌, subst, arith}
 use Rattle.std.specs.Prelude.{slice_get, replicate, ◌||◌, ◌&&◌, ◌==◌, zip}
 use Rattle.std.specs.List.{list_any, range_with_len}
 use Rattle.std.proofs.lemmas.List.Sums.{sum_by-cons}
 use Rattle.std.proofs.lemmas.Option.{same_Some}
 use Rattle.hy_value.specs.declared.Value.{Value}
 use Rattle.hy_bound.specs.declared.Bound.{Bound}
-use Rattle.hy_bound.specs.declared.Bound.TheVariants.{Select, Group, Insert, Update, Delete}
+use Rattle.hy_bound.specs.declared.Bound.TheVariants.{Select, Group, Insert, Update, Delete, Savepoint, RollbackTo, Release}
 use Rattle.hy_bound.specs.declared.Reply.{Reply}
+use Rattle.hy_bound.specs.Savepoints.{Saved, saved_after, value_after}
 use Rattle.hy_bound.specs.declared.WriteKind.{WriteKind}
 use Rattle.hy_bound.specs.declared.WriteKind.TheVariants as kind
 use Rattle.hy_bound.specs.Condition.{Condition}
@@ -19,13 +20,14 @@ use Rattle.hy_machine.specs.States.{Begun, Finished}
 use Rattle.hy_machine.specs.Tables.{Entry, Cell, Tables, Own, capacity}
 use Rattle.hy_machine.specs.Writes.{blank_own, written}
 use Rattle.hy_machine.specs.Outcomes.{placed_by, placed_in, placed_from}
-use Rattle.hy_replay.specs.Ran.{One, Ran, one, ran_from}
+use Rattle.hy_replay.specs.Ran.{One, Ran, one, taken_back, ran_from}
 use Rattle.hy_lawful.specs.Endings.{inserts}
 use Rattle.hy_lawful.specs.Written.{is_change, is_inserted, inserted_in}
 use Rattle.hy_lawful.proofs.Booleans.{or_left, or_right}
 use Rattle.hy_lawful.proofs.Lists.{chosen}
 use Rattle.hy_lawful.proofs.Tables.{none_from}
 use Rattle.hy_lawful.proofs.RunAnswers.{Went, went}
+use Rattle.hy_lawful.proofs.WroteBacks.{after_holds, nothing_back}
 use Rattle.hy_lawful.proofs.WroteSweeps.{change_of, HadSwept, HadWritten}
 use Rattle.hy_lawful.proofs.WroteStates.{EndedWrote}
 
@@ -38,17 +40,29 @@ read_leaves setting tables own number (Group table pred key aggregate) at first 
 read_leaves setting tables own number (Insert table row) at first r e = absurd cc
 read_leaves setting tables own number (Update table sets pred) at first r e = absurd cc
 read_leaves setting tables own number (Delete table pred) at first r e = absurd cc
+read_leaves setting tables own number (Savepoint name) at first r e = ap (λ (one : One). one.own) (sym (same_Some _ first e))
+read_leaves setting tables own number (RollbackTo name) at first r e = ap (λ (one : One). one.own) (sym (same_Some _ first e))
+read_leaves setting tables own number (Release name) at first r e = ap (λ (one : One). one.own) (sym (same_Some _ first e))
 
-reads_leave : (setting : Setting) (tables : Tables) (own : Own) (number : ℕ) (statements : List Bound) (took : List (Option ℕ)) (given : Ran)
-    → list_any is_change statements ≡ false → ran_from setting tables own number statements took ≡ Some given → given.own ≡ own
-reads_leave setting tables own number [] took given r e = ap (λ (ran : Ran). ran.own) (sym (same_Some _ given e))
-reads_leave setting tables own number (statement ∷ statements) [] given r e = absurd cc
-reads_leave setting tables own number (statement ∷ statements) (at ∷ took) given r e =
-    let w : Went setting tables own number statement statements at took given = went setting tables own number statement statements at took given e in
+-- where nothing is own, nothing is after statements that change no rows, whether they go back to a savepoint or not
+reads_leave : (setting : Setting) (tables : Tables) (own : Own) (saved : List (Saved Own)) (number : ℕ) (statements : List Bound)
+    (took : List (Option ℕ)) (given : Ran) → list_any (list_any is_some) own ≡ false → list_any is_change statements ≡ false
+    → ran_from setting tables own saved number statements took ≡ Some given → given.own ≡ own
+reads_leave setting tables own saved number [] took given nothing r e = ap (λ (ran : Ran). ran.own) (sym (same_Some _ given e))
+reads_leave setting tables own saved number (statement ∷ statements) [] given nothing r e = absurd cc
+reads_leave setting tables own saved number (statement ∷ statements) (at ∷ took) given nothing r e =
+    let w : Went setting tables own saved number statement statements at took given =
+    went setting tables own saved number statement statements at took given e in
+    let same : w.first.own ≡ own =
+    read_leaves setting tables own number statement at w.first (or_left (is_change statement) (list_any is_change statements) r) w.first_is in
+    let left : value_after (taken_back tables) statement saved w.first.own ≡ own =
+    after_holds (λ (other : Own). other ≡ own) (taken_back tables) statement saved w.first.own same
+    (λ was. ap (taken_back tables was) same ∙ nothing_back tables was own nothing) in
     ap (λ (ran : Ran). ran.own) (sym w.both)
-    ∙ (reads_leave setting tables w.first.own (suc number) statements took w.rest
-    (or_right (is_change statement) (list_any is_change statements) r) w.rest_is
-    ∙ read_leaves setting tables own number statement at w.first (or_left (is_change statement) (list_any is_change statements) r) w.first_is)
+    ∙ reads_leave setting tables own (saved_after statement saved w.first.own) (suc number) statements took w.rest nothing
+    (or_right (is_change statement) (list_any is_change statements) r)
+    (subst (λ (other : Own). ran_from setting tables other (saved_after statement saved w.first.own) (suc number) statements took ≡ Some w.rest)
+    left w.rest_is)
 
 none_taken : {X : Type 0} (p : X → Bool) (xs : List X) (n : ℕ) → list_any p xs ≡ false → list_any p (take n xs) ≡ false
 none_taken p [] zero h = refl
@@ -100,8 +114,8 @@ pub readers_write_nothing : (setting : Setting) (order : List Entry) (statements
     → EndedWrote setting order statements finished → list_any is_change statements ≡ false → written finished.begun.own ≡ []
 readers_write_nothing setting order statements finished ended r =
     ap written (sym (nothing_more setting _ statements finished.begun ended.given finished.ending r ended.wrote)
-    ∙ reads_leave setting _ (blank_own setting) 1 (take (length finished.begun.replies) statements) finished.begun.took ended.given
-    (none_taken is_change statements (length finished.begun.replies) r) ended.run.came_to)
+    ∙ reads_leave setting _ (blank_own setting) [] 1 (take (length finished.begun.replies) statements) finished.begun.took ended.given
+    (blank_tables (capacity setting) setting.first) (none_taken is_change statements (length finished.begun.replies) r) ended.run.came_to)
     ∙ none_from 0 (blank_own setting) (blank_tables (capacity setting) setting.first)
 
 -- ---- inserts
@@ -120,6 +134,12 @@ placed_so setting tables own number table (Update of sets pred) None first e = r
 placed_so setting tables own number table (Update of sets pred) (Some pos) first e = refl
 placed_so setting tables own number table (Delete of pred) None first e = refl
 placed_so setting tables own number table (Delete of pred) (Some pos) first e = refl
+placed_so setting tables own number table (Savepoint name) None first e = refl
+placed_so setting tables own number table (Savepoint name) (Some pos) first e = refl
+placed_so setting tables own number table (RollbackTo name) None first e = refl
+placed_so setting tables own number table (RollbackTo name) (Some pos) first e = refl
+placed_so setting tables own number table (Release name) None first e = refl
+placed_so setting tables own number table (Release name) (Some pos) first e = refl
 placed_so setting tables own number table (Insert of row) None first e =
     ap (λ (one : One). inserted_by table (Insert of row) one.reply) (sym (chosen _ _ first e)) ∙ no_more (of == table)
   where
@@ -133,17 +153,17 @@ placed_so setting tables own number table (Insert of row) (Some pos) first e =
     one_more true = refl
     one_more false = refl
 
-pub inserts_counted : (setting : Setting) (tables : Tables) (own : Own) (number table : ℕ) (statements : List Bound) (replies : List Reply)
-    (took : List (Option ℕ)) (given : Ran) → length took ≡ length replies
-    → ran_from setting tables own number (take (length replies) statements) took ≡ Some given → given.replies ≡ replies
+pub inserts_counted : (setting : Setting) (tables : Tables) (own : Own) (saved : List (Saved Own)) (number table : ℕ) (statements : List Bound)
+    (replies : List Reply) (took : List (Option ℕ)) (given : Ran) → length took ≡ length replies
+    → ran_from setting tables own saved number (take (length replies) statements) took ≡ Some given → given.replies ≡ replies
     → inserted_in statements replies table ≡ placed_in table statements took
-inserts_counted setting tables own number table [] replies took given l e r = refl
-inserts_counted setting tables own number table (statement ∷ statements) [] [] given l e r = refl
-inserts_counted setting tables own number table (statement ∷ statements) [] (at ∷ took) given l e r = absurd (omega arith)
-inserts_counted setting tables own number table (statement ∷ statements) (answer ∷ replies) [] given l e r = absurd (omega arith)
-inserts_counted setting tables own number table (statement ∷ statements) (answer ∷ replies) (at ∷ took) given l e r =
-    let w : Went setting tables own number statement (take (length replies) statements) at took given =
-    went setting tables own number statement (take (length replies) statements) at took given e in
+inserts_counted setting tables own saved number table [] replies took given l e r = refl
+inserts_counted setting tables own saved number table (statement ∷ statements) [] [] given l e r = refl
+inserts_counted setting tables own saved number table (statement ∷ statements) [] (at ∷ took) given l e r = absurd (omega arith)
+inserts_counted setting tables own saved number table (statement ∷ statements) (answer ∷ replies) [] given l e r = absurd (omega arith)
+inserts_counted setting tables own saved number table (statement ∷ statements) (answer ∷ replies) (at ∷ took) given l e r =
+    let w : Went setting tables own saved number statement (take (length replies) statements) at took given =
+    went setting tables own saved number statement (take (length replies) statements) at took given e in
     let same : w.first.reply ∷ w.rest.replies ≡ answer ∷ replies = ap (λ (ran : Ran). ran.replies) w.both ∙ r in
     let head : w.first.reply ≡ answer = cc in
     let tail : w.rest.replies ≡ replies = cc in
@@ -151,7 +171,8 @@ inserts_counted setting tables own number table (statement ∷ statements) (answ
     ∙ (ap (λ (n : ℕ). n + inserted_in statements replies table)
     (ap (inserted_by table statement) (sym head) ∙ placed_so setting tables own number table statement at w.first w.first_is)
     ∙ ap (λ (n : ℕ). placed_by table statement at + n)
-    (inserts_counted setting tables w.first.own (suc number) table statements replies took w.rest (omega (arith, l)) w.rest_is tail))
+    (inserts_counted setting tables (value_after (taken_back tables) statement saved w.first.own) (saved_after statement saved w.first.own) (suc number)
+    table statements replies took w.rest (omega (arith, l)) w.rest_is tail))
 
 -- of each table
 pub placed_below : {A : Type 0} (count : ℕ → ℕ) (statements : List Bound) (took : List (Option ℕ)) (first end : ℕ) (tables : List A)
@@ -172,5 +193,5 @@ pub places_what_it_inserts : (setting : Setting) (order : List Entry) (statement
     ≡ placed_from 0 statements finished.begun.took setting.first
 places_what_it_inserts setting order statements finished ended =
     placed_below (inserted_in statements finished.begun.replies) statements finished.begun.took 0 (length setting.first) setting.first (omega arith)
-    (λ table below. inserts_counted setting _ (blank_own setting) 1 table statements finished.begun.replies finished.begun.took ended.given
+    (λ table below. inserts_counted setting _ (blank_own setting) [] 1 table statements finished.begun.replies finished.begun.took ended.given
     ended.run.took ended.run.came_to ended.run.replies)

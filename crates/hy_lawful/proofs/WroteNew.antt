@@ -7,7 +7,8 @@ use Rattle.std.proofs.lemmas.Bool.{cases_Bool, eqb-true}
 use Rattle.std.proofs.lemmas.Option.{same_Some}
 use Rattle.hy_value.specs.declared.Value.{Value}
 use Rattle.hy_bound.specs.declared.Bound.{Bound}
-use Rattle.hy_bound.specs.declared.Bound.TheVariants.{Select, Group, Insert, Update, Delete}
+use Rattle.hy_bound.specs.declared.Bound.TheVariants.{Select, Group, Insert, Update, Delete, Savepoint, RollbackTo, Release}
+use Rattle.hy_bound.specs.Savepoints.{Saved, saved_after, value_after}
 use Rattle.hy_bound.specs.declared.Record.{Record}
 use Rattle.hy_bound.specs.declared.Reply.TheVariants as reply
 use Rattle.hy_bound.specs.declared.WriteKind.{WriteKind}
@@ -24,12 +25,13 @@ use Rattle.hy_machine.specs.Outcomes.{inserts_into, placed_by, placed_in}
 use Rattle.hy_machine.specs.Visits.{verdict}
 use Rattle.hy_replay.specs.Laws.{AreTables}
 use Rattle.hy_replay.specs.BagLaws.{IsPosition}
-use Rattle.hy_replay.specs.Ran.{One, Ran, has_key_at, placed_at, writes_at, changed_by, one, ran_from}
+use Rattle.hy_replay.specs.Ran.{One, Ran, has_key_at, placed_at, writes_at, changed_by, one, taken_back, ran_from}
 use Rattle.hy_lawful.proofs.Booleans.{and_left, and_right, and_true}
 use Rattle.hy_lawful.proofs.Fits.{FitsTables}
 use Rattle.hy_lawful.proofs.Tables.{blank_fits, writes_fit}
 use Rattle.hy_lawful.proofs.PassTables.{tables_at, covered_at, tables_are}
 use Rattle.hy_lawful.proofs.RunAnswers.{Went, went}
+use Rattle.hy_lawful.proofs.WroteBacks.{after_holds, back_fits, back_room, back_passes}
 use Rattle.hy_lawful.proofs.WroteSweeps.{HadSwept, HadWritten}
 use Rattle.hy_lawful.proofs.WroteStates.{EndedWrote}
 use Rattle.hy_lawful.proofs.WroteFollows.{Room, writes_room}
@@ -142,31 +144,52 @@ one_counts setting tables own number (Select from ons pred items) at first table
     reads_count setting tables own first _ table _ h refl e (placed_none table (Select from ons pred items) at refl)
 one_counts setting tables own number (Group of pred key aggregate) at first table are h p e =
     reads_count setting tables own first _ table _ h refl e (placed_none table (Group of pred key aggregate) at refl)
+one_counts setting tables own number (Savepoint name) at first table are h p e =
+    reads_count setting tables own first _ table _ h refl e (placed_none table (Savepoint name) at refl)
+one_counts setting tables own number (RollbackTo name) at first table are h p e =
+    reads_count setting tables own first _ table _ h refl e (placed_none table (RollbackTo name) at refl)
+one_counts setting tables own number (Release name) at first table are h p e =
+    reads_count setting tables own first _ table _ h refl e (placed_none table (Release name) at refl)
 one_counts setting tables own number (Insert of new) at first table are h p e = insert_counts setting tables own of new _ at first table h p e
 one_counts setting tables own number (Update of sets pred) at first table are h p e =
     changes_count setting tables own (kind.Set sets) pred of _ first table _ are h e (placed_none table (Update of sets pred) at refl)
 one_counts setting tables own number (Delete of pred) at first table are h p e =
     changes_count setting tables own kind.Delete pred of _ first table _ are h e (placed_none table (Delete of pred) at refl)
 
-none_more : (setting : Setting) (tables : Tables) (own : Own) (given : Ran) (table : ℕ) → HasTable setting own table
-    → Some (record { own = own; replies = []; records = [] }) ≡ Some given → Counted setting tables own given.own table 0
-none_more setting tables own given table h e =
+-- whoever goes back to a savepoint keeps the positions
+back_counts : (setting : Setting) (tables : Tables) (own later : Own) (saved : List (Saved Own)) (statement : Bound) (table count : ℕ)
+    → Counted setting tables own later table count → Counted setting tables own (value_after (taken_back tables) statement saved later) table count
+back_counts setting tables own later saved statement table count c =
+    after_holds (λ (other : Own). Counted setting tables own other table count) (taken_back tables) statement saved later c
+    (λ was. record {
+      has = record {
+        fits = back_fits setting tables was later c.has.fits;
+        room = λ pos below. back_room tables was later table pos (c.has.room pos below);
+      };
+      count_is = back_passes (is_new tables table) tables was later ∙ c.count_is;
+    })
+
+none_more : (setting : Setting) (tables : Tables) (own : Own) (saved : List (Saved Own)) (given : Ran) (table : ℕ) → HasTable setting own table
+    → Some (record { own = own; saved = saved; replies = []; records = [] }) ≡ Some given → Counted setting tables own given.own table 0
+none_more setting tables own saved given table h e =
     subst (λ (ran : Ran). Counted setting tables own ran.own table 0) (same_Some _ given e) (record { has = h; count_is = omega arith })
 
-all_count : (setting : Setting) (tables : Tables) (own : Own) (number : ℕ) (statements : List Bound) (took : List (Option ℕ)) (given : Ran) (table : ℕ)
-    → AreTables setting tables → HasTable setting own table → AllByRecursion (IsPosition setting) took
-    → ran_from setting tables own number (take (length took) statements) took ≡ Some given
+all_count : (setting : Setting) (tables : Tables) (own : Own) (saved : List (Saved Own)) (number : ℕ) (statements : List Bound)
+    (took : List (Option ℕ)) (given : Ran) (table : ℕ) → AreTables setting tables → HasTable setting own table → AllByRecursion (IsPosition setting) took
+    → ran_from setting tables own saved number (take (length took) statements) took ≡ Some given
     → Counted setting tables own given.own table (placed_in table statements took)
-all_count setting tables own number [] [] given table are h p e = none_more setting tables own given table h e
-all_count setting tables own number [] (at ∷ took) given table are h p e = none_more setting tables own given table h e
-all_count setting tables own number (statement ∷ statements) [] given table are h p e = none_more setting tables own given table h e
-all_count setting tables own number (statement ∷ statements) (at ∷ took) given table are h p e =
-    let w : Went setting tables own number statement (take (length took) statements) at took given =
-    went setting tables own number statement (take (length took) statements) at took given e in
-    let first : Counted setting tables own w.first.own table (placed_by table statement at) =
-    one_counts setting tables own number statement at w.first table are h p.0 w.first_is in
-    let rest : Counted setting tables w.first.own w.rest.own table (placed_in table statements took) =
-    all_count setting tables w.first.own (suc number) statements took w.rest table are first.has p.1 w.rest_is in
+all_count setting tables own saved number [] [] given table are h p e = none_more setting tables own saved given table h e
+all_count setting tables own saved number [] (at ∷ took) given table are h p e = none_more setting tables own saved given table h e
+all_count setting tables own saved number (statement ∷ statements) [] given table are h p e = none_more setting tables own saved given table h e
+all_count setting tables own saved number (statement ∷ statements) (at ∷ took) given table are h p e =
+    let w : Went setting tables own saved number statement (take (length took) statements) at took given =
+    went setting tables own saved number statement (take (length took) statements) at took given e in
+    let next : Own = value_after (taken_back tables) statement saved w.first.own in
+    let first : Counted setting tables own next table (placed_by table statement at) =
+    back_counts setting tables own w.first.own saved statement table (placed_by table statement at)
+    (one_counts setting tables own number statement at w.first table are h p.0 w.first_is) in
+    let rest : Counted setting tables next w.rest.own table (placed_in table statements took) =
+    all_count setting tables next (saved_after statement saved w.first.own) (suc number) statements took w.rest table are first.has p.1 w.rest_is in
     subst (λ (ran : Ran). Counted setting tables own ran.own table (placed_by table statement at + placed_in table statements took)) w.both
     (record { has = rest.has; count_is = omega (arith, rest.count_is, first.count_is) })
 
@@ -200,10 +223,10 @@ news_are_placed setting order statements finished ended table below =
     let tables : Tables = tables_at setting order finished.begun.prefix in
     let are : AreTables setting tables = tables_are setting order finished.begun.prefix in
     let all : Counted setting tables (blank_own setting) ended.given.own table (placed_in table statements finished.begun.took) =
-    all_count setting tables (blank_own setting) 1 statements finished.begun.took ended.given table are
+    all_count setting tables (blank_own setting) [] 1 statements finished.begun.took ended.given table are
     (record { fits = blank_fits setting; room = λ pos h. blank_room (capacity setting) setting.first table pos below h })
     ended.run.positions
-    (ap (λ (n : ℕ). ran_from setting tables (blank_own setting) 1 (take n statements) finished.begun.took) ended.run.took ∙ ended.run.came_to) in
+    (ap (λ (n : ℕ). ran_from setting tables (blank_own setting) [] 1 (take n statements) finished.begun.took) ended.run.took ∙ ended.run.came_to) in
     ended_counts setting tables statements finished.begun ended.given table are all.has.fits finished.ending ended.wrote
     ∙ (all.count_is
     ∙ omega (arith, blank_passing (is_new tables table) (capacity setting) setting.first))

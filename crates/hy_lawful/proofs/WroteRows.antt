@@ -9,7 +9,9 @@ use Rattle.std.proofs.lemmas.Option.{same_Some}
 use Rattle.hy_value.specs.declared.Value.{Value}
 use Rattle.hy_bound.specs.declared.Assign.{Assign}
 use Rattle.hy_bound.specs.declared.Bound.{Bound}
-use Rattle.hy_bound.specs.declared.Bound.TheVariants.{Select, Group, Insert, Update, Delete}
+use Rattle.hy_bound.specs.declared.Bound.TheVariants.{Select, Group, Insert, Update, Delete, Savepoint, RollbackTo, Release}
+use Rattle.hy_bound.specs.Savepoints.{Saved, saved_after, value_after}
+use Rattle.hy_bound.specs.SavedRelations.{AreAlike, alike_wider, saved_after_alike, value_after_alike}
 use Rattle.hy_bound.specs.declared.Record.{Record}
 use Rattle.hy_bound.specs.declared.Reply.TheVariants as reply
 use Rattle.hy_bound.specs.declared.WriteKind.{WriteKind}
@@ -24,15 +26,17 @@ use Rattle.hy_machine.specs.Positions.{item_at}
 use Rattle.hy_machine.specs.Tables.{Cell, Tables, Own, capacity, covered, over}
 use Rattle.hy_machine.specs.Visits.{new_cell, judged, verdict}
 use Rattle.hy_replay.specs.Laws.{AreTables}
-use Rattle.hy_replay.specs.Ran.{One, Ran, has_key_at, placed_at, writes_at, changed_by, one, ran_from}
-use Rattle.hy_lawful.specs.Written.{writes, left_by, after_one, followed, some_writes}
-use Rattle.hy_lawful.proofs.Booleans.{and_right}
+use Rattle.hy_replay.specs.TakenBack.{back_item, back_stays}
+use Rattle.hy_replay.specs.Ran.{One, Ran, has_key_at, placed_at, writes_at, changed_by, one, back_cell, taken_back, ran_from}
+use Rattle.hy_lawful.specs.Written.{writes, left_by, after_one, cell_back, cells_saved, cell_left, followed_from, some_writes_from}
+use Rattle.hy_lawful.proofs.Booleans.{and_right, or_first}
 use Rattle.hy_lawful.proofs.Fits.{FitsTables}
 use Rattle.hy_lawful.proofs.Tables.{writes_fit}
 use Rattle.hy_lawful.proofs.PassTables.{covered_at}
 use Rattle.hy_lawful.proofs.RunSweeps.{write_apart}
 use Rattle.hy_lawful.proofs.RunAnswers.{Went, went}
 use Rattle.hy_lawful.proofs.WroteSweeps.{change_of}
+use Rattle.hy_lawful.proofs.WroteBacks.{after_holds, back_fits, back_room}
 use Rattle.hy_lawful.proofs.WroteFollows.{Room, writes_room, put_other, laid, SweptAt, sweep_other, sweep_at}
 
 -- ---- verdicts
@@ -162,6 +166,74 @@ change_follows setting tables own kind pred of many all table pos under cell wro
           (sweep_other of (λ at. verdict kind pred of at None (item_at (over tables own) of at)) 0 many all own table pos e apart) s)
     ])
 
+-- ---- savepoints
+
+-- at a savepoint this cell was seen, and what was own there then is own still
+pub record WasSo (table pos : ℕ) (under : Cell) (wrote : Bool) (was : Own) (cell : Cell) : Type 0 where
+  pub seen : covered (λ (item : Cell). item) under (item_at was table pos) ≡ cell
+  pub within : is_some (item_at was table pos) ≡ true → wrote ≡ true
+
+-- the followed cell is seen, and was at each savepoint
+pub record IsFollowed (setting : Setting) (own : Own) (saved : List (Saved Own)) (table pos : ℕ) (under : Cell) (cells : List (Saved Cell)) (cell : Cell)
+    (wrote : Bool) : Type 0 where
+  pub stands : StandsSo setting own table pos under cell wrote
+  pub was : AreAlike (WasSo table pos under wrote) saved cells
+
+was_later : (table pos : ℕ) (under : Cell) (wrote now : Bool) → (wrote ≡ true → now ≡ true) → (was : Own) (cell : Cell)
+    → WasSo table pos under wrote was cell → WasSo table pos under now was cell
+was_later table pos under wrote now more was cell w = record { seen = w.seen; within = λ some. more (w.within some) }
+
+back_seen : (under : Cell) (was now : Option Cell) (cell : Cell) → covered (λ (item : Cell). item) under was ≡ cell
+    → (is_some was ≡ true → is_some now ≡ true) → covered (λ (item : Cell). item) under (back_cell under was now) ≡ cell
+back_seen under None None cell c within = c
+back_seen under None (Some now) cell c within = c
+back_seen under (Some before) None cell c within = absurd (let never : false ≡ true = within refl in cc)
+back_seen under (Some before) (Some now) cell c within = c
+
+-- who goes back to a savepoint sees what was seen there then
+back_was : (setting : Setting) (tables : Tables) (own : Own) (table pos : ℕ) (under : Cell) (wrote : Bool) → IsCellAt setting tables table pos under
+    → is_some (item_at own table pos) ≡ wrote → (was : Own) (cell : Cell) → WasSo table pos under wrote was cell
+    → WasSo table pos under wrote (taken_back tables was own) cell
+back_was setting tables own table pos under wrote is some was cell w = record {
+  seen = ap (covered (λ (item : Cell). item) under)
+      (back_item tables was own table pos
+      ∙ ap (λ (below : Cell). back_cell below (item_at was table pos) (item_at own table pos)) is.under_is)
+      ∙ back_seen under (item_at was table pos) (item_at own table pos) cell w.seen (λ there. some ∙ w.within there);
+  within = λ there. sym some ∙ (sym (back_stays tables was own table pos) ∙ there);
+}
+
+-- a position that own writes have, written or not
+record HasPlace (setting : Setting) (table pos : ℕ) (wrote : Bool) (own : Own) : Type 0 where
+  fits : FitsTables setting own
+  room : Room own table pos
+  wrote_is : is_some (item_at own table pos) ≡ wrote
+
+-- after a statement the followed cell is the one that it left, or the one that it goes back to
+pub saving_follows : (setting : Setting) (tables : Tables) (own : Own) (saved : List (Saved Own)) (table pos : ℕ) (under : Cell) (cells : List (Saved Cell))
+    (cell : Cell) (wrote now : Bool) (statement : Bound) → IsCellAt setting tables table pos under → AreAlike (WasSo table pos under wrote) saved cells
+    → (wrote ≡ true → now ≡ true) → StandsSo setting own table pos under cell now
+    → IsFollowed setting (value_after (taken_back tables) statement saved own) (saved_after statement saved own) table pos under
+    (saved_after statement cells cell) (value_after cell_back statement cells cell) now
+saving_follows setting tables own saved table pos under cells cell wrote now statement is was more s =
+    let alike : AreAlike (WasSo table pos under now) saved cells =
+    alike_wider (WasSo table pos under wrote) (WasSo table pos under now) (was_later table pos under wrote now more) saved cells was in
+    let here : WasSo table pos under now own cell = record { seen = s.cell_is; within = λ there. sym s.wrote_is ∙ there } in
+    let place : HasPlace setting table pos now (value_after (taken_back tables) statement saved own) =
+    after_holds (HasPlace setting table pos now) (taken_back tables) statement saved own
+    (record { fits = s.fits; room = s.room; wrote_is = s.wrote_is })
+    (λ before. record {
+      fits = back_fits setting tables before own s.fits;
+      room = back_room tables before own table pos s.room;
+      wrote_is = back_stays tables before own table pos ∙ s.wrote_is;
+    }) in
+    let left : WasSo table pos under now (value_after (taken_back tables) statement saved own) (value_after cell_back statement cells cell) =
+    value_after_alike (WasSo table pos under now) (WasSo table pos under now) (taken_back tables) cell_back statement saved cells own cell alike here
+    (back_was setting tables own table pos under now is s.wrote_is) in
+    record {
+      stands = record { fits = place.fits; room = place.room; wrote_is = place.wrote_is; cell_is = left.seen };
+      was = saved_after_alike (WasSo table pos under now) statement saved cells own cell alike here;
+    }
+
 -- ---- statements
 
 pub chosen_so : {X : Type 0} (b : Bool) (x y : X) → cond b (Some x) None ≡ Some y → (b ≡ true) × (x ≡ y)
@@ -218,18 +290,29 @@ one_changes setting tables own kind pred of records first table pos under cell w
     subst (λ (other : Own). StandsAfter setting other table pos under cell wrote (change_of kind pred of) (writes table (change_of kind pred of) cell)) c.own_is
     (change_follows setting tables own kind pred of (capacity setting) c.all table pos under cell wrote is is.below c.swept s)
 
+-- what a statement leaves that writes nothing
+own_stays : (setting : Setting) (own : Own) (first : One) (table pos : ℕ) (row : List Value) (cell : Cell) (wrote : Bool) (statement : Bound) (left : One)
+    → left.own ≡ own → Some left ≡ Some first → StandsSo setting own table pos (Some row) cell wrote
+    → StandsAfter setting first.own table pos (Some row) cell wrote statement false
+own_stays setting own first table pos row cell wrote statement left same e s =
+    subst (λ (other : Own). StandsAfter setting other table pos (Some row) cell wrote statement false)
+    (sym same ∙ ap (λ (one : One). one.own) (same_Some left first e))
+    (stays_so setting own own table pos (Some row) cell wrote statement s.fits s.room refl s)
+
 one_follows : (setting : Setting) (tables : Tables) (own : Own) (number : ℕ) (statement : Bound) (at : Option ℕ) (first : One)
     (table pos : ℕ) (row : List Value) (cell : Cell) (wrote : Bool) → IsCellAt setting tables table pos (Some row)
     → one setting tables own number statement at ≡ Some first → StandsSo setting own table pos (Some row) cell wrote
     → StandsAfter setting first.own table pos (Some row) cell wrote statement (writes table statement cell)
 one_follows setting tables own number (Select from ons pred items) at first table pos row cell wrote is e s =
-    subst (λ (other : Own). StandsAfter setting other table pos (Some row) cell wrote (Select from ons pred items) false)
-    (ap (λ (one : One). one.own) (same_Some _ first e))
-    (stays_so setting own own table pos (Some row) cell wrote (Select from ons pred items) s.fits s.room refl s)
+    own_stays setting own first table pos row cell wrote (Select from ons pred items) _ refl e s
 one_follows setting tables own number (Group of pred key aggregate) at first table pos row cell wrote is e s =
-    subst (λ (other : Own). StandsAfter setting other table pos (Some row) cell wrote (Group of pred key aggregate) false)
-    (ap (λ (one : One). one.own) (same_Some _ first e))
-    (stays_so setting own own table pos (Some row) cell wrote (Group of pred key aggregate) s.fits s.room refl s)
+    own_stays setting own first table pos row cell wrote (Group of pred key aggregate) _ refl e s
+one_follows setting tables own number (Savepoint name) at first table pos row cell wrote is e s =
+    own_stays setting own first table pos row cell wrote (Savepoint name) _ refl e s
+one_follows setting tables own number (RollbackTo name) at first table pos row cell wrote is e s =
+    own_stays setting own first table pos row cell wrote (RollbackTo name) _ refl e s
+one_follows setting tables own number (Release name) at first table pos row cell wrote is e s =
+    own_stays setting own first table pos row cell wrote (Release name) _ refl e s
 one_follows setting tables own number (Insert of new) at first table pos row cell wrote is e s =
     insert_follows setting tables own of new _ at first table pos row cell wrote is e s
 one_follows setting tables own number (Update of sets pred) at first table pos row cell wrote is e s =
@@ -242,20 +325,26 @@ or_joined true b c = refl
 or_joined false b c = refl
 
 -- a row is followed through statements
-pub all_follow : (setting : Setting) (tables : Tables) (own : Own) (number : ℕ) (statements : List Bound) (took : List (Option ℕ)) (given : Ran)
-    (table pos : ℕ) (row : List Value) (cell : Cell) (wrote : Bool) → IsCellAt setting tables table pos (Some row)
-    → ran_from setting tables own number statements took ≡ Some given → StandsSo setting own table pos (Some row) cell wrote
-    → StandsSo setting given.own table pos (Some row) (followed table statements cell) (wrote || some_writes table statements cell)
-all_follow setting tables own number [] took given table pos row cell wrote is e s =
+pub all_follow : (setting : Setting) (tables : Tables) (own : Own) (saved : List (Saved Own)) (number : ℕ) (statements : List Bound)
+    (took : List (Option ℕ)) (given : Ran) (table pos : ℕ) (row : List Value) (cells : List (Saved Cell)) (cell : Cell) (wrote : Bool)
+    → IsCellAt setting tables table pos (Some row) → ran_from setting tables own saved number statements took ≡ Some given
+    → IsFollowed setting own saved table pos (Some row) cells cell wrote
+    → StandsSo setting given.own table pos (Some row) (followed_from table cells statements cell) (wrote || some_writes_from table cells statements cell)
+all_follow setting tables own saved number [] took given table pos row cells cell wrote is e f =
     subst (λ (ran : Ran). StandsSo setting ran.own table pos (Some row) cell (wrote || false)) (same_Some _ given e)
-    (subst (StandsSo setting own table pos (Some row) cell) (or_false wrote) s)
-all_follow setting tables own number (statement ∷ statements) [] given table pos row cell wrote is e s = absurd cc
-all_follow setting tables own number (statement ∷ statements) (at ∷ took) given table pos row cell wrote is e s =
-    let w : Went setting tables own number statement statements at took given = went setting tables own number statement statements at took given e in
-    let next : Cell = after_one table statement cell in
-    subst (λ (ran : Ran). StandsSo setting ran.own table pos (Some row) (followed table statements next)
-    (wrote || (writes table statement cell || some_writes table statements next))) w.both
-    (subst (StandsSo setting w.rest.own table pos (Some row) (followed table statements next))
-    (or_joined wrote (writes table statement cell) (some_writes table statements next))
-    (all_follow setting tables w.first.own (suc number) statements took w.rest table pos row next (wrote || writes table statement cell) is w.rest_is
-    (one_follows setting tables own number statement at w.first table pos row cell wrote is w.first_is s)))
+    (subst (StandsSo setting own table pos (Some row) cell) (or_false wrote) f.stands)
+all_follow setting tables own saved number (statement ∷ statements) [] given table pos row cells cell wrote is e f = absurd cc
+all_follow setting tables own saved number (statement ∷ statements) (at ∷ took) given table pos row cells cell wrote is e f =
+    let w : Went setting tables own saved number statement statements at took given =
+    went setting tables own saved number statement statements at took given e in
+    let kept : List (Saved Cell) = cells_saved table statement cells cell in
+    let next : Cell = cell_left table statement cells cell in
+    subst (λ (ran : Ran). StandsSo setting ran.own table pos (Some row) (followed_from table kept statements next)
+    (wrote || (writes table statement cell || some_writes_from table kept statements next))) w.both
+    (subst (StandsSo setting w.rest.own table pos (Some row) (followed_from table kept statements next))
+    (or_joined wrote (writes table statement cell) (some_writes_from table kept statements next))
+    (all_follow setting tables (value_after (taken_back tables) statement saved w.first.own) (saved_after statement saved w.first.own) (suc number)
+    statements took w.rest table pos row kept next (wrote || writes table statement cell) is w.rest_is
+    (saving_follows setting tables w.first.own saved table pos (Some row) cells (after_one table statement cell) wrote
+    (wrote || writes table statement cell) statement is f.was (or_first wrote (writes table statement cell))
+    (one_follows setting tables own number statement at w.first table pos row cell wrote is w.first_is f.stands))))

@@ -9,12 +9,12 @@ use Rattle.hy_machine.specs.declared.Setting.{Setting}
 use Rattle.hy_protocol.specs.declared.Phase.TheVariants.{Working, Stamping}
 use Rattle.hy_machine.specs.States.{State, Session, Open, Finished}
 use Rattle.hy_machine.specs.Tables.{Entry, Tables}
-use Rattle.hy_protocol.specs.Turns.{Turn, Done, Waits, Begins, Visits, Answers, Enters, Ends}
+use Rattle.hy_protocol.specs.Turns.{Turn, Done, Waits, Begins, Visits, Answers, Saves, Enters, Ends}
 use Rattle.hy_machine.specs.Turns.{phase_turn}
-use Rattle.hy_machine.specs.Writes.{Write, with_writes}
+use Rattle.hy_machine.specs.Writes.{Write, with_writes, with_trail}
 use Rattle.hy_machine.specs.Sessions.{session_at, entry_of}
 use Rattle.hy_machine.specs.Outcomes.{statements_in}
-use Rattle.hy_machine.specs.Steps.{with_session, beginning, after_visit, after_answer, done_with, order_with, after_turn}
+use Rattle.hy_machine.specs.Steps.{with_session, beginning, after_visit, after_answer, after_saving, done_with, order_with, after_turn}
 use Rattle.hy_machine.specs.Runs.{IsReached}
 use Rattle.hy_replay.specs.Ran.{Ran, ran}
 use Rattle.hy_lawful.specs.Reached.{statements_at}
@@ -142,13 +142,18 @@ turn_wrote setting state number current o (Visits writes phase) h =
     (sym o.is)
     (goes_on setting state number (after_visit writes phase current) o.all o.there
     (λ given e. subst (λ (one : Ran). WrotePhase setting (tables_at setting state.order current.begun.prefix) (statements_now setting state number)
-    (record current.begun { own = with_writes current.begun.own writes }) one phase)
+    (record current.begun { own = with_writes current.begun.own writes; trail = with_trail current.begun.trail writes }) one phase)
     (same_Some o.run.given given (sym o.run.run.came_to ∙ e)) h))
 turn_wrote setting state number current o (Answers writes reply took records) h =
     subst (λ (now : Option Open). AllWrote setting
     (with_session state number (record { done = (session_at state number).done; now = option_map (after_answer writes reply took records) now })))
     (sym o.is)
     (goes_on setting state number (after_answer writes reply took records current) o.all o.there (λ given e. tt))
+turn_wrote setting state number current o (Saves statement reply) h =
+    subst (λ (now : Option Open). AllWrote setting
+    (with_session state number (record { done = (session_at state number).done; now = option_map (after_saving statement reply) now })))
+    (sym o.is)
+    (goes_on setting state number (after_saving statement reply current) o.all o.there (λ given e. tt))
 turn_wrote setting state number current o Enters h =
     subst (λ (now : Option Open). AllWrote setting (moved_to state (order_with setting state number now) (Some number) number
     (record { done = (session_at state number).done; now = option_map (after_visit [] (Stamping 0)) now })))

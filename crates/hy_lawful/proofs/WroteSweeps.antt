@@ -7,7 +7,7 @@ use Rattle.std.specs.List.{range_with_len}
 use Rattle.hy_stamp.specs.declared.Label.{Label}
 use Rattle.hy_bound.specs.declared.Txn.{Txn}
 use Rattle.hy_bound.specs.declared.Bound.{Bound}
-use Rattle.hy_bound.specs.declared.Bound.TheVariants.{Select, Group, Insert, Update, Delete}
+use Rattle.hy_bound.specs.declared.Bound.TheVariants.{Select, Group, Insert, Update, Delete, Savepoint, RollbackTo, Release}
 use Rattle.hy_bound.specs.declared.WriteKind.{WriteKind}
 use Rattle.hy_bound.specs.declared.WriteKind.TheVariants as kind
 use Rattle.hy_bound.specs.Condition.{Condition}
@@ -19,8 +19,8 @@ use Rattle.hy_protocol.specs.declared.Phase.{Phase}
 use Rattle.hy_protocol.specs.declared.Phase.TheVariants.{Working, Stamping, Undoing}
 use Rattle.hy_machine.specs.States.{State, Begun}
 use Rattle.hy_machine.specs.Tables.{Cell, Tables, over}
-use Rattle.hy_machine.specs.Writes.{Write, with_writes}
-use Rattle.hy_protocol.specs.Turns.{Turn, Done, Waits, Begins, Visits, Answers, Enters, Ends}
+use Rattle.hy_machine.specs.Writes.{Write, with_writes, with_trail}
+use Rattle.hy_protocol.specs.Turns.{Turn, Done, Waits, Begins, Visits, Answers, Saves, Enters, Ends}
 use Rattle.hy_machine.specs.Positions.{item_at}
 use Rattle.hy_machine.specs.Sessions.{snapshot, view}
 use Rattle.hy_machine.specs.Holding.{opponent}
@@ -71,8 +71,9 @@ WroteTurn setting tables statements begun given Done = Unit {0}
 WroteTurn setting tables statements begun given (Waits by) = Unit {0}
 WroteTurn setting tables statements begun given Begins = ⊥
 WroteTurn setting tables statements begun given (Visits writes phase) =
-    WrotePhase setting tables statements (record begun { own = with_writes begun.own writes }) given phase
+    WrotePhase setting tables statements (record begun { own = with_writes begun.own writes; trail = with_trail begun.trail writes }) given phase
 WroteTurn setting tables statements begun given (Answers writes reply took records) = Unit {0}
+WroteTurn setting tables statements begun given (Saves statement reply) = Unit {0}
 WroteTurn setting tables statements begun given Enters = Unit {0}
 WroteTurn setting tables statements begun given (Ends ending) = HadWritten setting tables statements begun given ending
 
@@ -191,6 +192,10 @@ statement_wrote setting state statements number begun given visited count (Updat
     writes_wrote setting state statements number begun given visited count (Update table sets pred) (kind.Set sets) pred table n at
 statement_wrote setting state statements number begun given visited count (Delete table pred) n at =
     writes_wrote setting state statements number begun given visited count (Delete table pred) kind.Delete pred table n at
+statement_wrote setting state statements number begun given visited count (Savepoint name) n at = record { waits = λ by is. tt; saves = λ free. tt }
+statement_wrote setting state statements number begun given visited count (RollbackTo name) n at =
+    record { goes = λ chunk e. tt; ends = λ none. record { waits = λ by is. tt; saves = λ free. tt } }
+statement_wrote setting state statements number begun given visited count (Release name) n at = record { waits = λ by is. tt; saves = λ free. tt }
 
 -- ---- what closes a transaction
 

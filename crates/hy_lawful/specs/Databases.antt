@@ -1,5 +1,5 @@
 -- The serial databases, and what a transaction gives, logs and leaves when it runs alone from one of them on.
-use Rattle.std.specs.Prelude.{ℕ, List, length, take, map}
+use Rattle.std.specs.Prelude.{ℕ, List, [], length, take, map}
 use Rattle.hy_bound.specs.declared.Record.{Record}
 use Rattle.hy_meaning.specs.Statement.{Table, Database, rows_in}
 use Rattle.hy_meaning.specs.Serial.{Alone, alone_of, serial, database_of}
@@ -22,7 +22,7 @@ alone_at setting order label rank = alone_of setting.shapes (statements_of setti
 
 -- what a transaction logs when it runs alone from the database of its start on
 abbrev pub logged_by : Setting → List Entry → TxnOutcome → List Record
-logged_by setting order txn = logged_from setting.shapes 1 (statements_of setting.programs txn.label) (database_at setting order txn.start)
+logged_by setting order txn = logged_from setting.shapes [] 1 (statements_of setting.programs txn.label) (database_at setting order txn.start)
 
 -- the rows of a table that the answered statements of a transaction leave, alone from the database of its start on
 abbrev pub rows_left : Setting → List Entry → TxnOutcome → ℕ → Table

@@ -2,7 +2,7 @@
 use Rattle.std.specs.Prelude.{◌≡◌, ℕ, ◌<◌, ◌≤◌, Bool, false, ◌==◌, IsTrue, IsFalse, Option, None, Some, length}
 use Rattle.std.specs.Option.{IsSomeAnd}
 use Rattle.hy_bound.specs.declared.Bound.{Bound}
-use Rattle.hy_bound.specs.declared.Bound.TheVariants.{Select, Group, Insert, Update, Delete}
+use Rattle.hy_bound.specs.declared.Bound.TheVariants.{Select, Group, Insert, Update, Delete, Savepoint, RollbackTo, Release}
 use Rattle.hy_stamp.specs.declared.Label.{Label}
 use Rattle.hy_bound.specs.declared.Ending.{Ending}
 use Rattle.hy_bound.specs.declared.Ending.TheVariants.{Committed, Read, RolledBack, Conflict, Invalid, Range, Full}
@@ -19,6 +19,9 @@ updates table (Some (Group of pred key aggregate)) = false
 updates table (Some (Insert of row)) = false
 updates table (Some (Update of sets pred)) = of == table
 updates table (Some (Delete of pred)) = false
+updates table (Some (Savepoint name)) = false
+updates table (Some (RollbackTo name)) = false
+updates table (Some (Release name)) = false
 
 abbrev pub changes_rows : ℕ → Option Bound → Bool
 changes_rows table None = false
@@ -27,6 +30,9 @@ changes_rows table (Some (Group of pred key aggregate)) = false
 changes_rows table (Some (Insert of row)) = false
 changes_rows table (Some (Update of sets pred)) = of == table
 changes_rows table (Some (Delete of pred)) = of == table
+changes_rows table (Some (Savepoint name)) = false
+changes_rows table (Some (RollbackTo name)) = false
+changes_rows table (Some (Release name)) = false
 
 abbrev pub inserts : ℕ → Option Bound → Bool
 inserts table None = false
@@ -35,6 +41,9 @@ inserts table (Some (Group of pred key aggregate)) = false
 inserts table (Some (Insert of row)) = of == table
 inserts table (Some (Update of sets pred)) = false
 inserts table (Some (Delete of pred)) = false
+inserts table (Some (Savepoint name)) = false
+inserts table (Some (RollbackTo name)) = false
+inserts table (Some (Release name)) = false
 
 -- all statements of a transaction are answered
 abbrev pub AnswersAll : Programs → TxnOutcome → Type 0

@@ -6,7 +6,7 @@ use Rattle.std.specs.List.{list_any}
 use Rattle.std.specs.Option.{IsSomeAnd}
 use Rattle.hy_value.specs.declared.Value.{Value}
 use Rattle.hy_bound.specs.declared.Bound.{Bound}
-use Rattle.hy_bound.specs.declared.Bound.TheVariants.{Select, Group, Insert, Update, Delete}
+use Rattle.hy_bound.specs.declared.Bound.TheVariants.{Select, Group, Insert, Update, Delete, Savepoint, RollbackTo, Release}
 use Rattle.hy_bound.specs.Predicate.{truth_of}
 use Rattle.hy_bound.specs.Assignment.{assigned}
 use Rattle.hy_bound.specs.declared.Shape.{Shape}
@@ -38,6 +38,9 @@ goes_out table (Some (Group of pred key aggregate)) row = false
 goes_out table (Some (Insert of new)) row = false
 goes_out table (Some (Update of sets pred)) row = of == table && truth_of pred row && is_none (assigned sets row)
 goes_out table (Some (Delete of pred)) row = false
+goes_out table (Some (Savepoint name)) row = false
+goes_out table (Some (RollbackTo name)) row = false
+goes_out table (Some (Release name)) row = false
 
 abbrev pub goes_out_at : ℕ → Option Bound → Cell → Bool
 goes_out_at table statement None = false
@@ -51,6 +54,9 @@ finds_key shapes table (Some (Group of pred key aggregate)) rows = false
 finds_key shapes table (Some (Insert of new)) rows = of == table && list_any (has_key_of new (shape_of shapes table).key) rows
 finds_key shapes table (Some (Update of sets pred)) rows = false
 finds_key shapes table (Some (Delete of pred)) rows = false
+finds_key shapes table (Some (Savepoint name)) rows = false
+finds_key shapes table (Some (RollbackTo name)) rows = false
+finds_key shapes table (Some (Release name)) rows = false
 
 -- the refused statement of a transaction, by the tables that it saw and those that its answered statements left: by a
 -- conflict over a row that it selects, by a value that goes out of range, or by want of room for a row whose key isn't there

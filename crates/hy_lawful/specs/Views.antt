@@ -1,5 +1,5 @@
 -- That what an open transaction sees fits its tables: the rows have the tables' columns.
-use Rattle.std.specs.Prelude.{ℕ, List, map}
+use Rattle.std.specs.Prelude.{ℕ, List, map, take}
 use Rattle.std.specs.List.{All, AllZip}
 use Rattle.hy_value.specs.declared.Value.{Value}
 use Rattle.hy_bound.specs.declared.Shape.{Shape}
@@ -9,11 +9,12 @@ use Rattle.hy_bound.specs.Fits.{FitsShape, FitsStatement}
 use Rattle.hy_bound.specs.Records.{shape_of}
 use Rattle.hy_machine.specs.declared.Setting.{Setting}
 use Rattle.hy_machine.specs.States.{State, Open}
-use Rattle.hy_machine.specs.Tables.{Tables}
+use Rattle.hy_machine.specs.Tables.{Tables, over}
+use Rattle.hy_machine.specs.Writes.{blank_own, with_writes}
 use Rattle.hy_machine.specs.Sessions.{snapshot, view}
 use Rattle.hy_machine.specs.Turns.{rows_seen}
 use Rattle.hy_machine.specs.Runs.{IsReached}
-use Rattle.hy_machine.specs.Kept.{IsNow}
+use Rattle.hy_machine.specs.Kept.{IsNow, KeysStay}
 
 -- what is run fits its tables: each has first rows of its columns, and the statements are theirs
 pub record TablesAreFitted (setting : Setting) : Type 0 where
@@ -32,7 +33,17 @@ abbrev pub ReachedViewsFit : Type 0
 ReachedViewsFit = (setting : Setting) (state : State) → TablesAreFitted setting → IsReached setting state
     → (number : ℕ) (current : Open) → IsNow state number current → SeenFits setting (view setting state current.begun)
 
+-- and for what it saw when it had written so much
+abbrev pub ReachedSeenFit : Type 0
+ReachedSeenFit = (setting : Setting) (state : State) → TablesAreFitted setting → IsReached setting state
+    → (number : ℕ) (current : Open) → IsNow state number current → (count : ℕ)
+    → SeenFits setting (over (snapshot setting state current.begun.prefix) (with_writes (blank_own setting) (take count current.begun.trail)))
+
 -- and for the tables after the first entries of the commit order, or after all
 abbrev pub ReachedTablesFit : Type 0
 ReachedTablesFit = (setting : Setting) (state : State) → TablesAreFitted setting → IsReached setting state
     → (prefix : ℕ) → SeenFits setting (snapshot setting state prefix)
+
+-- and the rows that an open transaction has written have the keys of the rows that stood there at its start
+abbrev pub ReachedKeysStay : Type 0
+ReachedKeysStay = (setting : Setting) (state : State) → TablesAreFitted setting → IsReached setting state → KeysStay setting state

@@ -4,11 +4,12 @@ use Rattle.std.specs.Prelude.{Option, None, Some, is_none, if◌then◌else◌}
 use Rattle.std.specs.Prelude.{zip, count_by, length, take, map, option_and_then}
 use Rattle.std.specs.List.{list_any, range_with_len}
 use Rattle.hy_bound.specs.declared.Bound.{Bound}
-use Rattle.hy_bound.specs.declared.Bound.TheVariants.{Select, Group, Insert, Update, Delete}
+use Rattle.hy_bound.specs.declared.Bound.TheVariants.{Select, Group, Insert, Update, Delete, Savepoint, RollbackTo, Release}
 use Rattle.hy_bound.specs.declared.Reply.{Reply}
 use Rattle.hy_bound.specs.declared.Reply.TheVariants as reply
 use Rattle.hy_bound.specs.Predicate.{truth_at}
 use Rattle.hy_bound.specs.Assignment.{assigned}
+use Rattle.hy_bound.specs.Savepoints.{Saved, saved_after, value_after}
 use Rattle.hy_value.specs.declared.change.Change.{Change}
 use Rattle.hy_bound.specs.declared.Ending.{Ending}
 use Rattle.hy_bound.specs.declared.Ending.TheVariants.{Committed, Read, RolledBack, Conflict, Invalid, Range, Full}
@@ -33,6 +34,9 @@ is_change (Group of pred key aggregate) = false
 is_change (Insert of row) = true
 is_change (Update of sets pred) = true
 is_change (Delete of pred) = true
+is_change (Savepoint name) = false
+is_change (RollbackTo name) = false
+is_change (Release name) = false
 
 -- a transaction none of whose statements is one has written nothing
 abbrev pub ReadersWriteNothing : Setting → TxnOutcome → Type 0
@@ -48,6 +52,9 @@ is_inserted reply.Inserted = true
 is_inserted reply.Duplicate = false
 is_inserted (reply.Updated count) = false
 is_inserted (reply.Deleted count) = false
+is_inserted reply.Saved = false
+is_inserted reply.Back = false
+is_inserted reply.Released = false
 
 -- how many INSERTs into a table were answered by `inserted`
 abbrev pub inserted_in : List Bound → List Reply → ℕ → ℕ
@@ -77,6 +84,9 @@ writes table (Group of pred key aggregate) cell = false
 writes table (Insert of row) cell = false
 writes table (Update of sets pred) cell = of == table && truth_at pred cell
 writes table (Delete of pred) cell = of == table && truth_at pred cell
+writes table (Savepoint name) cell = false
+writes table (RollbackTo name) cell = false
+writes table (Release name) cell = false
 
 -- what a statement leaves in a cell that it writes: an UPDATE the row as it is set, a DELETE nothing
 abbrev pub left_by : Bound → Cell → Cell
@@ -85,15 +95,34 @@ left_by (Group of pred key aggregate) cell = cell
 left_by (Insert of row) cell = cell
 left_by (Update of sets pred) cell = option_and_then (assigned sets) cell
 left_by (Delete of pred) cell = None
+left_by (Savepoint name) cell = cell
+left_by (RollbackTo name) cell = cell
+left_by (Release name) cell = cell
 
--- a cell after a statement
+-- a cell after what a statement writes there
 abbrev pub after_one : ℕ → Bound → Cell → Cell
 after_one table statement cell = if writes table statement cell then left_by statement cell else cell
 
--- a cell followed through statements
+-- going back to a cell: it is the one that was kept
+abbrev pub cell_back : Cell → Cell → Cell
+cell_back was now = was
+
+-- what savepoints keep of a cell after a statement, and the cell then: ROLLBACK TO goes back to the one that is kept
+abbrev pub cells_saved : ℕ → Bound → List (Saved Cell) → Cell → List (Saved Cell)
+cells_saved table statement saved cell = saved_after statement saved (after_one table statement cell)
+
+abbrev pub cell_left : ℕ → Bound → List (Saved Cell) → Cell → Cell
+cell_left table statement saved cell = value_after cell_back statement saved (after_one table statement cell)
+
+-- a cell followed through statements, of which savepoints keep this at first
+abbrev pub followed_from : ℕ → List (Saved Cell) → List Bound → Cell → Cell
+followed_from table saved [] cell = cell
+followed_from table saved (statement ∷ statements) cell =
+    followed_from table (cells_saved table statement saved cell) statements (cell_left table statement saved cell)
+
+-- a cell followed through the statements of a transaction
 abbrev pub followed : ℕ → List Bound → Cell → Cell
-followed table [] cell = cell
-followed table (statement ∷ statements) cell = followed table statements (after_one table statement cell)
+followed table statements cell = followed_from table [] statements cell
 
 -- the row that an answered statement inserted into a table, if it inserted one there
 abbrev pub row_inserted : ℕ → Bound → Reply → Cell
@@ -102,18 +131,33 @@ row_inserted table (Group of pred key aggregate) reply = None
 row_inserted table (Insert of row) reply = if of == table && is_inserted reply then Some row else None
 row_inserted table (Update of sets pred) reply = None
 row_inserted table (Delete of pred) reply = None
+row_inserted table (Savepoint name) reply = None
+row_inserted table (RollbackTo name) reply = None
+row_inserted table (Release name) reply = None
 
--- whether some row that answered statements inserted into a table passes a test, followed through the statements behind
+-- whether some row that answered statements inserted into a table passes a test, followed through the statements behind;
+-- savepoints that were made before it keep no row at its place
+abbrev pub some_inserted_from : (Cell → Bool) → ℕ → List (Saved Cell) → List Bound → List Reply → Bool
+some_inserted_from test table saved [] replies = false
+some_inserted_from test table saved (statement ∷ statements) [] = false
+some_inserted_from test table saved (statement ∷ statements) (reply ∷ replies) =
+    test (followed_from table (saved_after statement saved None) statements (row_inserted table statement reply))
+    || some_inserted_from test table (saved_after statement saved None) statements replies
+
+-- the same of all answered statements of a transaction
 abbrev pub some_inserted : (Cell → Bool) → ℕ → List Bound → List Reply → Bool
-some_inserted test table [] replies = false
-some_inserted test table (statement ∷ statements) [] = false
-some_inserted test table (statement ∷ statements) (reply ∷ replies) =
-    test (followed table statements (row_inserted table statement reply)) || some_inserted test table statements replies
+some_inserted test table statements replies = some_inserted_from test table [] statements replies
 
--- whether one of these statements writes a cell, as it is followed through those before
+-- whether one of these statements writes a cell, as it is followed through those before, taken back later or not
+abbrev pub some_writes_from : ℕ → List (Saved Cell) → List Bound → Cell → Bool
+some_writes_from table saved [] cell = false
+some_writes_from table saved (statement ∷ statements) cell =
+    writes table statement cell
+    || some_writes_from table (cells_saved table statement saved cell) statements (cell_left table statement saved cell)
+
+-- whether one of the statements of a transaction does
 abbrev pub some_writes : ℕ → List Bound → Cell → Bool
-some_writes table [] cell = false
-some_writes table (statement ∷ statements) cell = writes table statement cell || some_writes table statements (after_one table statement cell)
+some_writes table statements cell = some_writes_from table [] statements cell
 
 -- of a statement, if there is one: whether it writes a cell
 abbrev pub would_write : ℕ → Option Bound → Cell → Bool

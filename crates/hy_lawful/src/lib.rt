@@ -16,8 +16,9 @@ use hy_machine::runs_are_steps;
 use hy_replay::{a_run_keeps_widths, a_run_over_cells_is_alone, what_is_unseen_leaves_a_run};
 pub use states::{
     inserts_count_positions, inserts_take_what_is_placed, open_ones_may_overlap,
-    reached_entries_stand, reached_rows_meet_demands, reached_states_are_kept, reached_tables_fit,
-    reached_views_fit, rows_are_followed, the_committed_passed_unseen, transactions_have_run,
+    reached_entries_stand, reached_keys_stay, reached_rows_meet_demands, reached_savepoints_fit,
+    reached_states_are_kept, reached_tables_fit, reached_views_fit, rows_are_followed,
+    the_committed_passed_unseen, transactions_have_run,
 };
 
 /// Whatever the script, and whatever the steps after which every session has ended, what the machine has come to is

@@ -5,7 +5,7 @@ ghost use Rattle.hy_lawful.specs.Overlaps.{OpenOnesOverlap};
 ghost use Rattle.hy_lawful.specs.Rooms.{ReachedPlaced};
 ghost use Rattle.hy_lawful.specs.EffectRows.{InsertsCountPositions, RowsAreFollowed};
 ghost use Rattle.hy_lawful.specs.Kept.{ReachedAreKept};
-ghost use Rattle.hy_lawful.specs.Views.{ReachedTablesFit, ReachedViewsFit};
+ghost use Rattle.hy_lawful.specs.Views.{ReachedKeysStay, ReachedSeenFit, ReachedTablesFit, ReachedViewsFit};
 ghost use Rattle.hy_lawful.specs.Rows.{ReachedEntriesStand, ReachedRowsMeetDemands};
 
 /// What a transaction did until it ended is what its answered statements come to over the tables of its start, each
@@ -70,4 +70,15 @@ pub fn reached_rows_meet_demands()
 /// Each entry fits the tables that stand before it, and what it says of a position begins from the cell that stands there.
 pub fn reached_entries_stand()
     ensures { ReachedEntriesStand }
+{}
+
+/// So does what such a transaction saw when it had written less: what ROLLBACK TO writes back fits.
+pub fn reached_savepoints_fit()
+    ensures { ReachedSeenFit }
+{}
+
+/// Where an open transaction has written a row at a position that had a row at its start, the two have the same key, also in what
+/// was its own when it had written less: an UPDATE sets no key, and an INSERT comes where no row stands.
+pub fn reached_keys_stay()
+    ensures { ReachedKeysStay }
 {}

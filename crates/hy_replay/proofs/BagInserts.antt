@@ -87,7 +87,12 @@ inserted_steps setting tables own number table row None first alike h within e =
     let found = duplicate_if (has_key_at setting (over tables own) table row) (record { own = own; reply = reply.Duplicate; records = logged }) first e in
     let told = insert_given true table row (rows_of (over tables own)) setting.shapes (sym (key_told setting (over tables own) table row h) ∙ found.0) in
     subst (Steps setting tables own number (Insert table row)) found.1
-    (record { alike = alike; means = same_means setting.shapes (Insert table row) (over tables own) reply.Duplicate told; logs = refl })
+    (record {
+      alike = alike;
+      adds = record { writes = []; is = refl };
+      means = same_means setting.shapes (Insert table row) (over tables own) reply.Duplicate told;
+      logs = refl;
+    })
 inserted_steps setting tables own number table row (Some pos) first alike h within e =
     let logged : List Record = records_of setting.shapes number (Insert table row) [] in
     let write : Write = record { table = table; pos = pos; cell = Some row } in
@@ -100,6 +105,7 @@ inserted_steps setting tables own number table row (Some pos) first alike h with
     subst (Steps setting tables own number (Insert table row)) placed.is
     (record {
       alike = write_alike tables own write alike;
+      adds = record { writes = write ∷ []; is = refl };
       means = replaced setting.shapes (Insert table row) view (over tables (with_write own write)) reply.Inserted table
           (set (get_or view table []) pos (Some row)) (sorted (rows_in (rows_of view) table ++ row ∷ [])) told
           (row_comes (capacity setting) view table pos row h within free) (over_write tables own write alike);

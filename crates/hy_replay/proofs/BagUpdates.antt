@@ -92,6 +92,7 @@ changed_steps setting tables own number statement kind first (Ok writes) alike g
     (same_Some (record { own = with_writes own writes; reply = told_by kind (length writes); records = records_of setting.shapes number statement [] }) first e)
     (record {
       alike = writes_alike tables own writes alike;
+      adds = record { writes = writes; is = refl };
       means = m writes refl;
       logs = ap (records_of setting.shapes number statement) (sym g);
     })

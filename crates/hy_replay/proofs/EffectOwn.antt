@@ -7,10 +7,9 @@ use Rattle.hy_bound.specs.Records.{shape_of}
 use Rattle.hy_machine.specs.declared.Setting.{Setting}
 use Rattle.hy_machine.specs.Positions.{item_at}
 use Rattle.hy_machine.specs.Tables.{Cell, Own, capacity}
-use Rattle.hy_machine.specs.Writes.{blank_own}
 use Rattle.hy_replay.specs.EffectUnseen.{AreOwn, RunsLeaveOwn}
-use Rattle.hy_replay.proofs.Cells.{HasWidth, OwnWidth, FitsOwn, blank_fits}
-use Rattle.hy_replay.proofs.Runs.{run_fits}
+use Rattle.hy_replay.proofs.Cells.{HasWidth, OwnWidth, FitsOwn}
+use Rattle.hy_replay.proofs.Runs.{own_fits}
 
 -- what holds of each element by its number holds of each
 each_of : {X : Type 0} (P : X → Type 0) (d : X) (xs : List X) → ((i : ℕ) → i < length xs → P (get_or xs i d)) → AllByRecursion P xs
@@ -36,4 +35,4 @@ are_own setting own fits = record {
 
 pub runs_leave_own : RunsLeaveOwn
 runs_leave_own setting tables statements took given stand are wide e =
-    are_own setting given.own (run_fits setting tables (blank_own setting) 1 statements took given stand are wide (blank_fits setting) e)
+    are_own setting given.own (own_fits setting tables statements took given stand are wide e)

@@ -58,10 +58,6 @@ writes_apart own (write ∷ writes) table pos h =
     writes_apart (with_write own write) writes table pos h.1
     ∙ write_apart own write.table write.pos write.cell table pos (λ e. absurd (omega (arith, h.0, e)))
 
-pub writes_joined : (own : Own) (writes others : List Write) → with_writes own (writes ++ others) ≡ with_writes (with_writes own writes) others
-writes_joined own [] others = refl
-writes_joined own (write ∷ writes) others = writes_joined (with_write own write) writes others
-
 -- ---- positions and those behind them
 
 pub range_joined : (first many more : ℕ) → range_with_len first (many + more) ≡ range_with_len first many ++ range_with_len (first + many) more

@@ -18,7 +18,8 @@ use Rattle.hy_machine.specs.Visits.{verdict, sweep}
 use Rattle.hy_replay.specs.Ran.{changed_by, writes_at}
 use Rattle.hy_replay.specs.EffectUnseen.{change_of}
 use Rattle.hy_replay.specs.EffectVisits.{Visited, visited_by, visit, then_visit, by_chunks, answered_by, VisitsAddUp, ChunksAddUp, ChangesByChunks}
-use Rattle.hy_replay.proofs.EffectSweeps.{alike_over, writes_apart, writes_joined, range_joined, both_written, sweep_joined}
+use Rattle.hy_machine.specs.OwnCells.{writes_joined}
+use Rattle.hy_replay.proofs.EffectSweeps.{alike_over, writes_apart, range_joined, both_written, sweep_joined}
 use Rattle.hy_replay.proofs.EffectSweeps.{sweep_alike, AreBelow, sweep_below}
 
 -- what stands so after writes

@@ -7,9 +7,10 @@ pub mod Selects
 pub mod Sweeps
 pub mod Writes
 pub mod Inserts
+pub mod OverCells
+pub mod TakenBack
 pub mod Statements
 pub mod Runs
-pub mod OverCells
 pub mod Presents
 pub mod BagSweeps
 pub mod BagMeanings

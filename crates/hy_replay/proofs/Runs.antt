@@ -1,5 +1,5 @@
 -- Statements one after another over tables that differ unseen come to the same, and leave rows of their tables' widths.
-use Rattle.std.proofs.Common.{◌≡◌, ℕ, zero, suc, ◌≤◌, inl, inr, List, [], ◌∷◌, ◌++◌, Option, None, Some, length, refl, ap, sym, ◌∙◌, subst, arith}
+use Rattle.std.proofs.Common.{◌≡◌, ℕ, zero, suc, ◌≤◌, ◌⊎◌, inl, inr, List, [], ◌∷◌, ◌++◌, Option, None, Some, length, refl, ap, sym, ◌∙◌, subst, arith}
 use Rattle.std.specs.List.{All}
 use Rattle.std.specs.Option.{option_and_then, option_map}
 use Rattle.std.proofs.lemmas.Bool.{cases_lt}
@@ -11,18 +11,22 @@ use Rattle.hy_bound.specs.declared.Shape.{Shape}
 use Rattle.hy_bound.specs.Agreement.{HasItsKey}
 use Rattle.hy_bound.specs.Fits.{FitsShape, FitsStatement}
 use Rattle.hy_bound.specs.Records.{no_shape, shape_of}
+use Rattle.hy_bound.specs.Savepoints.{Saved, saved_after, value_after}
+use Rattle.hy_bound.specs.SavedRelations.{AllKeep, alike_same, saved_after_alike, value_after_alike}
 use Rattle.hy_machine.specs.declared.Setting.{Setting}
 use Rattle.hy_machine.specs.Positions.{item_at}
 use Rattle.hy_machine.specs.Tables.{Tables, Own, capacity}
 use Rattle.hy_machine.specs.Writes.{blank_own}
 use Rattle.hy_replay.specs.Laws.{AreTables, HaveWidths, DifferUnseen, RunsAgain, RunsKeepWidths}
-use Rattle.hy_replay.specs.Ran.{One, one, Ran, after_one, ran_from}
+use Rattle.hy_replay.specs.Ran.{One, one, taken_back, Ran, after_one, ran_from, ran}
+use Rattle.hy_replay.specs.TakenBack.{Grows, back_again, back_grows}
 use Rattle.hy_replay.proofs.Cells.{FitsOwn, writes_fit, writes_grow, blank_fits, over_widths}
 use Rattle.hy_replay.proofs.Changes.{ShapesFit}
 use Rattle.hy_replay.proofs.Selects.{KeepsRecords, KeepsReplies}
 use Rattle.hy_replay.proofs.Views.{BothFit}
 use Rattle.hy_replay.proofs.Hits.{front_missed, others_missed}
 use Rattle.hy_replay.proofs.Statements.{one_leaves, one_again}
+use Rattle.hy_replay.proofs.TakenBack.{back_fits}
 use Rattle.hy_replay.proofs.Writes.{LeavesWrites}
 use Rattle.hy_replay.proofs.Truths.{SelectsByRead}
 
@@ -48,28 +52,24 @@ all_rest P x xs h k d below = h (suc k) d (omega arith)
 -- ---- a statement and those behind it
 
 -- what a run came to, by its first statement and the others
-record Parts (first : Option One) (others : Own → Option Ran) (given : Ran) : Type 0 where
-  one : One
-  rest : Ran
-  first_is : first ≡ Some one
-  rest_is : others one.own ≡ Some rest
-  is : after_one one rest ≡ given
+pub record Parts (first : Option One) (others : One → Option Ran) (given : Ran) : Type 0 where
+  pub one : One
+  pub rest : Ran
+  pub first_is : first ≡ Some one
+  pub rest_is : others one ≡ Some rest
+  pub is : after_one one rest ≡ given
 
 mapped : (one : One) (others : Option Ran) (given : Ran) → option_map (after_one one) others ≡ Some given
     → (rest : Ran) × ((others ≡ Some rest) × (after_one one rest ≡ given))
 mapped one None given e = absurd cc
 mapped one (Some rest) given e = (rest, (refl, same_Some (after_one one rest) given e))
 
-parts_of : (first : Option One) (others : Own → Option Ran) (given : Ran)
-    → option_and_then (λ (first : One). option_map (after_one first) (others first.own)) first ≡ Some given → Parts first others given
+pub parts_of : (first : Option One) (others : One → Option Ran) (given : Ran)
+    → option_and_then (λ (first : One). option_map (after_one first) (others first)) first ≡ Some given → Parts first others given
 parts_of None others given e = absurd cc
 parts_of (Some one) others given e =
-    let parts = mapped one (others one.own) given e in
+    let parts = mapped one (others one) given e in
     record { one = one; rest = parts.0; first_is = refl; rest_is = parts.1.0; is = parts.1.1 }
-
--- what is not one's own at the end never was
-abbrev Grows : Own → Own → Type 0
-Grows own later = (table pos : ℕ) → item_at later table pos ≡ None → item_at own table pos ≡ None
 
 leaves_fit : (setting : Setting) (own : Own) (given : One) → FitsOwn setting own → LeavesWrites setting own given → FitsOwn setting given.own
 leaves_fit setting own given fits leaves = subst (FitsOwn setting) (sym leaves.is) (writes_fit setting own leaves.writes fits leaves.fit)
@@ -79,20 +79,61 @@ leaves_grow setting own given fits leaves table pos e =
     writes_grow own leaves.writes (length setting.first) (capacity setting) table pos fits.shape
     (ap (λ (own : Own). item_at own table pos) (sym leaves.is) ∙ e)
 
-run_grows : (setting : Setting) (tables : Tables) (own : Own) (number : ℕ) (statements : List Bound) (took : List (Option ℕ)) (given : Ran)
-    → All (FitsStatement setting.shapes) statements → AreTables setting tables → HaveWidths setting.shapes tables → FitsOwn setting own
-    → ran_from setting tables own number statements took ≡ Some given → Grows own given.own
-run_grows setting tables own number [] took given stand are wide fits e table pos n =
-    ap (λ (given : Ran). item_at given.own table pos) (same_Some (record { own = own; replies = []; records = [] }) given e) ∙ n
-run_grows setting tables own number (statement ∷ statements) [] given stand are wide fits e table pos n = absurd cc
-run_grows setting tables own number (statement ∷ statements) (at ∷ took) given stand are wide fits e table pos n =
-    let parts = parts_of (one setting tables own number statement at) (λ later. ran_from setting tables later (suc number) statements took) given e in
-    let leaves : LeavesWrites setting own parts.one = one_leaves setting tables own number statement at parts.one are wide fits
-    (all_first (FitsStatement setting.shapes) statement statements stand) parts.first_is in
-    leaves_grow setting own parts.one fits leaves table pos
-    (run_grows setting tables parts.one.own (suc number) statements took parts.rest
-    (all_rest (FitsStatement setting.shapes) statement statements stand) are wide (leaves_fit setting own parts.one fits leaves) parts.rest_is table pos
-    (ap (λ (given : Ran). item_at given.own table pos) parts.is ∙ n))
+-- own writes fit, and so does what savepoints keep
+record FitsRun (setting : Setting) (own : Own) (saved : List (Saved Own)) : Type 0 where
+  own_fits : FitsOwn setting own
+  kept_fit : AllKeep (FitsOwn setting) saved
+
+-- the own writes and the savepoints that the statements behind a statement begin with
+abbrev pub own_then : Tables → List (Saved Own) → Bound → One → Own
+own_then tables saved statement first = value_after (taken_back tables) statement saved first.own
+
+abbrev pub saved_then : List (Saved Own) → Bound → One → List (Saved Own)
+saved_then saved statement first = saved_after statement saved first.own
+
+-- the statements behind the first
+abbrev pub behind : Setting → Tables → List (Saved Own) → ℕ → Bound → List Bound → List (Option ℕ) → One → Option Ran
+behind setting tables saved number statement statements took first =
+    ran_from setting tables (own_then tables saved statement first) (saved_then saved statement first) (suc number) statements took
+
+-- what a statement leaves of a run that fits
+record Leaves (setting : Setting) (tables : Tables) (own : Own) (saved : List (Saved Own)) (statement : Bound) (first : One) : Type 0 where
+  grows : Grows own first.own
+  grows_then : Grows first.own (own_then tables saved statement first)
+  fits_then : FitsRun setting (own_then tables saved statement first) (saved_then saved statement first)
+
+statement_leaves : (setting : Setting) (tables : Tables) (own : Own) (saved : List (Saved Own)) (number : ℕ) (statement : Bound) (at : Option ℕ) (first : One)
+    → FitsStatement setting.shapes statement → AreTables setting tables → HaveWidths setting.shapes tables → FitsRun setting own saved
+    → one setting tables own number statement at ≡ Some first → Leaves setting tables own saved statement first
+statement_leaves setting tables own saved number statement at first stands are wide fits e =
+    let leaves : LeavesWrites setting own first = one_leaves setting tables own number statement at first are wide fits.own_fits stands e in
+    let left : FitsOwn setting first.own = leaves_fit setting own first fits.own_fits leaves in
+    record {
+      grows = leaves_grow setting own first fits.own_fits leaves;
+      grows_then = value_after_alike (λ was same. FitsOwn setting was) (λ later same. Grows first.own later) (taken_back tables) (taken_back tables)
+          statement saved saved first.own first.own fits.kept_fit (λ table pos none. none) (λ was same kept. back_grows tables was first.own);
+      fits_then = record {
+        own_fits = value_after_alike (λ was same. FitsOwn setting was) (λ later same. FitsOwn setting later) (taken_back tables) (taken_back tables)
+            statement saved saved first.own first.own fits.kept_fit left (λ was same kept. back_fits setting tables was first.own are wide kept left);
+        kept_fit = saved_after_alike (λ was same. FitsOwn setting was) statement saved saved first.own first.own fits.kept_fit left;
+      };
+    }
+
+run_grows : (setting : Setting) (tables : Tables) (own : Own) (saved : List (Saved Own)) (number : ℕ) (statements : List Bound)
+    (took : List (Option ℕ)) (given : Ran)
+    → All (FitsStatement setting.shapes) statements → AreTables setting tables → HaveWidths setting.shapes tables → FitsRun setting own saved
+    → ran_from setting tables own saved number statements took ≡ Some given → Grows own given.own
+run_grows setting tables own saved number [] took given stand are wide fits e table pos n =
+    ap (λ (given : Ran). item_at given.own table pos) (same_Some (record { own = own; saved = saved; replies = []; records = [] }) given e) ∙ n
+run_grows setting tables own saved number (statement ∷ statements) [] given stand are wide fits e table pos n = absurd cc
+run_grows setting tables own saved number (statement ∷ statements) (at ∷ took) given stand are wide fits e table pos n =
+    let parts = parts_of (one setting tables own number statement at) (behind setting tables saved number statement statements took) given e in
+    let leaves = statement_leaves setting tables own saved number statement at parts.one
+    (all_first (FitsStatement setting.shapes) statement statements stand) are wide fits parts.first_is in
+    leaves.grows table pos (leaves.grows_then table pos
+    (run_grows setting tables (own_then tables saved statement parts.one) (saved_then saved statement parts.one) (suc number) statements took parts.rest
+    (all_rest (FitsStatement setting.shapes) statement statements stand) are wide leaves.fits_then parts.rest_is table pos
+    (ap (λ (given : Ran). item_at given.own table pos) parts.is ∙ n)))
 
 -- ---- tables that differ unseen
 
@@ -118,55 +159,85 @@ unseen_rest tables others later records more unseen table pos = elim (unseen tab
   })
 ]
 
+-- and what is own then is the same over both
+then_again : (tables others : Tables) (own : Own) (saved : List (Saved Own)) (statement : Bound) (records : List Record)
+    → DifferUnseen tables others own records
+    → value_after (taken_back tables) statement saved own ≡ value_after (taken_back others) statement saved own
+then_again tables others own saved statement records unseen =
+    value_after_alike (λ was same. was ≡ same) (λ later same. later ≡ same) (taken_back tables) (taken_back others) statement saved saved own own
+    (alike_same saved) refl (λ was same e. ap (λ (one : Own). taken_back tables one own) e ∙ back_again tables others same own at_each)
+  where
+    at_each : (table pos : ℕ) → (item_at tables table pos ≡ item_at others table pos) ⊎ (item_at own table pos ≡ None)
+    at_each table pos = elim (unseen table pos) [
+      | inl same ↦ inl same
+      | inr apart ↦ inr apart.apart
+    ]
+
 run_again : KeepsRecords → KeepsReplies → SelectsByRead
-    → (setting : Setting) (tables others : Tables) (own : Own) (number : ℕ) (statements : List Bound) (took : List (Option ℕ)) (given : Ran)
-    → BothFit setting tables others → All (FitsStatement setting.shapes) statements → FitsOwn setting own
-    → ran_from setting tables own number statements took ≡ Some given → DifferUnseen tables others given.own given.records
-    → ran_from setting others own number statements took ≡ Some given
-run_again keeps replies selects setting tables others own number [] took given fit stand fits e unseen = e
-run_again keeps replies selects setting tables others own number (statement ∷ statements) [] given fit stand fits e unseen = e
-run_again keeps replies selects setting tables others own number (statement ∷ statements) (at ∷ took) given fit stand fits e unseen =
-    let parts = parts_of (one setting tables own number statement at) (λ later. ran_from setting tables later (suc number) statements took) given e in
-    let stands : FitsStatement setting.shapes statement = all_first (FitsStatement setting.shapes) statement statements stand in
-    let behind : All (FitsStatement setting.shapes) statements = all_rest (FitsStatement setting.shapes) statement statements stand in
-    let later : FitsOwn setting parts.one.own =
-    leaves_fit setting own parts.one fits (one_leaves setting tables own number statement at parts.one fit.are fit.wide fits stands parts.first_is) in
+    → (setting : Setting) (tables others : Tables) (own : Own) (saved : List (Saved Own)) (number : ℕ) (statements : List Bound)
+    (took : List (Option ℕ)) (given : Ran)
+    → BothFit setting tables others → All (FitsStatement setting.shapes) statements → FitsRun setting own saved
+    → ran_from setting tables own saved number statements took ≡ Some given → DifferUnseen tables others given.own given.records
+    → ran_from setting others own saved number statements took ≡ Some given
+run_again keeps replies selects setting tables others own saved number [] took given fit stand fits e unseen = e
+run_again keeps replies selects setting tables others own saved number (statement ∷ statements) [] given fit stand fits e unseen = e
+run_again keeps replies selects setting tables others own saved number (statement ∷ statements) (at ∷ took) given fit stand fits e unseen =
+    let parts = parts_of (one setting tables own number statement at) (behind setting tables saved number statement statements took) given e in
+    let more : All (FitsStatement setting.shapes) statements = all_rest (FitsStatement setting.shapes) statement statements stand in
+    let leaves = statement_leaves setting tables own saved number statement at parts.one
+    (all_first (FitsStatement setting.shapes) statement statements stand) fit.are fit.wide fits parts.first_is in
+    let now : Own = own_then tables saved statement parts.one in
+    let kept : List (Saved Own) = saved_then saved statement parts.one in
     let differ : DifferUnseen tables others parts.rest.own (parts.one.records ++ parts.rest.records) =
     subst (λ (given : Ran). DifferUnseen tables others given.own given.records) (sym parts.is) unseen in
-    let grows : Grows parts.one.own parts.rest.own =
-    run_grows setting tables parts.one.own (suc number) statements took parts.rest behind fit.are fit.wide later parts.rest_is in
+    let grows : Grows now parts.rest.own =
+    run_grows setting tables now kept (suc number) statements took parts.rest more fit.are fit.wide leaves.fits_then parts.rest_is in
+    let here : DifferUnseen tables others parts.one.own parts.one.records =
+    unseen_first tables others parts.one.own parts.rest.own parts.one.records parts.rest.records
+    (λ table pos none. leaves.grows_then table pos (grows table pos none)) differ in
     let first : one setting others own number statement at ≡ Some parts.one =
-    one_again keeps replies selects setting tables others own number statement at parts.one fit fits parts.first_is
-    (unseen_first tables others parts.one.own parts.rest.own parts.one.records parts.rest.records grows differ) in
-    let rest : ran_from setting others parts.one.own (suc number) statements took ≡ Some parts.rest =
-    run_again keeps replies selects setting tables others parts.one.own (suc number) statements took parts.rest fit behind later
+    one_again keeps replies selects setting tables others own number statement at parts.one fit fits.own_fits parts.first_is here in
+    let rest : ran_from setting others now kept (suc number) statements took ≡ Some parts.rest =
+    run_again keeps replies selects setting tables others now kept (suc number) statements took parts.rest fit more leaves.fits_then
     parts.rest_is (unseen_rest tables others parts.rest.own parts.one.records parts.rest.records differ) in
-    ap (option_and_then (λ (one : One). option_map (after_one one) (ran_from setting others one.own (suc number) statements took))) first
-    ∙ (ap (option_map (after_one parts.one)) rest ∙ ap Some parts.is)
+    ap (option_and_then (λ (one : One). option_map (after_one one) (behind setting others saved number statement statements took one))) first
+    ∙ (ap (λ (own : Own). option_map (after_one parts.one) (ran_from setting others own kept (suc number) statements took))
+    (sym (then_again tables others parts.one.own saved statement parts.one.records here))
+    ∙ (ap (option_map (after_one parts.one)) rest ∙ ap Some parts.is))
+
+start_fits : (setting : Setting) → FitsRun setting (blank_own setting) []
+start_fits setting = record { own_fits = blank_fits setting; kept_fit = tt }
 
 pub runs_again : KeepsRecords → KeepsReplies → SelectsByRead → RunsAgain
 runs_again keeps replies selects setting tables others statements took given shapes stand are also wide wide_too e unseen =
     let fit : BothFit setting tables others =
     record { shapes = shapes_fit setting.shapes shapes; are = are; others_are = also; wide = wide; others_wide = wide_too } in
-    run_again keeps replies selects setting tables others (blank_own setting) 1 statements took given fit stand (blank_fits setting) e unseen
+    run_again keeps replies selects setting tables others (blank_own setting) [] 1 statements took given fit stand (start_fits setting) e unseen
 
 -- ---- widths
 
-pub run_fits : (setting : Setting) (tables : Tables) (own : Own) (number : ℕ) (statements : List Bound) (took : List (Option ℕ)) (given : Ran)
-    → All (FitsStatement setting.shapes) statements → AreTables setting tables → HaveWidths setting.shapes tables → FitsOwn setting own
-    → ran_from setting tables own number statements took ≡ Some given → FitsOwn setting given.own
-run_fits setting tables own number [] took given stand are wide fits e =
-    subst (λ (given : Ran). FitsOwn setting given.own) (same_Some (record { own = own; replies = []; records = [] }) given e) fits
-run_fits setting tables own number (statement ∷ statements) [] given stand are wide fits e = absurd cc
-run_fits setting tables own number (statement ∷ statements) (at ∷ took) given stand are wide fits e =
-    let parts = parts_of (one setting tables own number statement at) (λ later. ran_from setting tables later (suc number) statements took) given e in
-    let leaves : LeavesWrites setting own parts.one = one_leaves setting tables own number statement at parts.one are wide fits
-    (all_first (FitsStatement setting.shapes) statement statements stand) parts.first_is in
+run_fits : (setting : Setting) (tables : Tables) (own : Own) (saved : List (Saved Own)) (number : ℕ) (statements : List Bound)
+    (took : List (Option ℕ)) (given : Ran)
+    → All (FitsStatement setting.shapes) statements → AreTables setting tables → HaveWidths setting.shapes tables → FitsRun setting own saved
+    → ran_from setting tables own saved number statements took ≡ Some given → FitsOwn setting given.own
+run_fits setting tables own saved number [] took given stand are wide fits e =
+    subst (λ (given : Ran). FitsOwn setting given.own) (same_Some (record { own = own; saved = saved; replies = []; records = [] }) given e) fits.own_fits
+run_fits setting tables own saved number (statement ∷ statements) [] given stand are wide fits e = absurd cc
+run_fits setting tables own saved number (statement ∷ statements) (at ∷ took) given stand are wide fits e =
+    let parts = parts_of (one setting tables own number statement at) (behind setting tables saved number statement statements took) given e in
+    let leaves = statement_leaves setting tables own saved number statement at parts.one
+    (all_first (FitsStatement setting.shapes) statement statements stand) are wide fits parts.first_is in
     subst (λ (given : Ran). FitsOwn setting given.own) parts.is
-    (run_fits setting tables parts.one.own (suc number) statements took parts.rest
-    (all_rest (FitsStatement setting.shapes) statement statements stand) are wide (leaves_fit setting own parts.one fits leaves) parts.rest_is)
+    (run_fits setting tables (own_then tables saved statement parts.one) (saved_then saved statement parts.one) (suc number) statements took parts.rest
+    (all_rest (FitsStatement setting.shapes) statement statements stand) are wide leaves.fits_then parts.rest_is)
+
+-- what a transaction's statements write fits
+pub own_fits : (setting : Setting) (tables : Tables) (statements : List Bound) (took : List (Option ℕ)) (given : Ran)
+    → All (FitsStatement setting.shapes) statements → AreTables setting tables → HaveWidths setting.shapes tables
+    → ran setting tables statements took ≡ Some given → FitsOwn setting given.own
+own_fits setting tables statements took given stand are wide e =
+    run_fits setting tables (blank_own setting) [] 1 statements took given stand are wide (start_fits setting) e
 
 pub runs_keep_widths : RunsKeepWidths
 runs_keep_widths setting tables statements took given stand are wide e =
-    over_widths setting tables given.own are wide
-    (run_fits setting tables (blank_own setting) 1 statements took given stand are wide (blank_fits setting) e)
+    over_widths setting tables given.own are wide (own_fits setting tables statements took given stand are wide e)

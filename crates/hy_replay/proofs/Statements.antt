@@ -2,7 +2,7 @@
 use Rattle.std.proofs.Common.{◌≡◌, ℕ, List, [], Option, Some, map, ap, sym, ◌∙◌, subst}
 use Rattle.std.proofs.lemmas.Option.{same_Some}
 use Rattle.hy_bound.specs.declared.Bound.{Bound}
-use Rattle.hy_bound.specs.declared.Bound.TheVariants.{Select, Group, Insert, Update, Delete}
+use Rattle.hy_bound.specs.declared.Bound.TheVariants.{Select, Group, Insert, Update, Delete, Savepoint, RollbackTo, Release}
 use Rattle.hy_bound.specs.declared.Record.{Record}
 use Rattle.hy_bound.specs.declared.Reply.{Reply}
 use Rattle.hy_bound.specs.declared.WriteKind.TheVariants as kind
@@ -36,6 +36,12 @@ one_leaves setting tables own number (Update table sets pred) at given are wide 
     changed_leaves setting tables own (kind.Set sets) pred table (records_of setting.shapes number (Update table sets pred) []) given are wide fits e
 one_leaves setting tables own number (Delete table pred) at given are wide fits stands e =
     changed_leaves setting tables own kind.Delete pred table (records_of setting.shapes number (Delete table pred) []) given are wide fits e
+one_leaves setting tables own number (Savepoint name) at given are wide fits stands e =
+    record { writes = []; is = ap (λ (one : One). one.own) (sym (same_Some _ given e)); fit = tt }
+one_leaves setting tables own number (RollbackTo name) at given are wide fits stands e =
+    record { writes = []; is = ap (λ (one : One). one.own) (sym (same_Some _ given e)); fit = tt }
+one_leaves setting tables own number (Release name) at given are wide fits stands e =
+    record { writes = []; is = ap (λ (one : One). one.own) (sym (same_Some _ given e)); fit = tt }
 
 -- over tables that differ unseen a statement comes to the same
 pub one_again : KeepsRecords → KeepsReplies → SelectsByRead
@@ -69,3 +75,6 @@ one_again keeps replies selects setting tables others own number (Update table s
     changed_again selects setting tables others own (kind.Set sets) number table sets pred given fit fits e unseen
 one_again keeps replies selects setting tables others own number (Delete table pred) at given fit fits e unseen =
     changed_again selects setting tables others own kind.Delete number table [] pred given fit fits e unseen
+one_again keeps replies selects setting tables others own number (Savepoint name) at given fit fits e unseen = e
+one_again keeps replies selects setting tables others own number (RollbackTo name) at given fit fits e unseen = e
+one_again keeps replies selects setting tables others own number (Release name) at given fit fits e unseen = e

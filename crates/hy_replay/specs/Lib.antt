@@ -1,4 +1,5 @@
 pub mod Ran
+pub mod TakenBack
 pub mod Laws
 pub mod BagLaws
 pub mod EffectUnseen

@@ -1,11 +1,12 @@
 -- A statement, and the statements of a transaction, over tables of positions with own writes laid over them: what an
--- engine makes of them where nobody is in the way, each INSERT at the position that it took.
-use Rattle.std.specs.Prelude.{ℕ, suc, List, [], ◌∷◌, ◌++◌, Bool, not, ◌&&◌, Option, None, Some, is_some, Result, Ok, Err, length, map, if◌then◌else◌, option_and_then}
+-- engine makes of them where nobody is in the way, each INSERT at the position that it took, and savepoints.
+use Rattle.std.specs.Prelude.{ℕ, suc, List, [], ◌∷◌, ◌++◌, Bool, not, ◌&&◌, Option, None, Some, is_some, Result, Ok, Err, length, map}
+use Rattle.std.specs.Prelude.{if◌then◌else◌, option_and_then}
 use Rattle.std.specs.List.{list_any, range_with_len}
 use Rattle.std.specs.Option.{option_map}
 use Rattle.hy_value.specs.declared.Value.{Value}
 use Rattle.hy_bound.specs.declared.Bound.{Bound}
-use Rattle.hy_bound.specs.declared.Bound.TheVariants.{Select, Group, Insert, Update, Delete}
+use Rattle.hy_bound.specs.declared.Bound.TheVariants.{Select, Group, Insert, Update, Delete, Savepoint, RollbackTo, Release}
 use Rattle.hy_bound.specs.declared.WriteKind.{WriteKind}
 use Rattle.hy_bound.specs.declared.WriteKind.TheVariants as kind
 use Rattle.hy_bound.specs.declared.Record.{Record}
@@ -13,13 +14,14 @@ use Rattle.hy_bound.specs.declared.Reply.{Reply}
 use Rattle.hy_bound.specs.declared.Reply.TheVariants as reply
 use Rattle.hy_bound.specs.Condition.{Condition}
 use Rattle.hy_bound.specs.Records.{shape_of}
+use Rattle.hy_bound.specs.Savepoints.{Saved, saved_after, value_after}
 use Rattle.hy_plan.specs.Reads.{records_of}
 use Rattle.hy_meaning.specs.Statement.{answer_of, grouped}
 use Rattle.hy_bound.specs.declared.Ending.{Ending}
 use Rattle.hy_machine.specs.declared.Setting.{Setting}
 use Rattle.hy_machine.specs.Writes.{Write, blank_own, with_write, with_writes}
 use Rattle.hy_machine.specs.Positions.{item_at}
-use Rattle.hy_machine.specs.Tables.{Tables, Own, capacity, over}
+use Rattle.hy_machine.specs.Tables.{Cell, Tables, Own, capacity, over}
 use Rattle.hy_machine.specs.Visits.{verdict, sweep, has_key_in}
 use Rattle.hy_protocol.specs.Statements.{told_by}
 use Rattle.hy_machine.specs.Turns.{rows_seen}
@@ -79,25 +81,54 @@ one setting tables own number (Update table sets pred) at =
 one setting tables own number (Delete table pred) at =
     changed_by own kind.Delete (records_of setting.shapes number (Delete table pred) [])
     (writes_at kind.Delete pred (over tables own) table (range_with_len 0 (capacity setting)))
+one setting tables own number (Savepoint name) at = Some (record { own = own; reply = reply.Saved; records = [] })
+one setting tables own number (RollbackTo name) at = Some (record { own = own; reply = reply.Back; records = [] })
+one setting tables own number (Release name) at = Some (record { own = own; reply = reply.Released; records = [] })
 
--- what statements leave: the own writes, the replies, the records
+-- what is own at a position after going back: nothing where nothing was; else what was own there then, or the cell of the
+-- tables: what was written stays one's own when it is taken back
+abbrev pub back_cell : Cell → Option Cell → Option Cell → Option Cell
+back_cell cell was None = None
+back_cell cell (Some kept) (Some now) = Some kept
+back_cell cell None (Some now) = Some cell
+
+-- the same at the positions of a table, the first of them having this number
+abbrev pub back_cells : (ℕ → Cell) → (ℕ → Option Cell) → ℕ → List (Option Cell) → List (Option Cell)
+back_cells cell was pos [] = []
+back_cells cell was pos (now ∷ own) = back_cell (cell pos) (was pos) now ∷ back_cells cell was (suc pos) own
+
+-- the same in all tables, the first of them having this number
+abbrev pub back_tables : Tables → Own → ℕ → Own → Own
+back_tables tables was table [] = []
+back_tables tables was table (cells ∷ own) =
+    back_cells (item_at tables table) (item_at was table) 0 cells ∷ back_tables tables was (suc table) own
+
+-- own writes after going back to what was own then, over the tables of the start
+abbrev pub taken_back : Tables → Own → Own → Own
+taken_back tables was own = back_tables tables was 0 own
+
+-- what statements leave: the own writes, the savepoints that are open, the replies, the records
 pub record Ran : Type 0 where
   pub own : Own
+  pub saved : List (Saved Own)
   pub replies : List Reply
   pub records : List Record
 
 -- a statement's reply and records before those of the statements behind it
 abbrev pub after_one : One → Ran → Ran
-after_one first rest = record { own = rest.own; replies = first.reply ∷ rest.replies; records = first.records ++ rest.records }
+after_one first rest =
+    record { own = rest.own; saved = rest.saved; replies = first.reply ∷ rest.replies; records = first.records ++ rest.records }
 
--- statements over tables and own writes, the first of them having this number, each with the position that it took
-abbrev pub ran_from : Setting → Tables → Own → ℕ → List Bound → List (Option ℕ) → Option Ran
-ran_from setting tables own number [] took = Some (record { own = own; replies = []; records = [] })
-ran_from setting tables own number (statement ∷ statements) [] = None
-ran_from setting tables own number (statement ∷ statements) (at ∷ took) =
-    option_and_then (λ (first : One). option_map (after_one first) (ran_from setting tables first.own (suc number) statements took))
+-- statements over tables and own writes, with these savepoints open, the first statement having this number, each with the
+-- position that it took
+abbrev pub ran_from : Setting → Tables → Own → List (Saved Own) → ℕ → List Bound → List (Option ℕ) → Option Ran
+ran_from setting tables own saved number [] took = Some (record { own = own; saved = saved; replies = []; records = [] })
+ran_from setting tables own saved number (statement ∷ statements) [] = None
+ran_from setting tables own saved number (statement ∷ statements) (at ∷ took) =
+    option_and_then (λ (first : One). option_map (after_one first) (ran_from setting tables
+    (value_after (taken_back tables) statement saved first.own) (saved_after statement saved first.own) (suc number) statements took))
     (one setting tables own number statement at)
 
 -- the statements of a transaction over the tables of its start
 abbrev pub ran : Setting → Tables → List Bound → List (Option ℕ) → Option Ran
-ran setting tables statements took = ran_from setting tables (blank_own setting) 1 statements took
+ran setting tables statements took = ran_from setting tables (blank_own setting) [] 1 statements took

@@ -4,7 +4,7 @@ use Rattle.std.specs.Prelude.{slice_get, ◌||◌}
 use Rattle.std.specs.List.{list_any}
 use Rattle.std.proofs.lemmas.Option.{slice_get_past}
 use Rattle.hy_bound.specs.declared.Bound.{Bound}
-use Rattle.hy_bound.specs.declared.Bound.TheVariants.{Select, Group, Insert, Update, Delete}
+use Rattle.hy_bound.specs.declared.Bound.TheVariants.{Select, Group, Insert, Update, Delete, Savepoint, RollbackTo, Release}
 use Rattle.hy_bound.specs.declared.Txn.{Txn}
 use Rattle.hy_bound.specs.declared.Ending.{Ending}
 use Rattle.hy_bound.specs.declared.Ending.TheVariants.{Committed, Read, RolledBack, Conflict, Invalid, Range, Full}
@@ -31,6 +31,9 @@ updates_changes table (Group of pred key aggregate) e = refl
 updates_changes table (Insert of row) e = absurd cc
 updates_changes table (Update of sets pred) e = absurd cc
 updates_changes table (Delete of pred) e = absurd cc
+updates_changes table (Savepoint name) e = refl
+updates_changes table (RollbackTo name) e = refl
+updates_changes table (Release name) e = refl
 
 changes_change : (table : ℕ) (statement : Bound) → is_change statement ≡ false → changes_rows table (Some statement) ≡ false
 changes_change table (Select tables ons pred items) e = refl
@@ -38,6 +41,9 @@ changes_change table (Group of pred key aggregate) e = refl
 changes_change table (Insert of row) e = absurd cc
 changes_change table (Update of sets pred) e = absurd cc
 changes_change table (Delete of pred) e = absurd cc
+changes_change table (Savepoint name) e = refl
+changes_change table (RollbackTo name) e = refl
+changes_change table (Release name) e = refl
 
 inserts_change : (table : ℕ) (statement : Bound) → is_change statement ≡ false → inserts table (Some statement) ≡ false
 inserts_change table (Select tables ons pred items) e = refl
@@ -45,6 +51,9 @@ inserts_change table (Group of pred key aggregate) e = refl
 inserts_change table (Insert of row) e = absurd cc
 inserts_change table (Update of sets pred) e = absurd cc
 inserts_change table (Delete of pred) e = absurd cc
+inserts_change table (Savepoint name) e = refl
+inserts_change table (RollbackTo name) e = refl
+inserts_change table (Release name) e = refl
 
 of_updates : (table : ℕ) → IsOfChanges (updates table)
 of_updates table = record { none = refl; reads = updates_changes table }

@@ -9,7 +9,7 @@ use Rattle.std.proofs.lemmas.List.Elements.{All-from_recursion, recursion_from_A
 use Rattle.std.proofs.lemmas.List.FromFn.{length-range_with_len}
 use Rattle.hy_stamp.specs.declared.Label.{Label}
 use Rattle.hy_bound.specs.declared.Bound.{Bound}
-use Rattle.hy_bound.specs.declared.Bound.TheVariants.{Select, Group, Insert, Update, Delete}
+use Rattle.hy_bound.specs.declared.Bound.TheVariants.{Select, Group, Insert, Update, Delete, Savepoint, RollbackTo, Release}
 use Rattle.hy_bound.specs.declared.Record.{Record}
 use Rattle.hy_bound.specs.declared.Shape.{Shape}
 use Rattle.hy_bound.specs.declared.Txn.{Txn}
@@ -209,6 +209,9 @@ updated_there setting table (Some (Group of pred key aggregate)) fit is = absurd
 updated_there setting table (Some (Insert of row)) fit is = absurd cc
 updated_there setting table (Some (Update of sets pred)) fit is = subst (λ (t : ℕ). t < length setting.shapes) (eqb-true of table is) fit.0
 updated_there setting table (Some (Delete of pred)) fit is = absurd cc
+updated_there setting table (Some (Savepoint name)) fit is = absurd cc
+updated_there setting table (Some (RollbackTo name)) fit is = absurd cc
+updated_there setting table (Some (Release name)) fit is = absurd cc
 
 inserted_there : (setting : Setting) (table : ℕ) (statement : Option Bound) → IfSome statement (IsFit setting) → inserts table statement ≡ true
     → table < length setting.shapes
@@ -218,6 +221,9 @@ inserted_there setting table (Some (Group of pred key aggregate)) fit is = absur
 inserted_there setting table (Some (Insert of row)) fit is = subst (λ (t : ℕ). t < length setting.shapes) (eqb-true of table is) fit.0
 inserted_there setting table (Some (Update of sets pred)) fit is = absurd cc
 inserted_there setting table (Some (Delete of pred)) fit is = absurd cc
+inserted_there setting table (Some (Savepoint name)) fit is = absurd cc
+inserted_there setting table (Some (RollbackTo name)) fit is = absurd cc
+inserted_there setting table (Some (Release name)) fit is = absurd cc
 
 -- ---- an outcome
 

@@ -5,10 +5,13 @@ use Rattle.std.specs.List.{list_any}
 use Rattle.std.specs.Option.{option_map}
 use Rattle.std.proofs.lemmas.Option.{slice_get-map}
 use Rattle.hy_bound.specs.declared.Bound.{Bound}
-use Rattle.hy_bound.specs.declared.Bound.TheVariants.{Select, Group, Insert, Update, Delete}
+use Rattle.hy_bound.specs.declared.Bound.TheVariants.{Select, Group, Insert, Update, Delete, Savepoint, RollbackTo, Release}
 use Rattle.hy_bound.specs.declared.Reply.{Reply}
+use Rattle.hy_bound.specs.declared.Reply.TheVariants as reply
+use Rattle.hy_bound.specs.Savepoints.{Saved, saved_after, value_after}
+use Rattle.hy_bound.specs.SavedRelations.{AreAlike, saved_after_alike, value_after_alike}
 use Rattle.hy_meaning.specs.Statement.{Database, answer_of, grouped, rows_in}
-use Rattle.hy_meaning.specs.Serial.{alone_from}
+use Rattle.hy_meaning.specs.Serial.{database_back, alone_from}
 use Rattle.hy_render.specs.declared.TxnOutcome.{TxnOutcome}
 use Rattle.hy_render.specs.declared.Committed.{Committed as Entry}
 use Rattle.hy_machine.specs.declared.Setting.{Setting}
@@ -25,25 +28,53 @@ use Rattle.hy_serial.proofs.Told.{who_answers_all}
 abbrev told : Reply → Option Reply
 told reply = Some reply
 
+-- each of these savepoints keeps this database
+abbrev IsThis : Database → Database → Database → Type 0
+IsThis db was other = was ≡ db
+
+abbrev KeepThis : Database → List (Saved Database) → Type 0
+KeepThis db saved = AreAlike (IsThis db) saved saved
+
+saving_keeps : (db : Database) (statement : Bound) (saved : List (Saved Database)) → KeepThis db saved → KeepThis db (saved_after statement saved db)
+saving_keeps db statement saved k = saved_after_alike (IsThis db) statement saved saved db db k refl
+
+-- going back to one of them leaves the database
+back_stays : (db : Database) (statement : Bound) (saved : List (Saved Database)) → KeepThis db saved → value_after database_back statement saved db ≡ db
+back_stays db statement saved k =
+    value_after_alike (IsThis db) (IsThis db) database_back database_back statement saved saved db db k refl (λ was other same. same)
+
 -- statements that change nothing, alone from a database on, are each answered over this database
-reads_alone : (setting : Setting) (number : ℕ) (statements : List Bound) (db : Database) → list_any is_change statements ≡ false
-    → map told (alone_from setting.shapes number statements db).replies ≡ map (answered_over setting db) statements
-reads_alone setting number [] db e = refl
-reads_alone setting number (Select tables ons pred items ∷ statements) db e =
+reads_alone : (setting : Setting) (saved : List (Saved Database)) (number : ℕ) (statements : List Bound) (db : Database) → KeepThis db saved
+    → list_any is_change statements ≡ false
+    → map told (alone_from setting.shapes saved number statements db).replies ≡ map (answered_over setting db) statements
+reads_alone setting saved number [] db k e = refl
+reads_alone setting saved number (Select tables ons pred items ∷ statements) db k e =
     ap (λ (others : List (Option Reply)). Some (answer_of ons pred items (map (rows_in db) tables)) ∷ others)
-    (reads_alone setting (suc number) statements db e)
-reads_alone setting number (Group table pred key aggregate ∷ statements) db e =
+    (reads_alone setting saved (suc number) statements db k e)
+reads_alone setting saved number (Group table pred key aggregate ∷ statements) db k e =
     ap (λ (others : List (Option Reply)). Some (grouped pred key aggregate (rows_in db table)) ∷ others)
-    (reads_alone setting (suc number) statements db e)
-reads_alone setting number (Insert table row ∷ statements) db e = absurd cc
-reads_alone setting number (Update table sets pred ∷ statements) db e = absurd cc
-reads_alone setting number (Delete table pred ∷ statements) db e = absurd cc
+    (reads_alone setting saved (suc number) statements db k e)
+reads_alone setting saved number (Insert table row ∷ statements) db k e = absurd cc
+reads_alone setting saved number (Update table sets pred ∷ statements) db k e = absurd cc
+reads_alone setting saved number (Delete table pred ∷ statements) db k e = absurd cc
+reads_alone setting saved number (Savepoint name ∷ statements) db k e =
+    ap (λ (others : List (Option Reply)). Some reply.Saved ∷ others)
+    (reads_alone setting (saved_after (Savepoint name) saved db) (suc number) statements db (saving_keeps db (Savepoint name) saved k) e)
+reads_alone setting saved number (RollbackTo name ∷ statements) db k e =
+    let kept : List (Saved Database) = saved_after (RollbackTo name) saved db in
+    ap (λ (next : Database). Some reply.Back ∷ map told (alone_from setting.shapes kept (suc number) statements next).replies)
+    (back_stays db (RollbackTo name) saved k)
+    ∙ ap (λ (others : List (Option Reply)). Some reply.Back ∷ others)
+    (reads_alone setting kept (suc number) statements db (saving_keeps db (RollbackTo name) saved k) e)
+reads_alone setting saved number (Release name ∷ statements) db k e =
+    ap (λ (others : List (Option Reply)). Some reply.Released ∷ others)
+    (reads_alone setting (saved_after (Release name) saved db) (suc number) statements db (saving_keeps db (Release name) saved k) e)
 
 reads_one : (setting : Setting) (order : List Entry) (txn : TxnOutcome) → OnlyReads setting txn → IsToldAsAlone setting order txn
     → ReadsOneDatabase setting order txn
 reads_one setting order txn reads is_told =
     ap (map told) is_told.replies
-    ∙ reads_alone setting 1 (statements_of setting.programs txn.label) (database_at setting order txn.start) reads
+    ∙ reads_alone setting [] 1 (statements_of setting.programs txn.label) (database_at setting order txn.start) tt reads
 
 pub readers_read_one : ReadersReadOneDatabase
 readers_read_one setting outcome lawful is_serial =

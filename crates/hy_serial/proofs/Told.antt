@@ -5,8 +5,9 @@ use Rattle.std.proofs.lemmas.List.{take_all}
 use Rattle.hy_bound.specs.declared.Bound.{Bound}
 use Rattle.hy_bound.specs.declared.Shape.{Shape}
 use Rattle.hy_bound.specs.declared.Reply.{Reply}
+use Rattle.hy_bound.specs.Savepoints.{Saved, saved_after, value_after}
 use Rattle.hy_meaning.specs.Statement.{Database, mean}
-use Rattle.hy_meaning.specs.Serial.{Alone, goes_on, alone_from}
+use Rattle.hy_meaning.specs.Serial.{Alone, goes_on, database_back, alone_from}
 use Rattle.hy_render.specs.declared.TxnOutcome.{TxnOutcome}
 use Rattle.hy_render.specs.declared.Committed.{Committed as Entry}
 use Rattle.hy_machine.specs.declared.Setting.{Setting}
@@ -30,12 +31,13 @@ has_replies_on count number db (Some given) rest h = record {
   all = λ some. (h given.1).all (omega (arith, some));
 }
 
-has_replies : (shapes : List Shape) (number : ℕ) (statements : List Bound) (db : Database)
-    → HasReplies (length statements) (alone_from shapes number statements db)
-has_replies shapes number [] db = record { most = omega arith; all = λ some. refl }
-has_replies shapes number (statement ∷ statements) db =
-    has_replies_on (length statements) number db (mean shapes statement db) (alone_from shapes (suc number) statements)
-    (λ next. has_replies shapes (suc number) statements next)
+has_replies : (shapes : List Shape) (saved : List (Saved Database)) (number : ℕ) (statements : List Bound) (db : Database)
+    → HasReplies (length statements) (alone_from shapes saved number statements db)
+has_replies shapes saved number [] db = record { most = omega arith; all = λ some. refl }
+has_replies shapes saved number (statement ∷ statements) db =
+    has_replies_on (length statements) number db (mean shapes statement db)
+    (λ left. alone_from shapes (saved_after statement saved left) (suc number) statements (value_after database_back statement saved left))
+    (λ left. has_replies shapes (saved_after statement saved left) (suc number) statements (value_after database_back statement saved left))
 
 -- ---- told as alone
 
@@ -50,7 +52,7 @@ told_at : (setting : Setting) (order : List Entry) (txn : TxnOutcome) → Replie
     → IsToldAsAlone setting order txn
 told_at setting order txn first answers =
     let told = told_all (length (statements_of setting.programs txn.label)) txn.replies (alone_at setting order txn.label txn.start)
-    (has_replies setting.shapes 1 (statements_of setting.programs txn.label) (database_at setting order txn.start)) answers first in
+    (has_replies setting.shapes [] 1 (statements_of setting.programs txn.label) (database_at setting order txn.start)) answers first in
     record { replies = told.0; runs_on = told.1 }
 
 pub who_answers_all : WhoAnswersAllIsToldAsAlone

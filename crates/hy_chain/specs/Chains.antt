@@ -51,6 +51,11 @@ pub record IsSafe {D : Type 0} (cover : Cover) (chain : List (Undo D)) (viewer :
   pub start : Contains cover.starts viewer.start ⊎ (cover.next ≤ viewer.start)
   pub apart : AllByRecursion (λ undo. undo.stamp.mark ≢ viewer.start) chain
 
+-- what was there before the newest record; where there is none, what is in place
+abbrev pub before_newest : {D B : Type 0} → (D → B → B) → B → List (Undo D) → B
+before_newest applied base [] = base
+before_newest applied base (undo ∷ chain) = applied undo.image base
+
 -- the newest image, where it is that of this identifier
 abbrev pub own_image : {D : Type 0} → ℕ → List (Undo D) → Option D
 own_image id [] = None

@@ -38,7 +38,7 @@ impl<D: Image> Model for Chains<D> {
 }
 
 impl<D: Image> Chains<D> {
-    ghost use Rattle.hy_chain.specs.Chains.{Undo, newest, rival, seen, own_image, without_own, stamped};
+    ghost use Rattle.hy_chain.specs.Chains.{Undo, newest, rival, seen, before_newest, own_image, without_own, stamped};
     ghost use Rattle.hy_chain.specs.Pruning.{pruned};
 
     /// An empty chain for each of so many positions. Err is for want of memory.
@@ -150,5 +150,13 @@ impl<D: Image> Chains<D> {
         ensures { base.new ≡ seen D.applied viewer.now base.old (slice_index_or self.now.chains pos []) }
     {
         self.lists.see(pos, viewer, base);
+    }
+
+    /// Turns what is in place at a position into what was there before its newest record, if it has one.
+    pub fn see_before(&self, pos: usize, base: &mut D::Base)
+        requires { pos < length self.now.chains }
+        ensures { base.new ≡ before_newest D.applied base.old (slice_index_or self.now.chains pos []) }
+    {
+        self.lists.see_before(pos, base);
     }
 }

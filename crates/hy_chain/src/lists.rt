@@ -61,7 +61,7 @@ impl<D: Image> Model for Lists<D> {
 }
 
 impl<D: Image> Lists<D> {
-    ghost use Rattle.hy_chain.specs.Chains.{Undo, newest, seen, own_image, without_own, stamped};
+    ghost use Rattle.hy_chain.specs.Chains.{Undo, newest, seen, before_newest, own_image, without_own, stamped};
 
     /// So many empty lists.
     pub fn new(alloc: Global, lists: usize) -> Result<Lists<D>, AllocError>
@@ -209,6 +209,20 @@ impl<D: Image> Lists<D> {
             }
             node.image.apply(base);
             key = node.older;
+        }
+    }
+
+    /// What was there before the newest record of a list, if it has one, from what is in place.
+    pub fn see_before(&self, list: usize, base: &mut D::Base)
+        requires { list < length self.now.chains }
+        ensures { base.new ≡ before_newest D.applied base.old (slice_index_or self.now.chains list []) }
+    {
+        let head = self.heads[list];
+        if head.len == 0 {
+            return;
+        }
+        if let Some(node) = self.nodes.get(head.key) {
+            node.image.apply(base);
         }
     }
 

@@ -34,3 +34,4 @@ pub mod SweepSteps
 pub mod Exchanged
 pub mod TextPlaces
 pub mod TextRoom
+pub mod BackAt

@@ -1,5 +1,5 @@
 -- Another version over what is in place: what is noted puts back what was there.
-use Rattle.std.proofs.Common.{◌≡◌, ℕ, Bool, true, false, List, [], ◌∷◌, length, Option, None, Some, refl, sym, ap, ◌∙◌, cond, arith}
+use Rattle.std.proofs.Common.{◌≡◌, ℕ, Bool, true, false, List, [], ◌∷◌, length, Option, None, Some, refl, sym, ap, ◌∙◌, cond, inl, inr, arith}
 use Rattle.std.specs.Prelude.{zero, suc, ◌==◌}
 use Rattle.hy_value.specs.declared.Value.{Value}
 use Rattle.hy_value.specs.declared.Kind.{Kind}
@@ -14,15 +14,15 @@ use Rattle.std.proofs.Common.{replicate}
 use Rattle.std.specs.Ordering.{is_eq}
 use Rattle.std.specs.declared.cmp.Ordering.{Ordering}
 use Rattle.std.specs.declared.cmp.Ordering.TheVariants.{Less, Equal, Greater}
-use Rattle.std.proofs.lemmas.Bool.{eqb-true}
+use Rattle.std.proofs.lemmas.Bool.{cases_Bool, eqb-true}
 use Rattle.hy_value.specs.Order.{value_cmp}
 use Rattle.hy_value.specs.TotalOrder.{values_tie}
 use Rattle.hy_stamp.specs.declared.Label.{Label}
 use Rattle.hy_column.specs.Cells.{FitsKind}
 use Rattle.hy_undo.specs.Images.{old_or, older_or}
 use Rattle.hy_undo.specs.Places.{cell_of}
-use Rattle.hy_undo.specs.Chunks.{Written}
-use Rattle.hy_undo.specs.Steps.{PlacesStep}
+use Rattle.hy_undo.specs.Chunks.{Written, is_own}
+use Rattle.hy_undo.specs.Steps.{PlacesStep, IsBlankUnused}
 use Rattle.hy_chunk.specs.Sound.{FitsNoted}
 use Rattle.hy_chunk.specs.Noting.{change_noted, changes_noted, own_stamp, own_or_blank}
 use Rattle.hy_chunk.proofs.Over.{image_length}
@@ -90,7 +90,7 @@ over_place width viewer label version place = record place {
 }
 
 module _ (laws : PlacesStep) (viewer : Viewer) (label : Label) (version old : Version) (used : Bool) (death width : ℕ)
-    (size : length version.row ≡ length old.row) (wide : length old.row ≡ width) (live : old.live ≡ true) where
+    (size : length version.row ≡ length old.row) (wide : length old.row ≡ width) where
   abbrev was : List (Undo Image) → Place
   was chain = record { version = old; used = used; death = death; chain = chain }
 
@@ -108,26 +108,26 @@ module _ (laws : PlacesStep) (viewer : Viewer) (label : Label) (version old : Ve
     } ∷ cond b rest (undo ∷ rest);
   }
 
-  restores : before (image_over old version blank) version ≡ old
-  restores = λ i. record {
+  restores : old.live ≡ true → before (image_over old version blank) version ≡ old
+  restores live = λ i. record {
     row = (put_back_changes old.row version.row (replicate width None) size
         (let e : length (replicate width None) ≡ width = Rattle.std.proofs.lemmas.List.length-replicate width None in e ∙ sym wide)
         ∙ put_back_none old.row width) i;
     live = sym live i;
   }
 
-  by_own : (b : Bool) (undo : Undo Image) (rest : List (Undo Image)) → (undo.stamp.mark == viewer.id) ≡ b → length undo.image.values ≡ width
-      → Written viewer label (cell_of version) (was (undo ∷ rest)) (by b undo rest)
-  by_own true undo rest e w =
+  by_own : (b : Bool) (undo : Undo Image) (rest : List (Undo Image)) → (undo.stamp.mark == viewer.id) ≡ b → (b ≡ false → old.live ≡ true)
+      → length undo.image.values ≡ width → Written viewer label (cell_of version) (was (undo ∷ rest)) (by b undo rest)
+  by_own true undo rest e live w =
       laws.rewrites viewer label undo rest (image_over old version undo.image) version (was (undo ∷ rest)) refl (eqb-true undo.stamp.mark viewer.id e)
       (ap (λ (row : List Value). record { row = row; live = undo.image.live }) (put_back_changes old.row version.row undo.image.values size (w ∙ sym wide)))
-  by_own false undo rest e w =
-      laws.writes viewer label (image_over old version blank) version (was (undo ∷ rest)) e restores
+  by_own false undo rest e live w =
+      laws.writes viewer label (image_over old version blank) version (was (undo ∷ rest)) e (restores (live refl))
 
-  pub overwritten : (kinds : List Kind) (chain : List (Undo Image)) → length kinds ≡ width → FitsChain kinds chain
-      → Written viewer label (cell_of version) (was chain) (over_place width viewer label version (was chain))
-  overwritten kinds [] e fits = laws.writes viewer label (image_over old version blank) version (was []) refl restores
-  overwritten kinds (undo ∷ rest) e fits = by_own (undo.stamp.mark == viewer.id) undo rest refl (image_length kinds undo.image.values fits.0 ∙ e)
+  pub overwritten : (kinds : List Kind) (chain : List (Undo Image)) → length kinds ≡ width → (is_own viewer.id (newest chain) ≡ false → old.live ≡ true)
+      → FitsChain kinds chain → Written viewer label (cell_of version) (was chain) (over_place width viewer label version (was chain))
+  overwritten kinds [] e live fits = laws.writes viewer label (image_over old version blank) version (was []) refl (restores (live refl))
+  overwritten kinds (undo ∷ rest) e live fits = by_own (undo.stamp.mark == viewer.id) undo rest refl live (image_length kinds undo.image.values fits.0 ∙ e)
 
 not_true : (b : Bool) → b ≡ true → b ≡ false → ⊥
 not_true true t f = cc
@@ -154,14 +154,25 @@ chain_fits kinds id stamp old new (undo ∷ rest) r f =
       | false ↦ (fits_changes kinds old.row new.row (replicate (length kinds) None) r (fits_blank kinds), (λ dead. absurd (not_true true refl dead)), f)
     ]
 
+-- a position with a row, or with a record of the writer, is used
+not_unused : (id : ℕ) (place : Place) → (is_own id (newest place.chain) ≡ false → place.version.live ≡ true) → IsBlankUnused place → place.used ≡ false → ⊥
+not_unused id place live unused free =
+    not_true place.version.live (live (ap (λ (chain : List (Undo Image)). is_own id (newest chain)) (unused.chain free))) (unused.row free)
+
+pub used_there : (id : ℕ) (place : Place) → (is_own id (newest place.chain) ≡ false → place.version.live ≡ true) → IsBlankUnused place → place.used ≡ true
+used_there id place live unused = elim (cases_Bool place.used) [
+  | inl is_used ↦ is_used
+  | inr is_unused ↦ absurd (not_unused id place live unused is_unused)
+]
+
 pub over_fits : (kinds : List Kind) (viewer : Viewer) (label : Label) (version : Version) (place : Place) → FitsRow kinds version.row
-    → place.version.live ≡ true → FitsPlace kinds place
+    → (is_own viewer.id (newest place.chain) ≡ false → place.version.live ≡ true) → FitsPlace kinds place
     → FitsPlace kinds (over_place (length kinds) viewer label version place)
 over_fits kinds viewer label version place r live f = record {
   row = r;
   images = chain_fits kinds viewer.id (own_stamp label viewer.id (newest place.chain)) place.version version place.chain f.row f.images;
   unused = record {
-    row = λ free. absurd (not_true place.version.live live (f.unused.row free));
-    chain = λ free. absurd (not_true place.version.live live (f.unused.row free));
+    row = λ free. absurd (not_unused viewer.id place live f.unused free);
+    chain = λ free. absurd (not_unused viewer.id place live f.unused free);
   };
 }

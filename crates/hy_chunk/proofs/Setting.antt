@@ -105,7 +105,7 @@ other_key : (key : Option ℕ) (row : List Value) (column : ℕ) (value : Value)
 other_key None row column value apart = tt
 other_key (Some key) row column value apart = get_or-set_other row column key value Null (λ same. apart (ap (λ (k : ℕ). Some k) same))
 
-then_same : (key : Option ℕ) (row between other : List Value) → SameKey key row between → SameKey key between other → SameKey key row other
+pub then_same : (key : Option ℕ) (row between other : List Value) → SameKey key row between → SameKey key between other → SameKey key row other
 then_same None row between other s t = tt
 then_same (Some key) row between other s t = s ∙ t
 

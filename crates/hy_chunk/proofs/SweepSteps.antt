@@ -1,7 +1,8 @@
 -- The steps of a sweep that writes: a position is written as it was judged, and where nothing is judged it is passed.
-use Rattle.std.proofs.Common.{◌≡◌, ℕ, ◌+◌, ◌<◌, ◌≤◌, List, [], length, drop, Option, None, Some, Result, Ok, refl, sym, ap, ◌∙◌, subst, arith}
+use Rattle.std.proofs.Common.{◌≡◌, ℕ, ◌+◌, ◌<◌, ◌≤◌, List, [], length, drop, map, Option, None, Some, Result, Ok, refl, sym, ap, ◌∙◌, subst, arith}
 use Rattle.std.proofs.Math.ListN.{set}
-use Rattle.std.proofs.lemmas.List.{length-set, get_or-set_other}
+use Rattle.std.proofs.lemmas.Simd.{map-map}
+use Rattle.std.proofs.lemmas.List.{at_drop_all, length-set, get_or-set_other, map-id}
 use Rattle.hy_stamp.specs.declared.Label.{Label}
 use Rattle.hy_stamp.specs.declared.Viewer.{Viewer}
 use Rattle.hy_value.specs.declared.change.Change.{Change}
@@ -13,8 +14,8 @@ use Rattle.hy_undo.specs.Places.{Place, Cell, sees}
 use Rattle.hy_undo.specs.Chunks.{Written}
 use Rattle.hy_undo.specs.Sweeps.{swept}
 use Rattle.hy_chunk.specs.Fields.{nth, blank_with}
-use Rattle.hy_chunk.specs.Writes.{judged_at, refusal_in, WrittenAs, IsDone}
-use Rattle.hy_chunk.proofs.Sweeping.{noted_of, counted_of, left_ok, noted, counted, refused_past, noted_past, counted_past}
+use Rattle.hy_chunk.specs.Writes.{judged_at, notes_with, refusal_in, WrittenAs, IsDone}
+use Rattle.hy_chunk.proofs.Sweeping.{counted_of, left_ok, noted, counted, refused_past, noted_past, counted_past}
 use Rattle.hy_chunk.proofs.Sweeping.{done_past, done_more, as_none, as_some, all_written, all_done}
 
 -- the first so many positions are written as they were judged, and the others are as they were
@@ -24,8 +25,8 @@ pub record SweptTo (sets : Option (List Assign)) (pred : Condition) (viewer : Vi
   pub ok : refusal_in (swept sets pred viewer (first + place) (drop place olds)) ≡ None
   pub done : (k : ℕ) → k < place → WrittenAs viewer label (judged_at sets pred viewer (first + k) (nth olds k)) (nth olds k) (nth news k)
   pub rest : (k : ℕ) → place ≤ k → nth news k ≡ nth olds k
-  pub told : noted_of table (first + place) viewer (swept sets pred viewer (first + place) (drop place olds)) (drop place olds) now
-      ≡ noted_of table first viewer (swept sets pred viewer first olds) olds notes
+  pub told : notes_with table (first + place) viewer (swept sets pred viewer (first + place) (drop place olds)) (drop place olds) now
+      ≡ notes_with table first viewer (swept sets pred viewer first olds) olds notes
   pub count : written + counted_of (swept sets pred viewer (first + place) (drop place olds)) ≡ counted_of (swept sets pred viewer first olds)
   pub few : written ≤ place
 
@@ -43,7 +44,7 @@ module _ (sets : Option (List Assign)) (pred : Condition) (viewer : Viewer) (lab
         ok = ap (λ (n : ℕ). refusal_in (swept sets pred viewer n olds)) none_first ∙ ok;
         done = λ k l. absurd (omega (arith, l));
         rest = λ k l. refl;
-        told = ap (λ (n : ℕ). noted_of table n viewer (swept sets pred viewer n olds) olds notes) none_first;
+        told = ap (λ (n : ℕ). notes_with table n viewer (swept sets pred viewer n olds) olds notes) none_first;
         count = omega (arith, none_counted);
         few = omega arith;
       }
@@ -82,7 +83,7 @@ module _ (sets : Option (List Assign)) (pred : Condition) (viewer : Viewer) (lab
             (was.done j m))
             (as_some viewer label (judged_here k) cell (nth olds k) (nth news k) (nth after k) some (was.rest k (omega arith)) did);
         rest = λ j m. stays j (λ eq. absurd (omega (arith, eq, m))) ∙ was.rest j (omega (arith, m));
-        told = ap (λ (list : List Change). noted_of table (first + (k + 1)) viewer (swept sets pred viewer (first + (k + 1)) (drop (k + 1) olds))
+        told = ap (λ (list : List Change). notes_with table (first + (k + 1)) viewer (swept sets pred viewer (first + (k + 1)) (drop (k + 1) olds))
             (drop (k + 1) olds) list) is
             ∙ (sym (noted sets pred viewer table first olds k l was.ok cell some now) ∙ was.told);
         count = omega (arith, was.count, e);
@@ -95,3 +96,39 @@ module _ (sets : Option (List Assign)) (pred : Condition) (viewer : Viewer) (lab
   swept_all news now written place end ok was =
       all_done sets pred viewer label table first olds news notes now written place end
       (all_written sets pred viewer label first olds news ok was.size (λ k l. was.done k (omega (arith, l, end)))) was.told was.count
+
+  -- in each level, too, what is noted so far with all that is left is what is noted of all positions
+  abbrev pub InLevels : List (List Change) → List (List Change) → ℕ → Type 0
+  InLevels levels nows place =
+      map (notes_with table (first + place) viewer (swept sets pred viewer (first + place) (drop place olds)) (drop place olds)) nows
+      ≡ map (notes_with table first viewer (swept sets pred viewer first olds) olds) levels
+
+  pub levels_none : (levels : List (List Change)) → InLevels levels levels 0
+  levels_none levels =
+      let none_first : ◌≡◌ {A = ℕ} (first + 0) first = omega arith in
+      ap (λ (n : ℕ). map (notes_with table n viewer (swept sets pred viewer n olds) olds) levels) none_first
+
+  pub levels_past : (levels nows : List (List Change)) (from next : ℕ) → from ≤ next → next ≤ length olds
+      → ((k : ℕ) → from ≤ k → k < next → judged_here k ≡ Ok None) → refusal_in (swept sets pred viewer (first + from) (drop from olds)) ≡ None
+      → InLevels levels nows from → InLevels levels nows next
+  levels_past levels nows from next le within none ok was =
+      (λ i. map (λ (list : List Change). noted_past sets pred viewer first olds from next le within none table ok list i) nows) ∙ was
+
+  pub levels_one : (levels nows thens : List (List Change)) (k : ℕ) (cell : Cell) → k < length olds → judged_here k ≡ Ok (Some cell)
+      → refusal_in (swept sets pred viewer (first + k) (drop k olds)) ≡ None
+      → thens ≡ map (with_note (record { table = table; pos = first + k; before = sees viewer (nth olds k); after = cell })) nows
+      → InLevels levels nows k → InLevels levels thens (k + 1)
+  levels_one levels nows thens k cell l some ok is was =
+      let note : List Change → List Change = with_note (record { table = table; pos = first + k; before = sees viewer (nth olds k); after = cell }) in
+      let rest : List Change → List Change = notes_with table (first + (k + 1)) viewer (swept sets pred viewer (first + (k + 1)) (drop (k + 1) olds)) (drop (k + 1) olds) in
+      ap (map rest) is
+      ∙ (map-map rest note nows
+      ∙ ((λ i. map (λ (list : List Change). sym (noted sets pred viewer table first olds k l ok cell some list) i) nows) ∙ was))
+
+  pub levels_all : (levels nows : List (List Change)) (place : ℕ) → length olds ≤ place → InLevels levels nows place
+      → nows ≡ map (notes_with table first viewer (swept sets pred viewer first olds) olds) levels
+  levels_all levels nows place end was =
+      let none : (list : List Change)
+      → notes_with table (first + place) viewer (swept sets pred viewer (first + place) (drop place olds)) (drop place olds) list ≡ list =
+      λ list. at_drop_all (λ (rest : List Place). notes_with table (first + place) viewer (swept sets pred viewer (first + place) rest) rest list) olds place end in
+      sym ((λ i. map (λ (list : List Change). none list i) nows) ∙ map-id nows) ∙ was

@@ -26,7 +26,7 @@ use Rattle.std.proofs.Common.{inl, inr}
 use Rattle.hy_value.specs.declared.Kind.{Kind}
 use Rattle.hy_bound.specs.declared.WriteKind.{WriteKind}
 use Rattle.hy_bound.specs.declared.WriteKind.TheVariants.{Set, Delete}
-use Rattle.hy_chunk.specs.Writes.{FitsSets, FitsWrite, SetColumns, judged_at, refusal_in, WrittenAs, all_noted, IsDone}
+use Rattle.hy_chunk.specs.Writes.{FitsSets, FitsWrite, SetColumns, judged_at, refusal_in, WrittenAs, notes_with, IsDone}
 
 not_here : (v : Result (Option Cell) Refusal) (rest : Result (List (Option Cell)) Refusal) → None ≡ refusal_in v → refusal_in (and_new v rest) ≡ refusal_in rest
 not_here (Ok cell) (Ok cells) e = refl
@@ -127,11 +127,7 @@ module _ (sets : Option (List Assign)) (pred : Condition) (viewer : Viewer) (pos
       pub is_in_place : version ≡ p.version
       is_in_place = is ∙ sees_in_place viewer p.version p.chain without_rival
 
--- what is noted and counted of all cells that are left
-abbrev pub noted_of : ℕ → ℕ → Viewer → Result (List (Option Cell)) Refusal → List Place → List Change → List Change
-noted_of table pos viewer (Err refusal) places notes = notes
-noted_of table pos viewer (Ok cells) places notes = all_noted table pos viewer cells places notes
-
+-- what is counted of all cells that are left
 abbrev pub counted_of : Result (List (Option Cell)) Refusal → ℕ
 counted_of (Err refusal) = 0
 counted_of (Ok cells) = count_by is_some cells
@@ -147,14 +143,14 @@ both_ok (Ok cell) (Err refusal) e = absurd (cc)
 both_ok (Err refusal) rest e = absurd (cc)
 
 noted_none : (table pos : ℕ) (viewer : Viewer) (rest : Result (List (Option Cell)) Refusal) (p : Place) (ps : List Place) (notes : List Change)
-    → noted_of table pos viewer (and_new (Ok None) rest) (p ∷ ps) notes ≡ noted_of table (suc pos) viewer rest ps notes
+    → notes_with table pos viewer (and_new (Ok None) rest) (p ∷ ps) notes ≡ notes_with table (suc pos) viewer rest ps notes
 noted_none table pos viewer (Ok cells) p ps notes = refl
 noted_none table pos viewer (Err refusal) p ps notes = refl
 
 noted_some : (table pos : ℕ) (viewer : Viewer) (cell : Cell) (rest : Result (List (Option Cell)) Refusal) (p : Place) (ps : List Place)
     (notes : List Change) → refusal_in rest ≡ None
-    → noted_of table pos viewer (and_new (Ok (Some cell)) rest) (p ∷ ps) notes
-    ≡ noted_of table (suc pos) viewer rest ps (with_note (record { table = table; pos = pos; before = sees viewer p; after = cell }) notes)
+    → notes_with table pos viewer (and_new (Ok (Some cell)) rest) (p ∷ ps) notes
+    ≡ notes_with table (suc pos) viewer rest ps (with_note (record { table = table; pos = pos; before = sees viewer p; after = cell }) notes)
 noted_some table pos viewer cell (Ok cells) p ps notes e = refl
 noted_some table pos viewer cell (Err refusal) p ps notes e = absurd (cc)
 
@@ -193,13 +189,13 @@ module _ (sets : Option (List Assign)) (pred : Condition) (viewer : Viewer) (tab
   left_ok = ap (λ (n : ℕ). refusal_in (left n)) (sym after) ∙ both.1
 
   module _ (none : here ≡ Ok None) (notes : List Change) where
-    pub unnoted : noted_of table (first + count) viewer (swept sets pred viewer (first + count) (drop count places)) (drop count places) notes
-        ≡ noted_of table (first + (count + 1)) viewer (left (first + (count + 1))) (drop (count + 1) places) notes
-    unnoted = unfolds (λ r ps. noted_of table (first + count) viewer r ps notes)
-        ∙ (ap (λ (v : Result (Option Cell) Refusal). noted_of table (first + count) viewer (and_new v (left (suc (first + count))))
+    pub unnoted : notes_with table (first + count) viewer (swept sets pred viewer (first + count) (drop count places)) (drop count places) notes
+        ≡ notes_with table (first + (count + 1)) viewer (left (first + (count + 1))) (drop (count + 1) places) notes
+    unnoted = unfolds (λ r ps. notes_with table (first + count) viewer r ps notes)
+        ∙ (ap (λ (v : Result (Option Cell) Refusal). notes_with table (first + count) viewer (and_new v (left (suc (first + count))))
         (nth places count ∷ drop (count + 1) places) notes) none
         ∙ (noted_none table (first + count) viewer (left (suc (first + count))) (nth places count) (drop (count + 1) places) notes
-        ∙ ap (λ (n : ℕ). noted_of table n viewer (left n) (drop (count + 1) places) notes) after))
+        ∙ ap (λ (n : ℕ). notes_with table n viewer (left n) (drop (count + 1) places) notes) after))
 
     pub uncounted : counted_of (swept sets pred viewer (first + count) (drop count places)) ≡ counted_of (left (first + (count + 1)))
     uncounted = unfolds (λ r ps. counted_of r)
@@ -207,14 +203,14 @@ module _ (sets : Option (List Assign)) (pred : Condition) (viewer : Viewer) (tab
         ∙ (counted_none (left (suc (first + count))) ∙ ap (λ (n : ℕ). counted_of (left n)) after))
 
   module _ (cell : Cell) (some : here ≡ Ok (Some cell)) (notes : List Change) where
-    pub noted : noted_of table (first + count) viewer (swept sets pred viewer (first + count) (drop count places)) (drop count places) notes
-        ≡ noted_of table (first + (count + 1)) viewer (left (first + (count + 1))) (drop (count + 1) places)
+    pub noted : notes_with table (first + count) viewer (swept sets pred viewer (first + count) (drop count places)) (drop count places) notes
+        ≡ notes_with table (first + (count + 1)) viewer (left (first + (count + 1))) (drop (count + 1) places)
         (with_note (record { table = table; pos = first + count; before = sees viewer (nth places count); after = cell }) notes)
-    noted = unfolds (λ r ps. noted_of table (first + count) viewer r ps notes)
-        ∙ (ap (λ (v : Result (Option Cell) Refusal). noted_of table (first + count) viewer (and_new v (left (suc (first + count))))
+    noted = unfolds (λ r ps. notes_with table (first + count) viewer r ps notes)
+        ∙ (ap (λ (v : Result (Option Cell) Refusal). notes_with table (first + count) viewer (and_new v (left (suc (first + count))))
         (nth places count ∷ drop (count + 1) places) notes) some
         ∙ (noted_some table (first + count) viewer cell (left (suc (first + count))) (nth places count) (drop (count + 1) places) notes both.1
-        ∙ ap (λ (n : ℕ). noted_of table n viewer (left n) (drop (count + 1) places)
+        ∙ ap (λ (n : ℕ). notes_with table n viewer (left n) (drop (count + 1) places)
         (with_note (record { table = table; pos = first + count; before = sees viewer (nth places count); after = cell }) notes)) after))
 
     pub counted : counted_of (swept sets pred viewer (first + count) (drop count places)) ≡ 1 + counted_of (left (first + (count + 1)))
@@ -237,9 +233,9 @@ module _ (sets : Option (List Assign)) (pred : Condition) (viewer : Viewer) (fir
   refused_past = refused_to next le (omega arith)
 
   module _ (table : ℕ) (ok : refusal_in (rest_at from) ≡ None) where
-    pub noted_past : (notes : List Change) → noted_of table (first + next) viewer (rest_at next) (drop next places) notes
-        ≡ noted_of table (first + from) viewer (rest_at from) (drop from places) notes
-    noted_past notes = same_past (λ (j : ℕ). noted_of table (first + j) viewer (rest_at j) (drop j places) notes) from next le (λ j l m.
+    pub noted_past : (notes : List Change) → notes_with table (first + next) viewer (rest_at next) (drop next places) notes
+        ≡ notes_with table (first + from) viewer (rest_at from) (drop from places) notes
+    noted_past notes = same_past (λ (j : ℕ). notes_with table (first + j) viewer (rest_at j) (drop j places) notes) from next le (λ j l m.
         sym (unnoted sets pred viewer table first places j (omega (arith, m, within)) (refused_to j l (omega (arith, m)) ∙ ok) (none j l m) notes))
 
     pub counted_past : counted_of (rest_at next) ≡ counted_of (rest_at from)
@@ -281,7 +277,7 @@ all_written sets pred viewer label pos (old ∷ olds) (new ∷ news) ok size eac
 
 done_by : (viewer : Viewer) (label : Label) (table first : ℕ) (r : Result (List (Option Cell)) Refusal) (olds news : List Place)
     (notes now : List Change) (count : ℕ)
-    → AllWrittenAs viewer label r olds news → now ≡ noted_of table first viewer r olds notes → count ≡ counted_of r
+    → AllWrittenAs viewer label r olds news → now ≡ notes_with table first viewer r olds notes → count ≡ counted_of r
     → IsDone viewer label table first r olds news notes now count
 done_by viewer label table first (Err refusal) olds news notes now count w n c = absurd w
 done_by viewer label table first (Ok cells) olds news notes now count w n c = record { written = w; noted = n; counted = c }
@@ -290,7 +286,7 @@ done_by viewer label table first (Ok cells) olds news notes now count w n c = re
 pub all_done : (sets : Option (List Assign)) (pred : Condition) (viewer : Viewer) (label : Label) (table first : ℕ) (olds news : List Place)
     (notes now : List Change) (written place : ℕ)
     → length olds ≤ place → AllWrittenAs viewer label (swept sets pred viewer first olds) olds news
-    → noted_of table (first + place) viewer (swept sets pred viewer (first + place) (drop place olds)) (drop place olds) now ≡ noted_of table first
+    → notes_with table (first + place) viewer (swept sets pred viewer (first + place) (drop place olds)) (drop place olds) now ≡ notes_with table first
     viewer (swept sets pred viewer first olds) olds notes
     → written + counted_of (swept sets pred viewer (first + place) (drop place olds)) ≡ counted_of (swept sets pred viewer first olds)
     → IsDone viewer label table first (swept sets pred viewer first olds) olds news notes now written
@@ -298,7 +294,7 @@ all_done sets pred viewer label table first olds news notes now written place en
     let last : counted_of (swept sets pred viewer (first + place) (drop place olds)) ≡ 0 = at_drop_all
     (λ (rest : List Place). counted_of (swept sets pred viewer (first + place) rest)) olds place end in
     done_by viewer label table first (swept sets pred viewer first olds) olds news notes now written w
-    (sym (at_drop_all (λ (rest : List Place). noted_of table (first + place) viewer (swept sets pred viewer (first + place) rest) rest now) olds
+    (sym (at_drop_all (λ (rest : List Place). notes_with table (first + place) viewer (swept sets pred viewer (first + place) rest) rest now) olds
     place end) ∙ n) (omega (arith, c, last))
 
 -- one position more is as it was judged

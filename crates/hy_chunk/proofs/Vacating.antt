@@ -55,13 +55,6 @@ shows_blank n used live vacant u l v = record {
       ∙ sym ((λ i. not (get_or (u i) k false && get_or live k false)) ∙ ap (λ (b : Bool). not (b && get_or live k false)) (get_or-replicate n k false false within)));
 }
 
--- a row is only in place at a used position
-pub used_where_live : (place : Place) → (place.used ≡ false → place.version.live ≡ false) → place.version.live ≡ true → place.used ≡ true
-used_where_live place unused live = elim (cases_Bool place.used) [
-  | inl used ↦ used
-  | inr not_used ↦ absurd (let e = unused not_used in cc)
-]
-
 not_false : (b : Bool) → not b ≡ false → b ≡ true
 not_false true e = refl
 not_false false e = absurd (cc)

@@ -15,7 +15,7 @@ use Rattle.hy_chunk.specs.Sound.{FitsRow, FitsImage, FitsChain, FitsPlace, Sound
 use Rattle.hy_chunk.proofs.Places.{Fields, at, all, Changed, kept, put, put_there, in_rows, in_live, in_chains, fits_there, sound_changed}
 use Rattle.hy_stamp.specs.declared.Label.{Label}
 use Rattle.hy_undo.specs.Places.{cell_of}
-use Rattle.hy_undo.specs.Chunks.{Written}
+use Rattle.hy_undo.specs.Chunks.{Written, is_own}
 use Rattle.hy_undo.specs.Steps.{PlacesStep}
 use Rattle.hy_chunk.specs.Sound.{AreReady, FitsNoted, blank_image}
 use Rattle.hy_chunk.specs.Noting.{changes_noted, own_stamp, own_or_blank}
@@ -25,12 +25,13 @@ use Rattle.hy_chunk.proofs.Overwriting.{over_place, image_over, overwritten, ove
 
 module _ (f : Fields) (kinds : List Kind) (spare : Stock) (seen_places : List Place) (view : all f ≡ seen_places)
     (s : Sound kinds f.rows f.live f.used f.deaths f.chains spare) (place : ℕ) (l : place < length seen_places)
-    (viewer : Viewer) (label : Label) (version : Version) (fits : FitsRow kinds version.row) (was_live : (nth seen_places place).version.live ≡ true) where
+    (viewer : Viewer) (label : Label) (version : Version) (fits : FitsRow kinds version.row)
+    (was_live : is_own viewer.id (newest (nth seen_places place).chain) ≡ false → (nth seen_places place).version.live ≡ true) where
   there : nth seen_places place ≡ at f place
   there = nth_is f seen_places place view l
 
-  live_there : (at f place).version.live ≡ true
-  live_there = ap (λ (p : Place). p.version.live) (sym there) ∙ was_live
+  live_there : is_own viewer.id (newest (at f place).chain) ≡ false → (at f place).version.live ≡ true
+  live_there = subst (λ (p : Place). is_own viewer.id (newest p.chain) ≡ false → p.version.live ≡ true) there was_live
 
   -- the image that is taken
   module _ (taken : Image) (taken_is : taken ≡ own_or_blank (length kinds) viewer.id (get_or f.chains place [])) where
@@ -103,8 +104,8 @@ module _ (f : Fields) (kinds : List Kind) (spare : Stock) (seen_places : List Pl
           let old_size = fits_length kinds (at f place).version.row (fits_there f kinds spare seen_places view s place l).row in
           let new_size = fits_length kinds version.row fits in
           let does = overwritten laws viewer label version (at f place).version (at f place).used (at f place).death (length kinds)
-          (new_size ∙ sym old_size) old_size live_there
-          kinds (at f place).chain refl (fits_there f kinds spare seen_places view s place l).images in
+          (new_size ∙ sym old_size) old_size
+          kinds (at f place).chain refl live_there (fits_there f kinds spare seen_places view s place l).images in
           subst (λ (p : Place). Written viewer label (cell_of version) p (nth (all new) place)) (sym there)
           (subst (λ (p : Place). Written viewer label (cell_of version) (at f place) p)
           (sym ((changed_there place f new seen_places view changed l).1 ∙ here)) does)

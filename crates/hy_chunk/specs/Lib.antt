@@ -15,3 +15,4 @@ pub mod Writes
 pub mod Candidates
 pub mod Masked
 pub mod Parts
+pub mod Backing

@@ -64,6 +64,11 @@ all_noted table pos viewer (None ∷ cells) (place ∷ places) notes = all_noted
 all_noted table pos viewer (Some cell ∷ cells) (place ∷ places) notes =
     all_noted table (suc pos) viewer cells places (with_note (record { table = table; pos = pos; before = sees viewer place; after = cell }) notes)
 
+-- so are these, or they are as they were where a position refuses that
+abbrev pub notes_with : ℕ → ℕ → Viewer → Result (List (Option Cell)) Refusal → List Place → List Change → List Change
+notes_with table pos viewer (Err refusal) places notes = notes
+notes_with table pos viewer (Ok cells) places notes = all_noted table pos viewer cells places notes
+
 -- what is judged at a position
 abbrev pub judged_at : Option (List Assign) → Condition → Viewer → ℕ → Place → Result (Option Cell) Refusal
 judged_at sets pred viewer pos place = verdict sets pred pos (rival viewer place.chain) (sees viewer place)

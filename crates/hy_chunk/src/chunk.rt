@@ -3,7 +3,7 @@
 ghost use Rattle.std.specs.Prelude.{◌≡◌, ◌++◌, take, None, Some, IfErr, ◌+◌, ◌<◌, ◌≤◌, ◌^◌};
 ghost use Rattle.std.specs.Prelude.{ℕ, List, [], IfOk, true, false, OnOk, OnErr, length, replicate, slice_index_or, slice_set};
 ghost use Rattle.std.specs.List.{AllByRecursion, flat_map, list_any};
-ghost use Rattle.std.specs.Prelude.{Contains, IfSome, map};
+ghost use Rattle.std.specs.Prelude.{Contains, IfSome, map, ◌-◌};
 ghost use Rattle.hy_bound.specs.Condition.{Compare};
 ghost use Rattle.hy_bound.specs.Predicate.{truth_at};
 ghost use Rattle.hy_bound.specs.Projection.{projected};
@@ -11,9 +11,10 @@ ghost use Rattle.hy_chain.specs.Chains.{Falls};
 ghost use Rattle.hy_notes.specs.Notes.{with_note};
 ghost use Rattle.hy_prune.specs.Fates.{watermark_of};
 ghost use Rattle.hy_undo.specs.Places.{cell_of, in_place, sees};
-ghost use Rattle.hy_undo.specs.Chunks.{rows_seen, Placed, Everywhere, AtOwn, StampedPlace, Undone, Pruned};
+ghost use Rattle.hy_undo.specs.Chunks.{rows_seen, Placed, Written, Everywhere, AtOwn, StampedPlace, Undone, Pruned};
 ghost use Rattle.hy_chunk.specs.Fields.{blank_place, nth};
 ghost use Rattle.hy_plan.specs.Reads.{by_key_of};
+ghost use Rattle.hy_chunk.specs.Backing.{MayGoBack, change_back};
 ghost use Rattle.hy_chunk.specs.Candidates.{AreCandidates};
 ghost use Rattle.hy_chunk.specs.Gathering.{AreEnough, conditions_of, gathered_by, gathered_of, kept_by};
 ghost use Rattle.hy_chunk.specs.Keyed.{is_key_of};
@@ -24,7 +25,7 @@ ghost use Rattle.hy_chunk.specs.Settled.{Settles};
 ghost use Rattle.hy_chunk.specs.Sound.{FitsRow, most_texts};
 ghost use Rattle.hy_chunk.specs.Steps.{loaded_place, least_free, IsPut};
 ghost use Rattle.hy_chunk.specs.Views.{with_places};
-ghost use Rattle.hy_chunk.specs.Writes.{FitsWrite, IsDone, refusal_in, sets_of};
+ghost use Rattle.hy_chunk.specs.Writes.{FitsWrite, IsDone, notes_with, refusal_in, sets_of};
 ghost use Rattle.hy_undo.specs.Steps.{pruned_place};
 ghost use Rattle.hy_undo.specs.Sweeps.{swept};
 ghost use Rattle.hy_stamp.specs.declared.Viewer.{Viewer};
@@ -38,7 +39,7 @@ use crate::gathering::{
 use crate::masks::{Scan, admitted, is_passed, may_select};
 use crate::positions::{Part, Positions};
 use crate::settled::Settled;
-use crate::writes::{is_selected, make_next, note, refusal_at};
+use crate::writes::{is_selected, make_next, note, put_cell, refusal_at, row_of};
 use hy_bound::{Pred, WriteKind};
 use hy_kernel::Mask;
 use hy_notes::Changes;
@@ -46,7 +47,7 @@ use hy_plan::Gathered;
 use hy_prune::{Cover, watermark};
 use hy_stamp::{Label, Viewer};
 use hy_undo::{Refusal, Version};
-use hy_value::{ColMask, Kind, Row, Seq, Value};
+use hy_value::{Change, ColMask, Kind, Row, Seq, Value};
 use std::alloc::{AllocError, Global};
 use std::marker::Model;
 
@@ -207,6 +208,20 @@ impl Chunk {
             seen,
             next,
         })
+    }
+
+    /// The number of its table.
+    pub fn table(&self) -> u32
+        ensures { result ≡ self.now.shown.table }
+    {
+        self.table
+    }
+
+    /// Its first position.
+    pub fn first(&self) -> u32
+        ensures { result ≡ self.now.shown.first }
+    {
+        self.first
     }
 
     /// How many positions it has.
@@ -644,6 +659,8 @@ impl Chunk {
             (Placed viewer.now label (watermark_of cover.now) row.now) self.old.shown.places self.new.shown.places) }
         ensures noted { IfOk result (λ pos. changes.new.notes
             ≡ with_note (record { table = self.old.shown.table; pos = pos; before = None; after = Some row.now }) changes.old.notes) }
+        ensures levels { IfOk result (λ pos. changes.new.levels
+            ≡ map (with_note (record { table = self.old.shown.table; pos = pos; before = None; after = Some row.now })) changes.old.levels) }
         ensures none { OnErr result (least_free (watermark_of cover.now) self.old.shown.places ≡ length self.old.shown.places) }
         ensures kept { OnErr result ((self.new ≡ self.old) × (changes.new ≡ changes.old)) }
         ensures room { self.old.room ≤ self.new.room + 1 }
@@ -739,6 +756,9 @@ impl Chunk {
         ensures done { IsDone sweep.now.viewer.now label self.old.shown.table self.old.shown.first
             (swept (sets_of sweep.now.kind.now) sweep.now.pred.now sweep.now.viewer.now self.old.shown.first self.old.shown.places)
             self.old.shown.places self.new.shown.places changes.old.notes changes.new.notes result }
+        ensures levels { changes.new.levels ≡ map (notes_with self.old.shown.table self.old.shown.first sweep.now.viewer.now
+            (swept (sets_of sweep.now.kind.now) sweep.now.pred.now sweep.now.viewer.now self.old.shown.first self.old.shown.places)
+            self.old.shown.places) changes.old.levels }
         ensures room { self.old.room ≤ self.new.room + length sweep.now.places.now }
         ensures notes_room { changes.old.room ≤ changes.new.room + length sweep.now.places.now }
         ensures notes_width { changes.new.width ≡ changes.old.width }
@@ -783,6 +803,9 @@ impl Chunk {
         ensures done { IfOk result (λ count. IsDone sweep.now.viewer.now label self.old.shown.table self.old.shown.first
             (swept (sets_of sweep.now.kind.now) sweep.now.pred.now sweep.now.viewer.now self.old.shown.first self.old.shown.places)
             self.old.shown.places self.new.shown.places changes.old.notes changes.new.notes count) }
+        ensures levels { OnOk result (changes.new.levels ≡ map (notes_with self.old.shown.table self.old.shown.first sweep.now.viewer.now
+            (swept (sets_of sweep.now.kind.now) sweep.now.pred.now sweep.now.viewer.now self.old.shown.first self.old.shown.places)
+            self.old.shown.places) changes.old.levels) }
         ensures refused { IfErr result (λ refusal. Some refusal ≡ refusal_in
             (swept (sets_of sweep.now.kind.now) sweep.now.pred.now sweep.now.viewer.now self.old.shown.first self.old.shown.places)) }
         ensures kept { OnErr result ((self.new ≡ self.old) × (changes.new ≡ changes.old)) }
@@ -795,5 +818,43 @@ impl Chunk {
             Some(refusal) => Err(refusal),
             None => Ok(self.write_all(sweep, label, changes)),
         }
+    }
+
+    /// Puts back at the position of a note, which the viewer has written, what was there before, a row or none, and notes
+    /// that. It takes no memory.
+    pub fn write_back(
+        &mut self,
+        viewer: &Viewer,
+        label: Label,
+        since: &Change,
+        changes: &mut Changes,
+    )
+        requires first { self.old.shown.first ≤ since.now.pos }
+        requires within { since.now.pos < self.old.shown.first + length self.old.shown.places }
+        requires may { MayGoBack self.old.kinds self.old.shown.key viewer.now.id since.now.before
+            (nth self.old.shown.places (since.now.pos - self.old.shown.first)) }
+        requires room { 0 < self.old.room }
+        requires notes { 0 < changes.old.room }
+        requires wide { length self.old.kinds ≤ changes.old.width }
+        requires long { most_texts self.old.kinds ≤ changes.old.texts }
+        ensures all { self.new ≡ with_places self.old self.new.shown.places self.new.room }
+        ensures places { IsPut (since.now.pos - self.old.shown.first) (Written viewer.now label since.now.before)
+            self.old.shown.places self.new.shown.places }
+        ensures noted { changes.new.notes ≡ with_note (change_back viewer.now self.old.shown since.now) changes.old.notes }
+        ensures levels { changes.new.levels ≡ map (with_note (change_back viewer.now self.old.shown since.now)) changes.old.levels }
+        ensures room { self.old.room ≤ self.new.room + 1 }
+        ensures notes_room { changes.old.room ≤ changes.new.room + 1 }
+        ensures notes_width { changes.new.width ≡ changes.old.width }
+        ensures notes_texts { changes.new.texts ≡ changes.old.texts }
+    {
+        let place = (since.pos - self.first) as usize;
+        self.positions.see(place, viewer, &mut self.seen);
+        put_cell(&since.before, &mut self.next);
+        let before = row_of(&self.seen);
+        let after = row_of(&self.next);
+        changes.note_reserved(self.table, since.pos, before, after);
+        self.positions
+            .back_at(place, viewer, label, &self.next, &mut self.seen);
+        self.settled.touch(place);
     }
 }

@@ -22,7 +22,8 @@ ghost use Rattle.hy_chunk.specs.Keyed.{AreFound, HaveUsed, KeysStay, SameKey, is
 ghost use Rattle.hy_chunk.specs.Sound.{AreReady, FitsRow, blank_image};
 ghost use Rattle.hy_column.specs.Cells.{texts_of};
 ghost use Rattle.hy_chunk.specs.Noting.{own_stamp, own_or_blank};
-ghost use Rattle.hy_chunk.specs.Steps.{loaded_place, NoneFree};
+ghost use Rattle.hy_chunk.specs.Steps.{loaded_place, IsPut, NoneFree};
+ghost use Rattle.hy_chunk.specs.Backing.{emptied_place, MayGoBack};
 
 use crate::lookup::{keep_key, new_index, put_key};
 use crate::marks::Marks;
@@ -433,12 +434,12 @@ impl Positions {
         self.vacant.set(place, false);
     }
 
-    /// Puts another version in place of a row that is there, over a record of the writer that says what was there
-    /// before: its own where that is the newest, else a new one, for which there is room.
+    /// Puts another version in place of a row that is there, or of what the writer left there, over a record of the writer
+    /// that says what was there before: its own where that is the newest, else a new one, for which there is room.
     pub fn write_at(&mut self, place: usize, viewer: &Viewer, label: Label, version: &Version)
         requires within { place < length self.old.places }
         requires room { 0 < self.old.room }
-        requires live { (nth self.old.places place).version.live ≡ true }
+        requires live { is_own viewer.now.id (newest_of (nth self.old.places place).chain) ≡ false → (nth self.old.places place).version.live ≡ true }
         requires same_key { SameKey self.old.key version.now.row (nth self.old.places place).version.row }
         requires fits { FitsRow self.old.kinds version.now.row }
         ensures kinds { self.new.kinds ≡ self.old.kinds }
@@ -496,6 +497,53 @@ impl Positions {
             mark: viewer.id,
         };
         push_covered(&mut self.chains, &mut self.versioned, place, stamp, image);
+    }
+
+    /// Leaves a position without a row in place.
+    fn empty_at(&mut self, place: usize)
+        requires { place < length self.old.places }
+        ensures kinds { self.new.kinds ≡ self.old.kinds }
+        ensures key { self.new.key ≡ self.old.key }
+        ensures places { self.new.places ≡ slice_set self.old.places place (emptied_place (nth self.old.places place)) }
+        ensures room { self.old.room ≤ self.new.room }
+    {
+        put_flag(&mut self.live, place, false);
+        self.vacant.set(place, true);
+    }
+
+    /// Puts a version back over the writer's own record, for whose texts there is room. Where that record says that no row
+    /// was there before, nobody but the writer sees what is in place, and nothing of it is noted. `was` is a scratch version
+    /// of as many columns.
+    pub fn back_at(
+        &mut self,
+        place: usize,
+        viewer: &Viewer,
+        label: Label,
+        version: &Version,
+        was: &mut Version,
+    )
+        requires within { place < length self.old.places }
+        requires room { 0 < self.old.room }
+        requires width { length was.old.row ≡ length self.old.kinds }
+        requires may { MayGoBack self.old.kinds self.old.key viewer.now.id (cell_of version.now) (nth self.old.places place) }
+        ensures kinds { self.new.kinds ≡ self.old.kinds }
+        ensures key { self.new.key ≡ self.old.key }
+        ensures places { IsPut place (Written viewer.now label (cell_of version.now)) self.old.places self.new.places }
+        ensures room { self.old.room ≤ self.new.room + 1 }
+        ensures width { length was.new.row ≡ length self.old.kinds }
+    {
+        hy_undo::places_step();
+        if !version.live {
+            self.empty_at(place);
+            return;
+        }
+        self.read(place, was);
+        self.chains.see_before(place, was);
+        if was.live {
+            self.write_at(place, viewer, label, version);
+        } else {
+            self.load_at(place, &version.row);
+        }
     }
 
     /// Makes a version of as many columns the one in place at a position.

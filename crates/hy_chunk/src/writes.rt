@@ -1,7 +1,8 @@
 //! What an UPDATE or a DELETE makes of a version, and why it may not.
 
-ghost use Rattle.std.specs.Prelude.{◌≡◌, ◌+◌, ◌<◌, ◌≤◌, ℕ, List, Option, None, Some, is_some, is_ok, length, true, not as negated};
+ghost use Rattle.std.specs.Prelude.{◌≡◌, ◌+◌, ◌<◌, ◌≤◌, ℕ, List, Option, None, Some, is_some, is_ok, length, map, true, not as negated};
 ghost use Rattle.std.specs.List.{AllByRecursion};
+ghost use Rattle.std.specs.Option.{option_copied};
 ghost use Rattle.hy_bound.specs.Assignment.{assigned, value_of};
 ghost use Rattle.hy_bound.specs.Predicate.{truth_at};
 ghost use Rattle.hy_bound.specs.ValueRefs.{value_referred};
@@ -13,12 +14,13 @@ ghost use Rattle.hy_chunk.specs.Keyed.{SameKey};
 ghost use Rattle.hy_chunk.specs.Sound.{FitsRow};
 ghost use Rattle.hy_value.specs.Cells.{texts_in};
 ghost use Rattle.hy_value.specs.declared.Kind.{Kind};
+ghost use Rattle.hy_value.specs.declared.Value.{Value};
 
 use hy_bound::{Assign, Pred, Range, WriteKind, truth, value_ref};
 use hy_notes::Changes;
 use hy_stamp::Label;
 use hy_undo::{Refusal, Version};
-use hy_value::{Row, ValueRef};
+use hy_value::{Row, StoredRow, ValueRef};
 
 /// Whether a value of SET is out of range for a row.
 fn is_out_of_range(set: &Assign, row: &Row) -> bool
@@ -144,6 +146,8 @@ pub fn note(changes: &mut Changes, table: u32, pos: u32, before: &Row, after: &V
     requires texts_after { texts_in after.now.row ≤ changes.old.texts }
     ensures notes { changes.new.notes
         ≡ with_note (record { table = table; pos = pos; before = Some before.now; after = cell_of after.now }) changes.old.notes }
+    ensures levels { changes.new.levels
+        ≡ map (with_note (record { table = table; pos = pos; before = Some before.now; after = cell_of after.now })) changes.old.levels }
     ensures room { changes.old.room ≤ changes.new.room + 1 }
     ensures width { changes.new.width ≡ changes.old.width }
     ensures texts { changes.new.texts ≡ changes.old.texts }
@@ -152,5 +156,41 @@ pub fn note(changes: &mut Changes, table: u32, pos: u32, before: &Row, after: &V
         changes.note_reserved(table, pos, Some(before), Some(&after.row));
     } else {
         changes.note_reserved(table, pos, Some(before), None);
+    }
+}
+
+/// Makes a row a copy of one that is kept, of as many values. It takes no memory.
+fn copy_kept(row: &StoredRow, next: &mut Row)
+    requires { length next.old ≡ length row.now }
+    ensures { next.new ≡ row.now }
+{
+    for column in 0..row.len() {
+        next.set(column, row.refer(column));
+    }
+}
+
+/// Makes a version the row that is kept, of as many values, or one without a row. It takes no memory.
+pub fn put_cell(cell: &Option<StoredRow>, version: &mut Version)
+    requires { (row : List Value) → cell.now ≡ Some row → length version.old.row ≡ length row }
+    ensures cell { cell_of version.new ≡ cell.now }
+    ensures width { length version.new.row ≡ length version.old.row }
+{
+    match cell {
+        Some(row) => {
+            copy_kept(row, &mut version.row);
+            version.live = true;
+        }
+        None => version.live = false,
+    }
+}
+
+/// The row of a version, if one is there.
+pub fn row_of(version: &Version) -> Option<&Row>
+    ensures { option_copied result ≡ cell_of version.now }
+{
+    if version.live {
+        Some(&version.row)
+    } else {
+        None
     }
 }

@@ -124,6 +124,7 @@ impl Core {
         ensures time { IfOk result (λ time. time ≡ self.old.next) }
         ensures ok { OnOk result (self.new ≡ core_entered self.old label start changes.old.notes) }
         ensures none { OnOk result (changes.new.notes ≡ []) }
+        ensures no_level { OnOk result (changes.new.levels ≡ []) }
         ensures kept { OnErr result (self.new ≡ self.old) }
         ensures err { OnErr result (changes.new ≡ changes.old) }
         ensures room { changes.old.room ≤ changes.new.room }

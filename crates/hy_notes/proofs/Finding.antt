@@ -19,7 +19,7 @@ abbrev pub or_else : {X : Type 0} → Option X → Option X → Option X
 or_else None y = y
 or_else (Some x) y = Some x
 
-abbrev found : ℕ → ℕ → List Change → Option Change
+abbrev pub found : ℕ → ℕ → List Change → Option Change
 found table pos notes = slice_get notes (prefix_len (below table pos) notes)
 
 passed : (table pos : ℕ) (x : Change) (xs : List Change) → below table pos x ≡ true → found table pos (x ∷ xs) ≡ found table pos xs
@@ -28,7 +28,7 @@ passed table pos x xs h = ap (λ (k : ℕ). slice_get (x ∷ xs) k) (passes (bel
 stopped : (table pos : ℕ) (x : Change) (xs : List Change) → below table pos x ≡ false → found table pos (x ∷ xs) ≡ Some x
 stopped table pos x xs h = ap (λ (k : ℕ). slice_get (x ∷ xs) k) (fails (below table pos) x xs h)
 
-found_in : (table pos : ℕ) (before own behind : List Change) → AreBefore table pos before → AreBehind table pos behind
+pub found_in : (table pos : ℕ) (before own behind : List Change) → AreBefore table pos before → AreBehind table pos behind
     → found table pos (before ++ (own ++ behind)) ≡ or_else (found table pos own) (slice_get behind 0)
 found_in table pos [] [] [] all more = refl
 found_in table pos [] [] (y ∷ ys) all more = stopped table pos y ys (ap is_lt more.0)
@@ -39,7 +39,7 @@ found_in table pos [] (x ∷ xs) behind all more =
     ]
 found_in table pos (x ∷ xs) own behind all more = passed table pos x (xs ++ (own ++ behind)) (ap is_lt all.0) ∙ found_in table pos xs own behind all.1 more
 
-placed : (a b : Option Change) → option_map place_of (or_else a b) ≡ or_else (option_map place_of a) (option_map place_of b)
+pub placed : (a b : Option Change) → option_map place_of (or_else a b) ≡ or_else (option_map place_of a) (option_map place_of b)
 placed None b = refl
 placed (Some x) b = refl
 

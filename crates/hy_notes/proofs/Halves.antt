@@ -10,7 +10,7 @@ use Rattle.hy_notes.specs.Blocks.{joined, notes_at, notes_before, notes_behind, 
 use Rattle.hy_notes.proofs.Joined.{all_get, all_set, all_insert, length_set, length_insert}
 use Rattle.hy_notes.proofs.Edits.{put_low, put_high}
 
-take_more : (xs : List (Vec Change)) (k : ℕ) (d : Vec Change) → k < length xs → joined (take (suc k) xs) ≡ joined (take k xs) ++ (get_or xs k d).items
+pub take_more : (xs : List (Vec Change)) (k : ℕ) (d : Vec Change) → k < length xs → joined (take (suc k) xs) ≡ joined (take k xs) ++ (get_or xs k d).items
 take_more [] k d l = absurd (omega (arith, l))
 take_more (x ∷ xs) zero d l = append-nil x.items
 take_more (x ∷ xs) (suc k) d l =

@@ -7,3 +7,9 @@ pub mod Edits
 pub mod Halves
 pub mod Finding
 pub mod Tells
+pub mod NoteAt
+pub mod Since
+pub mod Spans
+pub mod Reading
+pub mod Opened
+pub mod LevelLists

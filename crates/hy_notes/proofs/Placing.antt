@@ -44,7 +44,7 @@ not_le Less h = absurd (cc)
 not_le Equal h = absurd (cc)
 not_le Greater h = refl
 
-all_behind : (n : Change) (ys : List Change) (table pos : ℕ) → order_of n table pos ≡ Greater → AllByRecursion (λ later. note_cmp n later ≡ Less) ys → AreBehind table pos ys
+pub all_behind : (n : Change) (ys : List Change) (table pos : ℕ) → order_of n table pos ≡ Greater → AllByRecursion (λ later. note_cmp n later ≡ Less) ys → AreBehind table pos ys
 all_behind n [] table pos e all = tt
 all_behind n (y ∷ ys) table pos e all = (behind_lt n y table pos e all.0, all_behind n ys table pos e all.1)
 
@@ -108,7 +108,7 @@ begun_first table pos (x ∷ xs) up all (suc i) zero d le l h = absurd (omega (a
 begun_first table pos (x ∷ xs) up all (suc i) (suc j) d le l h =
     begun_first table pos xs (ascends_right x.items (joined xs) up) all.1 i j d (omega (arith, le)) (omega (arith, l)) h
 
-own_with : (new : Change) (own behind : List Change) → AreBehind new.table new.pos behind → with_note new (own ++ behind) ≡ with_note new own ++ behind
+pub own_with : (new : Change) (own behind : List Change) → AreBehind new.table new.pos behind → with_note new (own ++ behind) ≡ with_note new own ++ behind
 own_with new [] [] all = refl
 own_with new [] (y ∷ ys) all = ap (λ (o : Ordering). by_order o (y ∷ with_note new ys) (with_after y new.after ∷ ys) (new ∷ y ∷ ys)) all.0
 own_with new (x ∷ xs) behind all =

@@ -62,13 +62,13 @@ tells_more new (n ∷ ns) table pos up = step (order_of n new.table new.pos) ref
 pub notes_tell_more : NotesTell
 notes_tell_more new notes table pos up = (tells_more new notes table pos up, ascends_with new notes up)
 
-at_itself : (n : Change) → at n n.table n.pos ≡ true
+pub at_itself : (n : Change) → at n n.table n.pos ≡ true
 at_itself n = at_place n n.table n.pos refl refl
 
-found : (n : Change) (ns : List Change) (table pos : ℕ) → at n table pos ≡ true → note_at (n ∷ ns) table pos ≡ Some (n.before, n.after)
+pub found : (n : Change) (ns : List Change) (table pos : ℕ) → at n table pos ≡ true → note_at (n ∷ ns) table pos ≡ Some (n.before, n.after)
 found n ns table pos h = ap (λ (b : Bool). if b then Some (n.before, n.after) else note_at ns table pos) h
 
-passed : (n : Change) (ns : List Change) (table pos : ℕ) → at n table pos ≡ false → note_at (n ∷ ns) table pos ≡ note_at ns table pos
+pub passed : (n : Change) (ns : List Change) (table pos : ℕ) → at n table pos ≡ false → note_at (n ∷ ns) table pos ≡ note_at ns table pos
 passed n ns table pos h = ap (λ (b : Bool). if b then Some (n.before, n.after) else note_at ns table pos) h
 
 -- a note before all of some is not told by them

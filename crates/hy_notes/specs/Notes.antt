@@ -1,5 +1,5 @@
 -- Notes of a transaction, by table and then position.
-use Rattle.std.specs.Prelude.{◌≡◌, ℕ, List, [], ◌∷◌, Bool, ◌&&◌, ◌||◌, ◌==◌, Option, None, Some, is_some, if◌then◌else◌}
+use Rattle.std.specs.Prelude.{◌≡◌, ℕ, List, [], ◌∷◌, map, Bool, ◌&&◌, ◌||◌, ◌==◌, nat_le, nat_lt, Option, None, Some, is_some, if◌then◌else◌}
 use Rattle.std.specs.List.{AllByRecursion}
 use Rattle.std.specs.Ordering.{ordering_then, nat_cmp, is_lt, is_eq}
 use Rattle.std.specs.declared.cmp.Ordering.{Ordering}
@@ -36,11 +36,24 @@ with_note new (note ∷ notes) =
     else if is_eq (order_of note new.table new.pos) then with_after note new.after ∷ notes
     else new ∷ note ∷ notes
 
+-- each of these lists of notes with more changes, one after another
+abbrev pub noted_in_all : List Change → List (List Change) → List (List Change)
+noted_in_all [] levels = levels
+noted_in_all (change ∷ changes) levels = noted_in_all changes (map (with_note change) levels)
+
+-- what a note tells of its position: the row before and the row after
+abbrev pub told_by : Change → Cell × Cell
+told_by note = (note.before, note.after)
+
 -- what is noted at a position: the row before and the row after
 abbrev pub note_at : List Change → ℕ → ℕ → Option (Cell × Cell)
 note_at [] table pos = None
 note_at (note ∷ notes) table pos =
     if note.table == table && note.pos == pos then Some (note.before, note.after) else note_at notes table pos
+
+-- a note of a table at a position from this one on, up to that one
+abbrev pub is_between : ℕ → ℕ → ℕ → Change → Bool
+is_between table from to note = note.table == table && (nat_le from note.pos && nat_lt note.pos to)
 
 -- a row was there or is there
 abbrev pub is_change : Change → Bool

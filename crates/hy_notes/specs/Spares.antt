@@ -1,13 +1,23 @@
 -- Spare buffers for rows.
-use Rattle.std.specs.Prelude.{ℕ, ◌-◌, ◌≤◌, ◌/◌, List, Option, None, Some, length, min}
+use Rattle.std.specs.Prelude.{ℕ, ◌-◌, ◌≤◌, ◌/◌, List, Option, None, Some, length, min, Bool, nat_lt, vec_len, if◌then◌else◌}
 use Rattle.std.specs.List.{AllByRecursion}
 use Rattle.hy_value.specs.declared.Value.{Value}
 use Rattle.hy_value.specs.Cells.{texts_in}
 use Rattle.hy_value.specs.Roomy.{Roomy}
+use Rattle.hy_notes.specs.declared.blocks.Blocks.{Blocks}
+use Rattle.hy_notes.specs.declared.levels.Levels.{Levels}
 
--- for how many more notes there is room: each takes two rows at most
-abbrev pub rooms : ℕ → ℕ → ℕ → ℕ
-rooms limit count spare = min (limit - count) (spare / 2)
+-- how many rows a note takes at most: its row before and its row after, and one more where a level is open
+abbrev pub rows_by : Bool → ℕ
+rows_by opened = if opened then 3 else 2
+
+-- for how many more notes there is room where there is room for so many notes, and as many in the newest stretch of levels
+abbrev pub room_by : Bool → ℕ → ℕ → ℕ → ℕ
+room_by opened notes stretch spare = if opened then min notes (min stretch (spare / 3)) else min notes (spare / 2)
+
+-- for how many more notes there is room
+abbrev pub rooms : Blocks → Levels → ℕ → ℕ
+rooms notes levels spare = room_by (nat_lt 0 (vec_len levels.begins)) (notes.limit - notes.count) (levels.newest.limit - levels.newest.count) spare
 
 -- a buffer has room for so many values, of which so many are texts
 pub record IsSpare (width texts : ℕ) (buffer : Roomy) : Type 0 where

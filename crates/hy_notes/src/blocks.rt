@@ -1,15 +1,16 @@
 //! Notes in blocks: lists of bounded length, one behind the other, so that one more note moves few of them.
 
-ghost use Rattle.std.specs.Prelude.{◌≡◌, ◌++◌, ◌+◌, ◌<◌, ◌≤◌, [], IfOk, OnOk, OnErr, IfSome, IsTrue, not as negated};
+ghost use Rattle.std.specs.Prelude.{◌≡◌, ◌++◌, ◌+◌, ◌<◌, ◌≤◌, List, [], IfOk, OnOk, OnErr, IfSome, IsTrue, not as negated};
 ghost use Rattle.std.specs.Prelude.{◌^◌, ◌*◌, max, None, Some, true, false, length, drop, take, map, option_map};
 ghost use Rattle.std.specs.Prelude.{slice_get, slice_index_or, slice_set, vec_len, vec_capacity};
 ghost use Rattle.std.specs.List.{AllByRecursion, prefix_len, insert};
 ghost use Rattle.std.specs.List.Sorted.{IsPartitionPoint};
 ghost use Rattle.std.specs.Ordering.{is_eq};
 ghost use Rattle.hy_value.specs.declared.change.Change.{Change};
-ghost use Rattle.hy_notes.specs.Notes.{Ascends, order_of, below, with_after, place_of};
+ghost use Rattle.std.specs.Option.{option_copied};
+ghost use Rattle.hy_notes.specs.Notes.{Ascends, order_of, below, with_after, with_note, note_at, told_by, place_of};
 ghost use Rattle.hy_notes.specs.Blocks.{joined, notes_in, begins, notes_at, notes_before, notes_behind, IsWithin, next_block};
-ghost use Rattle.hy_notes.specs.Blocks.{IsPlace, IsLater, IsBlank, AreBlocks};
+ghost use Rattle.hy_notes.specs.Blocks.{IsPlace, IsLater, IsBlank, AreBlocks, AreBehind};
 
 use crate::NotedPlace;
 use hy_value::{Change, StoredRow};
@@ -235,7 +236,7 @@ fn add_blocks(
 }
 
 /// The place of a note.
-fn place(note: &Change) -> NotedPlace
+pub fn place(note: &Change) -> NotedPlace
     ensures { result ≡ place_of note.now }
 {
     NotedPlace {
@@ -405,6 +406,60 @@ impl Blocks {
         } else {
             self.put_within(Some(behind(block)), at - LEAST, note);
         }
+    }
+
+    /// The note of a position, if it is noted.
+    pub fn note_of(&self, table: u32, pos: u64) -> Option<&Change>
+        requires sound { AreBlocks self.now }
+        requires ascends { Ascends (notes_in self.now) }
+        ensures { option_map told_by (option_copied result) ≡ note_at (notes_in self.now) table pos }
+    {
+        let block = self.find(table, pos);
+        let notes = self.notes(block);
+        let at = count_below(notes, table, pos);
+        if is_noted(notes, at, table, pos) {
+            Some(&notes[at])
+        } else {
+            None
+        }
+    }
+
+    /// Puts a note of a position that isn't noted. It takes no memory.
+    pub fn put_new(&mut self, note: Change)
+        requires sound { AreBlocks self.old }
+        requires ascends { Ascends (notes_in self.old) }
+        requires room { self.old.count < self.old.limit }
+        requires new { note_at (notes_in self.old) note.table note.pos ≡ None }
+        ensures notes { notes_in self.new ≡ with_note note (notes_in self.old) }
+        ensures sound { AreBlocks self.new }
+        ensures count { self.new.count ≡ self.old.count + 1 }
+        ensures limit { self.new.limit ≡ self.old.limit }
+    {
+        let (table, pos) = (note.table, u64::from(note.pos));
+        let block = self.find(table, pos);
+        let at = count_below(self.notes(block), table, pos);
+        self.put_note(block, at, note);
+    }
+
+    /// The blocks behind one.
+    pub fn behind(&self, block: Option<usize>) -> &[Vec<Change>]
+        requires sound { AreBlocks self.now }
+        requires block { IsWithin self.now block }
+        ensures { joined result.now ≡ notes_behind self.now block }
+    {
+        &self.later.as_slice()[behind(block)..]
+    }
+
+    /// The blocks behind one up to that of a position. No later one has notes before the position.
+    pub fn behind_up_to(&self, block: Option<usize>, table: u32, pos: u64) -> &[Vec<Change>]
+        requires sound { AreBlocks self.now }
+        requires ascends { Ascends (notes_in self.now) }
+        requires block { IsWithin self.now block }
+        ensures { (rest : List Change) × (notes_behind self.now block ≡ joined result.now ++ rest) × AreBehind table pos rest }
+    {
+        let from = behind(block);
+        let to = behind(self.find(table, pos));
+        &self.later.as_slice()[from..from.max(to)]
     }
 
     /// Makes room for so many more notes. It fails only where that room was missing; the notes stay, and there is

@@ -1,4 +1,5 @@
-//! What a transaction writes, noted position by position with its row before and its row after.
+//! What a transaction writes, noted position by position with its row before and its row after; and the same of what it
+//! writes since each of some moments, the levels.
 //!
 //! Room for the rows is made before, so that a note needs no memory.
 #![tactic(auto)]
@@ -9,6 +10,7 @@ ghost use Rattle.hy_notes.specs.Telling.{NotesTell, TellingIsOne};
 
 mod blocks;
 mod changes;
+mod levels;
 mod rows;
 
 pub use changes::Changes;

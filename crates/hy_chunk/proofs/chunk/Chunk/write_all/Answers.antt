@@ -1,4 +1,4 @@
-use Rattle.std.proofs.Common.{◌≡◌, ℕ, ◌+◌, ◌<◌, ◌≤◌, Bool, true, false, List, length, Option, None, Some, Ok, refl, sym, ap, ◌∙◌, cond, subst, arith, inl, inr}
+use Rattle.std.proofs.Common.{◌≡◌, ℕ, ◌+◌, ◌<◌, ◌≤◌, Bool, true, false, List, length, map, Option, None, Some, Ok, refl, sym, ap, ◌∙◌, cond, subst, arith, inl, inr}
 use Rattle.std.proofs.lemmas.Bool.{cases_eq}
 use Rattle.hy_value.specs.declared.Kind.{Kind}
 use Rattle.hy_chain.specs.Chains.{seen}
@@ -13,12 +13,12 @@ use Rattle.hy_chunk.specs.Fields.{nth}
 use Rattle.hy_chunk.specs.Keyed.{SameKey}
 use Rattle.hy_chunk.specs.Sound.{FitsRow}
 use Rattle.hy_chunk.specs.Views.{Whole}
-use Rattle.hy_chunk.specs.Writes.{FitsWrite, sets_of, refusal_in, judged_at, IsDone}
+use Rattle.hy_chunk.specs.Writes.{FitsWrite, sets_of, refusal_in, judged_at, notes_with, IsDone}
 use Rattle.hy_chunk.proofs.Candidates.{reach, at_reach, inside_at, reach_past, reach_within, reach_rises, none_in_front, none_between}
 use Rattle.hy_chunk.proofs.Over.{fits_length}
 use Rattle.hy_chunk.proofs.TextRoom.{texts_fit}
 use Rattle.hy_chunk.proofs.Sweeping.{unselected, is_live, new_judged, without_rival, is_in_range, is_in_place, here_ok, sets_within}
-use Rattle.hy_chunk.proofs.SweepSteps.{SweptTo, swept_none, swept_past, swept_one, swept_all}
+use Rattle.hy_chunk.proofs.SweepSteps.{SweptTo, swept_none, swept_past, swept_one, swept_all, InLevels, levels_none, levels_past, levels_one, levels_all}
 use Rattle.hy_chunk.specs.Settled.{Settles}
 use Rattle.hy_chunk.proofs.chunk.Chunk.write_all.Goals as goal
 
@@ -128,7 +128,7 @@ write_at-requires-clause-live c =
     let is : version ≡ seen before viewer p.version p.chain = c.see.ensures.version ∙ ap (λ (q : Place). seen before viewer q.version q.chain) same in
     let ok : refusal_in (judged_at sets pred viewer (first + k) p) ≡ None = here_ok sets pred viewer c.self.inside.table first olds k l here.ok in
     let yes : truth_at pred (cell_of version) ≡ true = sym c.is_selected.ensures ∙ c.if-not-is_selected.false in
-    ap (λ (q : Place). q.version.live) same ∙ (ap (λ (x : Version). x.live) (sym (is_in_place sets pred viewer (first + k) p version is yes ok))
+    λ not_own. ap (λ (q : Place). q.version.live) same ∙ (ap (λ (x : Version). x.live) (sym (is_in_place sets pred viewer (first + k) p version is yes ok))
     ∙ is_live sets pred viewer (first + k) p version is yes)
 
 pub write_at-requires-clause-fits : goal.write_at-requires-clause-fits
@@ -255,6 +255,7 @@ loop-i-init c =
     let table = c.self.inside.table in
     let ok : refusal_in (swept sets pred viewer first olds) ≡ None =
     ap (λ (w : Whole). refusal_in (swept sets pred viewer w.shown.first w.shown.places)) c.self.view_is ∙ c.requires.ok in
+    let none = swept_none sets pred viewer c.args.label table first olds notes ok in
     record {
       table = refl;
       first = refl;
@@ -264,8 +265,10 @@ loop-i-init c =
       next = c.self.invariant.next_wide;
       wide = c.self.invariant.wide;
       sweep = swept_past sets pred viewer c.args.label table first olds notes olds notes 0 0 (reach found olds 0) (omega arith)
-          (reach_within pred key olds found candidates 0) (none_in_front pred key olds found candidates c.keys_stay.ensures sets viewer first)
-          (swept_none sets pred viewer c.args.label table first olds notes ok);
+          (reach_within pred key olds found candidates 0) (none_in_front pred key olds found candidates c.keys_stay.ensures sets viewer first) none;
+      levels = levels_past sets pred viewer c.args.label table first olds notes c.args.changes.now.levels c.args.changes.now.levels 0 (reach found olds 0)
+          (omega arith) (reach_within pred key olds found candidates 0) (none_in_front pred key olds found candidates c.keys_stay.ensures sets viewer first)
+          none.ok (levels_none sets pred viewer c.args.label table first olds notes c.args.changes.now.levels);
       room = omega arith;
       notes_room = omega arith;
       notes_width = refl;
@@ -317,6 +320,10 @@ loop-i-preserved-then-not-is_selected c =
       wide = fits_length c.loop-i.self-inside.positions.kinds c.see.new.version.row c.see.ensures.fits ∙ ap (λ (kinds : List Kind). length kinds) v.kinds;
       sweep = swept_past sets pred viewer c.args.label c.self.inside.table first olds notes news c.loop-i.changes.notes c.loop-i.written k
           (reach found olds (i + 1)) (omega (arith, rises)) (reach_within pred key olds found candidates (i + 1)) skips here;
+      levels = levels_past sets pred viewer c.args.label c.self.inside.table first olds notes c.args.changes.now.levels c.loop-i.changes.levels k
+          (reach found olds (i + 1)) (omega (arith, rises)) (reach_within pred key olds found candidates (i + 1)) skips here.ok
+          (subst (InLevels sets pred viewer c.args.label c.self.inside.table first olds notes c.args.changes.now.levels c.loop-i.changes.levels)
+          (sym is_k) v.levels);
       room = omega (arith, v.room);
       notes_room = omega (arith, v.notes_room);
       notes_width = v.notes_width;
@@ -359,10 +366,15 @@ loop-i-preserved c =
     let notes = c.args.changes.now.notes in
     let told : c.note.new.changes.notes ≡ with_note (record { table = table; pos = first + k; before = sees viewer p; after = cell }) c.loop-i.changes.notes =
     c.note.ensures.notes ∙ λ j. with_note (record { table = v.table j; pos = v.first j + k; before = saw j; after = cell }) c.loop-i.changes.notes in
+    let told_levels : c.note.new.changes.levels
+    ≡ map (with_note (record { table = table; pos = first + k; before = sees viewer p; after = cell })) c.loop-i.changes.levels =
+    c.note.ensures.levels ∙ λ j. map (with_note (record { table = v.table j; pos = v.first j + k; before = saw j; after = cell })) c.loop-i.changes.levels in
     let after = c.write_at.new.self.places in
     let one = swept_one sets pred viewer c.args.label table first olds notes c.loop-i.self-inside.positions.places after c.loop-i.changes.notes
     c.note.new.changes.notes c.loop-i.written k cell l some c.write_at.ensures.places c.write_at.ensures.written told here in
     let rises : k + 1 ≤ reach found olds (i + 1) = omega (arith, is_k, reach_rises pred key olds found candidates i inside) in
+    let skips : (j : ℕ) → k + 1 ≤ j → j < reach found olds (i + 1) → judged_at sets pred viewer (first + j) (nth olds j) ≡ Ok None =
+    λ j low high. none_between pred key olds found candidates c.keys_stay.ensures sets viewer first i inside j (omega (arith, low, is_k)) high in
     let wide : length version.row ≡ length c.self.inside.positions.kinds =
     fits_length c.loop-i.self-inside.positions.kinds c.see.new.version.row c.see.ensures.fits ∙ ap (λ (kinds : List Kind). length kinds) v.kinds in
     record {
@@ -375,8 +387,12 @@ loop-i-preserved c =
       next = c.make_next.ensures.size ∙ wide;
       wide = wide;
       sweep = swept_past sets pred viewer c.args.label table first olds notes after c.note.new.changes.notes (c.loop-i.written + 1) (k + 1)
-          (reach found olds (i + 1)) rises (reach_within pred key olds found candidates (i + 1))
-          (λ j low high. none_between pred key olds found candidates c.keys_stay.ensures sets viewer first i inside j (omega (arith, low, is_k)) high) one;
+          (reach found olds (i + 1)) rises (reach_within pred key olds found candidates (i + 1)) skips one;
+      levels = levels_past sets pred viewer c.args.label table first olds notes c.args.changes.now.levels c.note.new.changes.levels (k + 1)
+          (reach found olds (i + 1)) rises (reach_within pred key olds found candidates (i + 1)) skips one.ok
+          (levels_one sets pred viewer c.args.label table first olds notes c.args.changes.now.levels c.loop-i.changes.levels c.note.new.changes.levels k cell
+          l some here.ok told_levels
+          (subst (InLevels sets pred viewer c.args.label table first olds notes c.args.changes.now.levels c.loop-i.changes.levels) (sym is_k) v.levels));
       room = omega (arith, v.room, c.write_at.ensures.room);
       notes_room = omega (arith, v.notes_room, c.note.ensures.room);
       notes_width = c.note.ensures.width ∙ v.notes_width;
@@ -422,6 +438,20 @@ returns-clause-done c =
     news notes c.loop-i.changes.notes c.loop-i.written) c.self.view_is
     (swept_all sets pred viewer c.args.label c.self.inside.table first olds notes news c.loop-i.changes.notes c.loop-i.written
     (reach found olds c.loop-i.i) end ok c.loop-i.invariant.sweep)
+
+pub returns-clause-levels : goal.returns-clause-levels
+returns-clause-levels c =
+    let sets = sets_of c.args.sweep.now.kind.now in
+    let pred = c.args.sweep.now.pred.now in
+    let viewer = c.args.sweep.now.viewer.now in
+    let olds = c.self.inside.positions.places in
+    let found = c.args.sweep.now.places.now in
+    let levels = c.args.changes.now.levels in
+    let end : length olds ≤ reach found olds c.loop-i.i = reach_past found olds c.loop-i.i (omega (arith, c.loop-i-test.false)) in
+    levels_all sets pred viewer c.args.label c.self.inside.table c.self.inside.first olds c.args.changes.now.notes levels c.loop-i.changes.levels
+    (reach found olds c.loop-i.i) end c.loop-i.invariant.levels
+    ∙ ap (λ (w : Whole). map (notes_with w.shown.table w.shown.first viewer (swept sets pred viewer w.shown.first w.shown.places) w.shown.places) levels)
+    c.self.view_is
 
 pub returns-clause-room : goal.returns-clause-room
 returns-clause-room c =

@@ -1,7 +1,7 @@
 use Rattle.std.proofs.Common.{◌≡◌, ◌+◌, ◌≤◌, length}
 use Rattle.hy_chunk.specs.Writes.{sets_of}
 use Rattle.hy_chunk.proofs.Candidates.{reach}
-use Rattle.hy_chunk.proofs.SweepSteps.{SweptTo}
+use Rattle.hy_chunk.proofs.SweepSteps.{SweptTo, InLevels}
 use Rattle.hy_chunk.specs.Settled.{Settles}
 use Rattle.hy_chunk.proofs.chunk.Chunk.write_all.Given as goal
 
@@ -17,6 +17,9 @@ invariant-loop-i l = record {
   settles : Settles l.self-inside.settled l.self-inside.positions.places;
   sweep : SweptTo (sets_of l.sweep.kind.now) l.sweep.pred.now l.sweep.viewer.now l.label l.initial.self-inside.table l.initial.self-inside.first
       l.initial.self-inside.positions.places l.initial.changes.notes l.self-inside.positions.places l.changes.notes l.written
+      (reach l.sweep.places.now l.initial.self-inside.positions.places l.i);
+  levels : InLevels (sets_of l.sweep.kind.now) l.sweep.pred.now l.sweep.viewer.now l.label l.initial.self-inside.table l.initial.self-inside.first
+      l.initial.self-inside.positions.places l.initial.changes.notes l.initial.changes.levels l.changes.levels
       (reach l.sweep.places.now l.initial.self-inside.positions.places l.i);
   room : l.initial.self-inside.positions.room ≤ l.self-inside.positions.room + l.i;
   notes_room : l.initial.changes.room ≤ l.changes.room + l.i;

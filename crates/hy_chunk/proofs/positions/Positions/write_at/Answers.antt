@@ -8,7 +8,7 @@ use Rattle.std.proofs.Common.{◌≡◌, ℕ, Bool, true, false, List, [], ◌�
 use Rattle.std.specs.Prelude.{◌&&◌, not}
 use Rattle.std.proofs.Math.ListN.{set}
 use Rattle.hy_value.specs.declared.Kind.{Kind}
-use Rattle.hy_chain.specs.Chains.{Undo, without_own}
+use Rattle.hy_chain.specs.Chains.{Undo, newest, without_own}
 use Rattle.hy_undo.specs.Images.{Image}
 use Rattle.hy_chunk.specs.Keyed.{key_kind}
 use Rattle.hy_chunk.specs.Views.{Held}
@@ -17,7 +17,9 @@ use Rattle.hy_chunk.proofs.Places.{Fields, fields, at, nth_is, in_rows, in_live,
 use Rattle.hy_chunk.specs.Noting.{own_stamp}
 use Rattle.std.proofs.lemmas.List.{length-set, set-get_or}
 use Rattle.hy_chunk.proofs.WriteAt.{taken_fits, written_sound, written_places, written}
-use Rattle.hy_chunk.proofs.Vacating.{in_vacant, shows_put, used_where_live}
+use Rattle.hy_chunk.proofs.Vacating.{in_vacant, shows_put}
+use Rattle.hy_chunk.proofs.Overwriting.{used_there}
+use Rattle.hy_undo.specs.Chunks.{is_own}
 use Rattle.hy_chunk.proofs.positions.Positions.write_at.Goals as goal
 
 pub head-newest-requires : goal.head-newest-requires
@@ -96,9 +98,10 @@ invariant_of-self c =
     (subst (λ (p : Place). SameKey c.args.self.now.key c.args.version.now.row p.version.row)
     (nth_is f c.args.self.now.places c.args.place view c.requires.within) c.requires.same_key) in
     let there = nth_is f c.args.self.now.places c.args.place view c.requires.within in
-    let used : get_or f.used c.args.place false ≡ true = used_where_live (at f c.args.place)
-    (fits_there f c.self.inside.columns.kinds c.self.inside.spare c.args.self.now.places view c.self.invariant.sound c.args.place
-    c.requires.within).unused.row (ap (λ (p : Place). p.version.live) (sym there) ∙ c.requires.live) in
+    let used : get_or f.used c.args.place false ≡ true =
+    used_there c.args.viewer.now.id (at f c.args.place)
+    (subst (λ (p : Place). is_own c.args.viewer.now.id (newest p.chain) ≡ false → p.version.live ≡ true) there c.requires.live)
+    (fits_there f c.self.inside.columns.kinds c.self.inside.spare c.args.self.now.places view c.self.invariant.sound c.args.place c.requires.within).unused in
     record {
       sound = written_sound f c.self.inside.columns.kinds c.self.inside.spare c.args.self.now.places
           (ap (λ (h : Held). h.places) c.self.view_is) c.self.invariant.sound c.args.place c.requires.within c.args.viewer.now c.args.label

@@ -1,0 +1,24 @@
+use Rattle.std.proofs.Common.{◌≡◌, ℕ, List, [], get_or, drop, filter, sym, ap, ◌∙◌}
+use Rattle.hy_value.specs.declared.change.Change.{Change}
+use Rattle.hy_notes.specs.Notes.{is_between}
+use Rattle.hy_notes.specs.Blocks.{notes_in}
+use Rattle.hy_notes.specs.Levels.{noted_since, stretches_in}
+use Rattle.hy_notes.specs.Noted.{Noted}
+use Rattle.hy_notes.proofs.LevelLists.{not_open, opened_at}
+use Rattle.hy_notes.proofs.changes.Changes.notes_since.Goals as goal
+
+pub returns-in-None : goal.returns-in-None
+returns-in-None c =
+    let levels = c.self.inside.levels in
+    let since : ℕ → List Change = (λ begin. noted_since (drop begin (stretches_in levels)) (notes_in c.self.inside.notes)) in
+    let none : get_or c.args.self.now.levels c.args.level [] ≡ [] =
+    ap (λ (n : Noted). get_or n.levels c.args.level []) (sym c.self.view_is) ∙ not_open since levels.begins.items c.args.level (sym c.begin.ensures ∙ c.in-None.is) in
+    c.new.ensures ∙ sym (ap (filter (is_between c.args.table c.args.from c.args.to)) none)
+
+pub returns-in_ok-notes_between-in-Some : goal.returns-in_ok-notes_between-in-Some
+returns-in_ok-notes_between-in-Some c =
+    let levels = c.self.inside.levels in
+    let since : ℕ → List Change = (λ begin. noted_since (drop begin (stretches_in levels)) (notes_in c.self.inside.notes)) in
+    let is : get_or c.args.self.now.levels c.args.level [] ≡ since c.in-Some.begin =
+    ap (λ (n : Noted). get_or n.levels c.args.level []) (sym c.self.view_is) ∙ opened_at since levels.begins.items c.args.level c.in-Some.begin (sym c.begin.ensures ∙ c.in-Some.is) in
+    c.from_vec.ensures ∙ (c.in_ok-notes_between-in-Some.ensures ∙ sym (ap (filter (is_between c.args.table c.args.from c.args.to)) is))

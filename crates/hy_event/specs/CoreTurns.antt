@@ -20,7 +20,8 @@ use Rattle.hy_protocol.specs.declared.Progress.{Progress}
 use Rattle.hy_event.specs.Sessions.{txn_at, label_of, written_chunks}
 use Rattle.hy_event.specs.Needs.{need_of, phase_need}
 use Rattle.hy_protocol.specs.Asking.{AtCore}
-use Rattle.hy_protocol.specs.Turns.{Turn, Done, Waits, Begins, Visits, Answers, Enters, Ends, is_stamping}
+use Rattle.hy_protocol.specs.Turns.{Turn, Done, Waits, Begins, Visits, Answers, Saves, Enters, Ends, is_stamping}
+use Rattle.hy_protocol.specs.Statements.{saving_turn}
 use Rattle.hy_protocol.specs.Sessions as by_phase
 use Rattle.hy_event.specs.Turns.{TakesBy}
 
@@ -53,13 +54,13 @@ if_core need.Core turn = Some turn
 if_core (need.Chunk table chunk) turn = None
 if_core need.Done turn = None
 
--- a statement is done in chunks, and needs them: nothing is done for it at the core
-abbrev pub no_statement : ℕ → ℕ → Bound → Turn Change
-no_statement visited count statement = Done
+-- what it does for its present statement: one that opens or closes savepoints is answered here
+abbrev pub statement_turn : SessionData → CoreData → Open → ℕ → ℕ → Bound → Turn Change
+statement_turn session core now visited count statement = saving_turn (found_at_core session core now) statement
 
 -- what an open transaction does
 abbrev pub open_turn : SessionData → CoreData → Txn → Open → Phase → Turn Change
-open_turn session core txn now = by_phase.phase_turn no_statement (found_at_core session core now) txn (length now.replies)
+open_turn session core txn now = by_phase.phase_turn (statement_turn session core now) (found_at_core session core now) txn (length now.replies)
 
 abbrev pub phase_turn : SessionData → CoreData → Txn → Open → Phase → Option (Turn Change)
 phase_turn session core txn now phase = if_core (phase_need session txn now phase) (open_turn session core txn now phase)
@@ -89,6 +90,7 @@ core_after session core (Waits by) = core
 core_after session core Begins = core_begun core
 core_after session core (Visits changes phase) = core
 core_after session core (Answers changes reply took records) = core
+core_after session core (Saves statement reply) = core
 core_after session core Enters = entered_by session core session.now
 core_after session core (Ends ending) = ended_by core session.now
 

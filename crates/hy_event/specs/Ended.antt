@@ -2,7 +2,7 @@
 use Rattle.std.specs.Prelude.{ℕ, List, [], Bool, false, ◌&&◌, ◌==◌, Option, None, Some, is_some, map, count_by, zip, length}
 use Rattle.std.specs.List.{range_with_len}
 use Rattle.hy_bound.specs.declared.Bound.{Bound}
-use Rattle.hy_bound.specs.declared.Bound.TheVariants.{Select, Group, Insert, Update, Delete}
+use Rattle.hy_bound.specs.declared.Bound.TheVariants.{Select, Group, Insert, Update, Delete, Savepoint, RollbackTo, Release}
 use Rattle.hy_bound.specs.declared.Txn.{Txn}
 use Rattle.hy_bound.specs.declared.Ending.{Ending}
 use Rattle.hy_render.specs.declared.TxnOutcome.{TxnOutcome}
@@ -17,6 +17,9 @@ inserts_into table (Group other pred key aggregate) = false
 inserts_into table (Insert other row) = other == table
 inserts_into table (Update other sets pred) = false
 inserts_into table (Delete other pred) = false
+inserts_into table (Savepoint name) = false
+inserts_into table (RollbackTo name) = false
+inserts_into table (Release name) = false
 
 -- how many positions of a table answered statements took
 abbrev pub placed_in : ℕ → List Bound → List (Option ℕ) → ℕ

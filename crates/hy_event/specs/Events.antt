@@ -1,7 +1,7 @@
 -- A visit of a session to the part that it needs: what can become of the two.
 use Rattle.std.specs.Prelude.{◌≡◌, ℕ, ◌+◌, ◌*◌, Bool, true, false, Option, None, Some, slice_get, length}
 use Rattle.hy_bound.specs.declared.Bound.{Bound}
-use Rattle.hy_bound.specs.declared.Bound.TheVariants.{Select, Group, Insert, Update, Delete}
+use Rattle.hy_bound.specs.declared.Bound.TheVariants.{Select, Group, Insert, Update, Delete, Savepoint, RollbackTo, Release}
 use Rattle.hy_bound.specs.declared.Txn.{Txn}
 use Rattle.hy_bound.specs.Records.{shape_of}
 use Rattle.hy_journal.specs.declared.CoreData.{CoreData}
@@ -22,11 +22,12 @@ use Rattle.hy_event.specs.Writing.{WriteVisit}
 use Rattle.hy_event.specs.Inserting.{InsertVisit}
 use Rattle.hy_event.specs.Stamping.{StampVisit}
 use Rattle.hy_event.specs.Undoing.{UndoVisit}
+use Rattle.hy_event.specs.Backing.{BackVisit}
 use Rattle.hy_event.specs.CoreTurns.{CoreEvent}
 
 -- ---- a visit of a chunk
 
--- a visit of the present statement
+-- a visit of the present statement: SAVEPOINT and RELEASE visit no chunk
 abbrev pub StatementVisit : SessionData → Open → ℕ → ℕ → Bound → ChunkData → Progress → SessionData → ChunkData → Type 0
 StatementVisit session now visited count (Select tables ons pred items) =
     ReadVisit session now visited (Select tables ons pred items) (select_read_plan session.shapes tables ons pred items)
@@ -38,6 +39,9 @@ StatementVisit session now visited count (Update table sets pred) =
     WriteVisit session now visited count (Update table sets pred) table (Some sets) pred
 StatementVisit session now visited count (Delete table pred) =
     WriteVisit session now visited count (Delete table pred) table None pred
+StatementVisit session now visited count (Savepoint name) = λ old progress after new. ⊥
+StatementVisit session now visited count (RollbackTo name) = BackVisit session now visited name
+StatementVisit session now visited count (Release name) = λ old progress after new. ⊥
 
 -- what closes a transaction: COMMIT visits no chunk, ROLLBACK undoes from the first one
 abbrev pub ClosingVisit : SessionData → Open → Bool → ChunkData → Progress → SessionData → ChunkData → Type 0

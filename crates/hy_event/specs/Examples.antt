@@ -50,6 +50,7 @@ begun phase = record {
   took = [];
   gathered = [];
   notes = [];
+  saved = [];
   wrote = [];
   time = 0;
   phase = phase;

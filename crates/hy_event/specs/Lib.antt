@@ -9,6 +9,7 @@ pub mod Writing
 pub mod Inserting
 pub mod Stamping
 pub mod Undoing
+pub mod Backing
 pub mod CoreTurns
 pub mod Events
 pub mod Accounts

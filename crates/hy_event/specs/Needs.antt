@@ -1,7 +1,7 @@
 -- Which part a session needs for its next visit, read off the session.
 use Rattle.std.specs.Prelude.{ℕ, ◌-◌, ◌/◌, ◌%◌, List, Bool, nat_lt, Option, None, Some, slice_get, slice_index_or, length, if◌then◌else◌}
 use Rattle.hy_bound.specs.declared.Bound.{Bound}
-use Rattle.hy_bound.specs.declared.Bound.TheVariants.{Select, Group, Insert, Update, Delete}
+use Rattle.hy_bound.specs.declared.Bound.TheVariants.{Select, Group, Insert, Update, Delete, Savepoint, RollbackTo, Release}
 use Rattle.hy_bound.specs.declared.Txn.{Txn}
 use Rattle.hy_bound.specs.Records.{shape_of}
 use Rattle.hy_event.specs.declared.SessionData.{SessionData}
@@ -11,7 +11,7 @@ use Rattle.hy_protocol.specs.declared.Phase.TheVariants.{Working, Stamping, Undo
 use Rattle.hy_event.specs.declared.Need.{Need}
 use Rattle.hy_event.specs.declared.Need.TheVariants.{Core, Chunk, Done}
 use Rattle.hy_protocol.specs.Statements.{checks_of as checks_in}
-use Rattle.hy_event.specs.Sessions.{layout_of, txn_at, written_chunks}
+use Rattle.hy_event.specs.Sessions.{layout_of, txn_at, written_chunks, chunks_since}
 
 -- how many chunks an INSERT checks for its key before it takes a position
 abbrev pub checks_of : SessionData → Option ℕ → ℕ
@@ -25,18 +25,21 @@ select_need session visited tables = Chunk (slice_index_or tables (visited / ses
 abbrev pub insert_need : ℕ → ℕ → ℕ → Need
 insert_need visited table checks = if nat_lt visited checks then Chunk table visited else Chunk table (visited - checks)
 
--- a visit of the present statement
-abbrev pub statement_need : SessionData → ℕ → Bound → Need
-statement_need session visited (Select tables ons pred items) = select_need session visited tables
-statement_need session visited (Group table pred key aggregate) = Chunk table visited
-statement_need session visited (Insert table row) = insert_need visited table (checks_of session (shape_of session.shapes table).key)
-statement_need session visited (Update table sets pred) = Chunk table visited
-statement_need session visited (Delete table pred) = Chunk table visited
-
 -- a chunk that is left to do, or the core where none is
 abbrev pub chunk_or_core : Option (ℕ × ℕ) → Need
 chunk_or_core None = Core
 chunk_or_core (Some chunk) = Chunk chunk.0 chunk.1
+
+-- a visit of the present statement
+abbrev pub statement_need : SessionData → Open → ℕ → Bound → Need
+statement_need session now visited (Select tables ons pred items) = select_need session visited tables
+statement_need session now visited (Group table pred key aggregate) = Chunk table visited
+statement_need session now visited (Insert table row) = insert_need visited table (checks_of session (shape_of session.shapes table).key)
+statement_need session now visited (Update table sets pred) = Chunk table visited
+statement_need session now visited (Delete table pred) = Chunk table visited
+statement_need session now visited (Savepoint name) = Core
+statement_need session now visited (RollbackTo name) = chunk_or_core (slice_get (chunks_since session now name) visited)
+statement_need session now visited (Release name) = Core
 
 -- a stamp or an undo visit: a chunk that was written, and then the end
 abbrev pub written_need : SessionData → Open → ℕ → Need
@@ -49,7 +52,7 @@ closing_need session now commits = if commits then Core else written_need sessio
 -- a visit of the present statement, or what closes the transaction where all are answered
 abbrev pub working_need : SessionData → Txn → Open → ℕ → Option Bound → Need
 working_need session txn now visited None = closing_need session now txn.commits
-working_need session txn now visited (Some statement) = statement_need session visited statement
+working_need session txn now visited (Some statement) = statement_need session now visited statement
 
 -- what an open transaction needs, by where it stands
 abbrev pub phase_need : SessionData → Txn → Open → Phase → Need

@@ -1,6 +1,8 @@
 -- Where a session stands, and which chunks its open transaction wrote.
 use Rattle.std.specs.Prelude.{ℕ, suc, ◌+◌, ◌*◌, List, [], ◌∷◌, ◌++◌, Bool, ◌&&◌, ◌==◌, nat_le, nat_lt, Option, map, filter, slice_get, length}
 use Rattle.std.specs.List.{list_any, range_with_len}
+use Rattle.std.specs.Option.{unwrap_or}
+use Rattle.hy_bound.specs.Savepoints.{Saved, kept_by}
 use Rattle.hy_bound.specs.declared.Shape.{Shape}
 use Rattle.hy_bound.specs.declared.Txn.{Txn}
 use Rattle.hy_value.specs.declared.change.Change.{Change}
@@ -11,6 +13,7 @@ use Rattle.hy_stamp.specs.Times.{id_of}
 use Rattle.hy_protocol.specs.Asking.{Layout}
 use Rattle.hy_event.specs.declared.SessionData.{SessionData}
 use Rattle.hy_event.specs.declared.Open.{Open}
+use Rattle.hy_event.specs.declared.SavedNotes.{SavedNotes}
 use Rattle.hy_protocol.specs.declared.Phase.{Phase}
 use Rattle.hy_protocol.specs.declared.Phase.TheVariants.{Working, Stamping, Undoing}
 
@@ -59,3 +62,15 @@ chunks_from session places table (shape ∷ shapes) = chunks_in_table session pl
 -- the chunks in which an open transaction wrote, by table and then chunk
 abbrev pub written_chunks : SessionData → Open → List (ℕ × ℕ)
 written_chunks session now = chunks_from session (written now) 0 session.shapes
+
+-- a savepoint keeps what was noted since
+abbrev pub savepoint_of : SavedNotes → Saved (List Change)
+savepoint_of one = record { name = one.name; was = one.since }
+
+-- what an open transaction noted since its newest savepoint of a name; nothing where there is none
+abbrev pub notes_since : Open → List ℕ → List Change
+notes_since now name = unwrap_or (kept_by name (map savepoint_of now.saved)) []
+
+-- the chunks in which it wrote since, by table and then chunk
+abbrev pub chunks_since : SessionData → Open → List ℕ → List (ℕ × ℕ)
+chunks_since session now name = chunks_from session (map place_noted (notes_since now name)) 0 session.shapes

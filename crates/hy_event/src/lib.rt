@@ -21,7 +21,17 @@ use hy_bound::{Records, Replies, Rows, Shapes, Txns};
 use hy_protocol::Phase;
 use hy_prune::Cover;
 use hy_render::{Places, TxnOutcome};
-use hy_value::{Changes, Seq};
+use hy_value::{Changes, Seq, Text};
+
+/// A savepoint of an open transaction.
+#[derive(Drop)]
+pub struct SavedNotes {
+    /// Its name.
+    pub name: Text,
+    /// What was written since it was made, taken back or not, by table and then position: the row before is what the
+    /// transaction saw then.
+    pub since: Changes,
+}
 
 /// An open transaction.
 #[derive(Drop)]
@@ -43,6 +53,8 @@ pub struct Open {
     pub gathered: Seq<Rows>,
     /// What it wrote, by table and then position, until its entry has it.
     pub notes: Changes,
+    /// Its open savepoints, the oldest first, until its entry has its notes.
+    pub saved: Seq<SavedNotes>,
     /// The positions that it wrote, from its entry on.
     pub wrote: Places,
     /// Its commit time, from its entry on; 0 until then.

@@ -8,7 +8,7 @@ use Rattle.std.proofs.lemmas.Bool.{cases_eq, cases_lt}
 use Rattle.std.proofs.lemmas.List.Elements.{Contains-push_cases}
 use Rattle.std.proofs.lemmas.Option.{same_Some, slice_get_within, get_or_from_slice_get}
 use Rattle.hy_bound.specs.declared.Bound.{Bound}
-use Rattle.hy_bound.specs.declared.Bound.TheVariants.{Select, Group, Insert, Update, Delete}
+use Rattle.hy_bound.specs.declared.Bound.TheVariants.{Select, Group, Insert, Update, Delete, Savepoint, RollbackTo, Release}
 use Rattle.hy_prune.specs.declared.Cover.{Cover}
 use Rattle.hy_prune.specs.Fates.{watermark_of}
 use Rattle.hy_prune.specs.OpenStarts.{Rise}
@@ -207,6 +207,9 @@ module _ (setting : Setting) (state : State) (core : CoreData) (sessions : List 
   gathers_nothing tables (Some (Insert table row)) = refl
   gathers_nothing tables (Some (Update table sets pred)) = refl
   gathers_nothing tables (Some (Delete table pred)) = refl
+  gathers_nothing tables (Some (Savepoint name)) = refl
+  gathers_nothing tables (Some (RollbackTo name)) = refl
+  gathers_nothing tables (Some (Release name)) = refl
 
   abbrev visited_in : Phase → ℕ
   visited_in (phase.Working visited count) = visited
@@ -226,8 +229,11 @@ module _ (setting : Setting) (state : State) (core : CoreData) (sessions : List 
     };
     open_shows = record { prefix = entries_long; replies = refl; records = refl; took = refl; phase = refl };
     notes_show = λ unmarked. record {
-      notes = λ table pos. sym (ap (λ own. noted (pair_of (item_at (snapshot setting state (length state.order)) table pos) own)) (nothing_own setting table pos));
-      ascends = tt;
+      all = record {
+        each = λ table pos. sym (ap (λ own. noted (pair_of (item_at (snapshot setting state (length state.order)) table pos) own)) (nothing_own setting table pos));
+        ascends = tt;
+      };
+      saved = tt;
     };
     gathered_shows = λ visited count e.
         subst (λ (n : ℕ). GatheredBy setting (view setting after (begun_there setting state).begun) n []
@@ -261,7 +267,7 @@ module _ (setting : Setting) (state : State) (core : CoreData) (sessions : List 
     low_counts = show.low_counts;
     cover_holds = record { below = show.cover_holds.below; held = held_still its.cover show.cover_holds.held };
     open_shows = show.open_shows;
-    notes_show = λ unmarked. let notes = show.notes_show unmarked in record { notes = notes.notes; ascends = notes.ascends };
+    notes_show = λ unmarked. let notes = show.notes_show unmarked in record { all = notes.all; saved = notes.saved };
     gathered_shows = λ visited count e.
         subst (λ (done : List Finished). GatheredBy setting (view setting state present.begun) visited its.gathered
         (statement_at (slice_get (program_of setting other) (length done)) (length its.replies))) (done_same other) (show.gathered_shows visited count e);

@@ -50,7 +50,7 @@ wrote_is setting state parts sessions number session now current at quiet =
     open_is = open_shown setting state at.shown.shows.core sessions number session now current at.shown.shows.sessions_show at.is_open
 
     noted : InOrder (map place_noted now.notes)
-    noted = notes_in_order now.notes (open_is.notes_show (not_marked setting state number current at.shown.kept at.is_open.open_there quiet)).ascends
+    noted = notes_in_order now.notes (open_is.notes_show (not_marked setting state number current at.shown.kept at.is_open.open_there quiet)).all.ascends
 
     by : (stands : Phase) → current.phase ≡ stands → InOrder (written_in now stands)
     by (phase.Working visited count) there = noted

@@ -145,7 +145,7 @@ module _ (setting : Setting) (state : State) (core : CoreData) (sessions : List 
     open_shows = shows.open_shows;
     notes_show = λ _.
         let notes = shows.notes_show (unmarked other apart) in
-        record { notes = notes.notes; ascends = notes.ascends };
+        record { all = notes.all; saved = notes.saved };
     gathered_shows = λ visited count e.
         subst (λ (one : Session). GatheredBy setting (view setting state there.begun) visited present.gathered
         (statement_at (txn_at setting other one) (length present.replies)))

@@ -5,7 +5,7 @@ use Rattle.std.specs.Prelude.{◌&&◌, is_some, slice_get, zip}
 use Rattle.std.specs.List.{range_with_len}
 use Rattle.std.proofs.lemmas.List.Sums.{sum_by-cons}
 use Rattle.hy_bound.specs.declared.Bound.{Bound}
-use Rattle.hy_bound.specs.declared.Bound.TheVariants.{Select, Group, Insert, Update, Delete}
+use Rattle.hy_bound.specs.declared.Bound.TheVariants.{Select, Group, Insert, Update, Delete, Savepoint, RollbackTo, Release}
 use Rattle.hy_bound.specs.declared.Reply.{Reply}
 use Rattle.hy_bound.specs.declared.Txn.{Txn}
 use Rattle.hy_bound.specs.declared.Ending.{Ending}
@@ -31,6 +31,9 @@ same_inserts table (Group other pred key aggregate) = refl
 same_inserts table (Insert other row) = refl
 same_inserts table (Update other sets pred) = refl
 same_inserts table (Delete other pred) = refl
+same_inserts table (Savepoint name) = refl
+same_inserts table (RollbackTo name) = refl
+same_inserts table (Release name) = refl
 
 same_placed : (table : ℕ) (statements : List Bound) (took : List (Option ℕ)) → placed_in table statements took ≡ placed_there table statements took
 same_placed table [] took = refl

@@ -94,8 +94,8 @@ module _ (setting : Setting) (state : State) (core : CoreData) (sessions : List 
   entry_shows : EntryShows entry note
   entry_shows = record {
     label = same_label setting state core number session (sessions_show.each number session is.found);
-    notes = λ table pos. notes_show.notes table pos ∙ ap noted (sym (entry_at (snapshot setting state current.begun.prefix) current.begun.own table pos));
-    ascends = notes_show.ascends;
+    notes = λ table pos. notes_show.all.each table pos ∙ ap noted (sym (entry_at (snapshot setting state current.begun.prefix) current.begun.own table pos));
+    ascends = notes_show.all.ascends;
   }
 
   entries_show : EntriesShow after.order core_then.entries

@@ -35,7 +35,7 @@ use Rattle.hy_refinement.specs.Places.{IsOwnStamp, IsOfWriter, IsLastWriter, Own
 use Rattle.hy_refinement.specs.Rivals.{ShownAt}
 use Rattle.hy_refinement.specs.Frames.{gone_on, sessions_on}
 use Rattle.hy_refinement.proofs.Stamps.{first_of, behind, empty_or, here_or, nothing, apart_all}
-use Rattle.hy_refinement.proofs.WrittenPlaces.{own_among}
+use Rattle.hy_machine.specs.WrittenPlaces.{own_among}
 use Rattle.hy_refinement.proofs.LastCells.{any_true}
 use Rattle.hy_refinement.proofs.Holders.{is_there}
 use Rattle.hy_refinement.proofs.Rivals.{own_there}

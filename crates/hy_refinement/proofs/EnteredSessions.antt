@@ -1,5 +1,5 @@
 -- The sessions show the state after a transaction entered the journal.
-use Rattle.std.proofs.Common.{◌≡◌, ℕ, ◌≤◌, List, [], ◌∷◌, ◌++◌, length, Option, None, Some, refl, sym, ap, ◌∙◌}
+use Rattle.std.proofs.Common.{◌≡◌, ℕ, ◌≤◌, List, [], ◌∷◌, ◌++◌, length, map, Option, None, Some, refl, sym, ap, ◌∙◌}
 use Rattle.std.proofs.Common.{subst, arith, inl, inr}
 use Rattle.std.specs.Prelude.{slice_get}
 use Rattle.std.proofs.lemmas.Bool.{cases_eq, cases_lt}
@@ -11,7 +11,8 @@ use Rattle.hy_journal.specs.Core.{core_entered, entry_of as note_of}
 use Rattle.hy_prune.specs.Fates.{watermark_of}
 use Rattle.hy_event.specs.declared.SessionData.{SessionData}
 use Rattle.hy_event.specs.declared.Open.{Open}
-use Rattle.hy_event.specs.Sessions.{label_of as label_here}
+use Rattle.hy_bound.specs.SavedRelations.{AreAlike}
+use Rattle.hy_event.specs.Sessions.{label_of as label_here, savepoint_of}
 use Rattle.hy_machine.specs.declared.Setting.{Setting}
 use Rattle.hy_machine.specs.States.{State, Session, Finished, Open as MachineOpen}
 use Rattle.hy_machine.specs.Positions.{item_at}
@@ -21,7 +22,7 @@ use Rattle.hy_machine.specs.Outcomes.{outcomes_from}
 use Rattle.hy_machine.specs.Kept.{Kept}
 use Rattle.hy_refinement.specs.Transactions.{IsOpen}
 use Rattle.hy_refinement.specs.Numbers.{CoreShows, noted}
-use Rattle.hy_refinement.specs.Sessions.{CountsBelow, CoverHolds, OpenShows, NowShows, SessionShows, GatheredBy, statement_at}
+use Rattle.hy_refinement.specs.Sessions.{CountsBelow, CoverHolds, NotesHave, SinceHave, OpenShows, NowShows, SessionShows, GatheredBy, statement_at}
 use Rattle.hy_refinement.specs.Shows.{SessionsShow}
 use Rattle.hy_refinement.specs.Frames.{went_on, sessions_on}
 use Rattle.hy_refinement.proofs.ListsAppended.{get_before, get_behind}
@@ -110,9 +111,8 @@ module _ (setting : Setting) (state : State) (core : CoreData) (sessions : List 
         open_shows = its.open_shows;
         notes_show = λ _.
             let notes = its.notes_show (none_marked other) in record {
-              notes = λ table pos.
-                  notes.notes table pos ∙ ap (λ (tables : Tables). noted (pair_of (item_at tables table pos) (item_at there.begun.own table pos))) (sym same);
-              ascends = notes.ascends;
+              all = subst (λ (tables : Tables). NotesHave tables there.begun.own present.notes) (sym same) notes.all;
+              saved = subst (λ (tables : Tables). AreAlike (SinceHave setting tables there.begun.trail) (map savepoint_of present.saved) there.begun.saved) (sym same) notes.saved;
             };
         gathered_shows = λ visited count e.
             subst (λ (at : Session). GatheredBy setting (view setting after there.begun) visited present.gathered

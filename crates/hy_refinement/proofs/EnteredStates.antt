@@ -14,7 +14,7 @@ use Rattle.hy_refinement.specs.Frames.{gone_on}
 
 -- the open transaction that entered, at this time
 abbrev pub entered_here : ℕ → Open → Open
-entered_here time now = record now { notes = []; wrote = written now; time = time; phase = phase.Stamping 0 }
+entered_here time now = record now { notes = []; saved = []; wrote = written now; time = time; phase = phase.Stamping 0 }
 
 abbrev pub entered_there : MachineOpen → MachineOpen
 entered_there current = record { begun = current.begun; phase = phase.Stamping 0 }

@@ -1,7 +1,7 @@
 -- A visit that reads leaves all as it is: the transaction goes on to the next visit or answers.
 use Rattle.std.proofs.Common.{◌≡◌, ℕ, suc, ◌+◌, ◌*◌, List, [], ◌∷◌, ◌++◌, length, Option, None, Some, refl, sym, ap, ◌∙◌, subst, set}
 use Rattle.hy_bound.specs.declared.Bound.{Bound}
-use Rattle.hy_bound.specs.declared.Bound.TheVariants.{Select, Group, Insert, Update, Delete}
+use Rattle.hy_bound.specs.declared.Bound.TheVariants.{Select, Group, Insert, Update, Delete, Savepoint, RollbackTo, Release}
 use Rattle.hy_bound.specs.declared.Record.{Record}
 use Rattle.hy_bound.specs.declared.Reply.{Reply}
 use Rattle.hy_bound.specs.declared.Shape.{Shape}
@@ -50,6 +50,9 @@ none_gathered setting tables (Some (Group table pred key aggregate)) =
 none_gathered setting tables (Some (Insert table row)) = refl
 none_gathered setting tables (Some (Update table sets pred)) = refl
 none_gathered setting tables (Some (Delete table pred)) = refl
+none_gathered setting tables (Some (Savepoint name)) = refl
+none_gathered setting tables (Some (RollbackTo name)) = refl
+none_gathered setting tables (Some (Release name)) = refl
 
 -- what is recorded in the machine is what is recorded here
 pub same_records : (setting : Setting) (session : SessionData) (now : Open) (current : MachineOpen) (statement : Bound) (gathered : List Table)
@@ -104,7 +107,7 @@ goes_to setting state core number now current visited gathered was has = record 
     took = was.open_shows.took;
     phase = refl;
   };
-  notes_show = λ unmarked. let show = was.notes_show unmarked in record { notes = show.notes; ascends = show.ascends };
+  notes_show = λ unmarked. let show = was.notes_show unmarked in record { all = show.all; saved = show.saved };
   gathered_shows = λ other count e.
       subst (λ (n : ℕ). GatheredBy setting (view setting state current.begun) n gathered
       (statement_at (txn_at setting number (session_at state number)) (length now.replies))) (sym (next_of (suc visited) 0 other count e)) has;
@@ -122,7 +125,7 @@ answers_to setting state core number now current reply took here there was same 
     took = ap (λ (took' : List (Option ℕ)). took' ++ took ∷ []) was.open_shows.took;
     phase = refl;
   };
-  notes_show = λ unmarked. let show = was.notes_show unmarked in record { notes = show.notes; ascends = show.ascends };
+  notes_show = λ unmarked. let show = was.notes_show unmarked in record { all = show.all; saved = show.saved };
   gathered_shows = λ other count e.
       subst (λ (n : ℕ). GatheredBy setting (view setting state current.begun) n []
       (statement_at (txn_at setting number (session_at state number)) (length (now.replies ++ reply ∷ [])))) (sym (next_of 0 0 other count e))

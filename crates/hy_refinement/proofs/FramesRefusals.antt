@@ -38,7 +38,7 @@ refused_goes setting state core number cause now current was = record {
     took = was.open_shows.took;
     phase = refl;
   };
-  notes_show = λ unmarked. let show = was.notes_show unmarked in record { notes = show.notes; ascends = show.ascends };
+  notes_show = λ unmarked. let show = was.notes_show unmarked in record { all = show.all; saved = show.saved };
   gathered_shows = λ visited count e. absurd cc;
   stamping = λ visited e. absurd cc;
 }

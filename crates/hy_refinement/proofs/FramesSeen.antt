@@ -25,7 +25,7 @@ use Rattle.hy_refinement.specs.Sessions.{OpenShows}
 use Rattle.hy_refinement.specs.Places.{cell_held}
 use Rattle.hy_refinement.specs.Taken.{AtChunk}
 use Rattle.hy_refinement.proofs.Orders.{tables_over}
-use Rattle.hy_refinement.proofs.WrittenPlaces.{own_among}
+use Rattle.hy_machine.specs.WrittenPlaces.{own_among}
 use Rattle.hy_refinement.proofs.RivalTops.{open_shown}
 use Rattle.hy_refinement.proofs.FramesTurns.{one_chunk}
 

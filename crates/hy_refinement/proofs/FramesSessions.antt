@@ -31,7 +31,7 @@ module _ (setting : Setting) (state : State) (core : CoreData) (sessions : List 
   done_same other = sym (done_stays state number other current later is.open_there)
 
   notes_stay : (its : Open) (present : MachineOpen) → NotesShow setting state its present → NotesShow setting after its present
-  notes_stay its present show = record { notes = show.notes; ascends = show.ascends }
+  notes_stay its present show = record { all = show.all; saved = show.saved }
 
   gathered_stay : (other : ℕ) (its : Open) (present : MachineOpen) → GatheredShows setting state other its present → GatheredShows setting after other its present
   gathered_stay other its present show visited count e =

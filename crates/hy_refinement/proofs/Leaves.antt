@@ -39,7 +39,7 @@ use Rattle.hy_refinement.specs.Shows.{Shows}
 use Rattle.hy_refinement.specs.Frames.{VisitedChunksShow}
 use Rattle.hy_refinement.specs.Taken.{AtOpen, IsTaken, core_number}
 use Rattle.hy_refinement.specs.CoreVisits.{LeavesAreTaken}
-use Rattle.hy_refinement.proofs.WrittenPlaces.{own_among}
+use Rattle.hy_machine.specs.WrittenPlaces.{own_among}
 use Rattle.hy_refinement.proofs.LastCells.{any_true}
 use Rattle.hy_refinement.proofs.RivalTops.{open_shown}
 use Rattle.hy_refinement.proofs.Rivals.{LastEntry, last_entry, pair_there, own_there}

@@ -2,7 +2,6 @@ mod Openings
 mod Stamps
 mod PrunedPlaces
 mod Prunings
-mod WrittenPlaces
 mod Orders
 mod Holders
 mod RivalTops
@@ -24,6 +23,7 @@ mod NotedChunks
 mod CountedWriters
 mod OpensGoneOn
 mod Deaths
+mod OwnRecords
 mod UndonePlaces
 mod UndoneShows
 mod UndoneChunks
@@ -36,6 +36,7 @@ pub mod StepStatements
 pub mod StepOpens
 pub mod Steps
 mod PlacesWork
+mod WritesShown
 mod WritesGoes
 mod WritesTaken
 mod PlacesAlone
@@ -44,7 +45,6 @@ mod PlacesFirst
 mod PlacesChunk
 mod PlacesTaken
 mod StillOpens
-mod StampedChunks
 mod UnwrittenPlaces
 mod StampedStages
 mod StampedPlaces
@@ -78,6 +78,11 @@ mod FramesSessions
 mod FramesParts
 mod FramesStill
 mod FramesNotes
+mod Trails
+mod Since
+mod Savings
+mod Backs
+mod BackSeen
 mod FramesRefusals
 mod BegunStates
 mod BegunCores

@@ -19,7 +19,7 @@ use Rattle.hy_machine.specs.Sessions.{snapshot}
 use Rattle.hy_refinement.specs.Sessions.{SessionIs, OpenShows}
 use Rattle.hy_refinement.specs.CoreVisits.{NotesAreWrites}
 use Rattle.hy_refinement.specs.Visits.{WrittenChunksAreTheMachines}
-use Rattle.hy_refinement.proofs.WrittenPlaces.{any_in_range}
+use Rattle.hy_machine.specs.WrittenPlaces.{any_in_range}
 use Rattle.hy_refinement.proofs.LastCells.{any_at, any_true}
 use Rattle.hy_refinement.proofs.RivalTops.{open_shown}
 use Rattle.hy_refinement.proofs.NotedPlaces.{is_at, PlacesAre, some_noted, not_marked, places_are}
@@ -88,7 +88,7 @@ lies_there session places own table chunk are = same_test _ _ to from
 filter_same : (p q : ℕ → Bool) → ((x : ℕ) → p x ≡ q x) → (xs : List ℕ) → filter p xs ≡ filter q xs
 filter_same p q same xs = λ i. filter (λ (x : ℕ). same x i) xs
 
-chunks_are : (setting : Setting) (session : SessionData) (places : List Place) (first : ℕ) (shapes : List Shape) (own : Own)
+pub chunks_are : (setting : Setting) (session : SessionData) (places : List Place) (first : ℕ) (shapes : List Shape) (own : Own)
     → length shapes ≡ length own → session.chunks ≡ setting.chunks
     → ((k chunk : ℕ) → list_any (lies_in session (first + k) chunk) places ≡ has_written_in setting (get_or own k []) chunk)
     → chunks_here session places first shapes ≡ chunks_from setting first own
@@ -167,7 +167,7 @@ notes_or_none (note ∷ notes) own same =
 pub notes_are : NotesAreWrites
 notes_are setting state parts sessions number session now current at quiet =
     notes_or_none now.notes current.begun.own (λ table pos.
-    ap is_some ((open_is.notes_show (not_marked setting state number current at.shown.kept at.is_open.open_there quiet)).notes table pos)
+    ap is_some ((open_is.notes_show (not_marked setting state number current at.shown.kept at.is_open.open_there quiet)).all.each table pos)
     ∙ some_noted (item_at (snapshot setting state current.begun.prefix) table pos) (item_at current.begun.own table pos))
   where
     open_is : OpenShows setting state at.shown.shows.core number now current

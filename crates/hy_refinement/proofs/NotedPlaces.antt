@@ -144,7 +144,7 @@ places_are setting state parts sessions number session now current at = by now.p
     by_notes : is_stamping current.phase ≡ false → PlacesAre (map place_noted now.notes) current.begun.own
     by_notes quiet table pos =
         noted_places now.notes table pos
-        ∙ (ap is_some ((open_is.notes_show (not_marked setting state number current at.shown.kept at.is_open.open_there quiet)).notes table pos)
+        ∙ (ap is_some ((open_is.notes_show (not_marked setting state number current at.shown.kept at.is_open.open_there quiet)).all.each table pos)
         ∙ some_noted (item_at (snapshot setting state current.begun.prefix) table pos) (item_at current.begun.own table pos))
 
     by : (stands : Phase) → now.phase ≡ stands → current.phase ≡ stands → PlacesAre (written_in now stands) current.begun.own

@@ -15,7 +15,6 @@ use Rattle.hy_bound.specs.declared.Record.{Record}
 use Rattle.hy_bound.specs.declared.Reply.{Reply}
 use Rattle.hy_bound.specs.declared.Reply.TheVariants as reply
 use Rattle.hy_value.specs.declared.change.Change.{Change}
-use Rattle.hy_notes.specs.Notes.{with_note}
 use Rattle.hy_plan.specs.Reads.{records_of}
 use Rattle.hy_undo.specs.Places.{Place, Cell, is_free as is_free_here}
 use Rattle.hy_undo.specs.Chunks.{ChunkData, Placed}
@@ -48,11 +47,11 @@ use Rattle.hy_refinement.specs.Sessions.{NotesShow, GatheredBy, OpenShows, state
 use Rattle.hy_refinement.specs.Parts.{ChunkIs}
 use Rattle.hy_refinement.specs.Free.{FreeIsTheMachines}
 use Rattle.hy_refinement.specs.Taken.{AtChunk, AtStatement, IsTaken, chunk_number}
-use Rattle.hy_refinement.specs.Frames.{KeepsStart, WentOn, StandsAsBefore, ChunkShows, with_own}
+use Rattle.hy_refinement.specs.Frames.{KeepsStart, WentOn, StandsAsBefore, ChunkShows, with_own, with_noted}
 use Rattle.hy_refinement.specs.Frames.{UnmovedPlacesShow, ChunkVisitsShow, PrunedChunksShow, VisitedChunksShow, GoingOnIsTaken, NotesFollowWrites}
 use Rattle.hy_refinement.proofs.RivalTops.{open_shown}
 use Rattle.hy_refinement.proofs.WritesOwn.{has_position}
-use Rattle.hy_refinement.proofs.WritesChunk.{AtWork, fits, stands}
+use Rattle.hy_refinement.proofs.WritesChunk.{AtWork, fits, trail_fits, stands}
 use Rattle.hy_refinement.proofs.PlacesAlone.{free_there}
 use Rattle.hy_refinement.proofs.PlacesShown.{view_empty}
 use Rattle.hy_refinement.proofs.PlacesFirst.{same_first, first_passes}
@@ -122,7 +121,7 @@ module _ (laws : Laws) (setting : Setting) (state : State) (parts : List Part) (
         took = shows_open.open_shows.took;
         phase = refl;
       };
-      notes_show = λ unmarked. record { notes = (shows_open.notes_show unmarked).notes; ascends = (shows_open.notes_show unmarked).ascends };
+      notes_show = λ unmarked. record { all = (shows_open.notes_show unmarked).all; saved = (shows_open.notes_show unmarked).saved };
       gathered_shows = λ visits counts e.
           subst (GatheredBy setting (view setting state later.begun) visits now.gathered) (sym stands_at.statement_is)
           (subst (GatheredBy setting (view setting state current.begun) visited now.gathered) stands_at.statement_is
@@ -199,14 +198,14 @@ module _ (laws : Laws) (setting : Setting) (state : State) (parts : List Part) (
     keeps_placed = record { start = refl; prefix = refl; cover = refl; prefix_there = refl; low_there = refl }
 
     -- it saw no row there, and so the change is noted
-    notes : NotesShow setting state (record now { notes = with_note (record { table = table; pos = pos; before = None; after = Some row }) now.notes })
-        (with_own current write)
+    notes : NotesShow setting state (with_noted now (record { table = table; pos = pos; before = None; after = Some row })) (with_own current write)
     notes =
         subst (λ (before : Cell). NotesShow setting state
-        (record now { notes = with_note (record { table = table; pos = pos; before = before; after = Some row }) now.notes }) (with_own current write))
+        (with_noted now (record { table = table; pos = pos; before = before; after = Some row })) (with_own current write))
         (view_empty setting state core sessions table chunk pos number session now current work (free_there setting state current.begun table pos free))
         (laws.follow setting state now current table pos (Some row)
-        (fits setting state core sessions number session now current table chunk work) work.table_below
+        (fits setting state core sessions number session now current table chunk work)
+        (trail_fits setting state core sessions number session now current table chunk work) work.table_below
         (within setting state core sessions number session now then_placed current later_placed table chunk index row work inside keeps_placed refl refl)
         (shows_open.notes_show work.unmarked))
 
@@ -219,7 +218,7 @@ module _ (laws : Laws) (setting : Setting) (state : State) (parts : List Part) (
         took = ap (λ (took : List (Option ℕ)). took ++ Some pos ∷ []) shows_open.open_shows.took;
         phase = refl;
       };
-      notes_show = λ unmarked. record { notes = notes.notes; ascends = notes.ascends };
+      notes_show = λ unmarked. record { all = notes.all; saved = notes.saved };
       gathered_shows = λ visits counts e.
           let none : 0 ≡ visits = cc in
           subst (λ (n : ℕ). GatheredBy setting (view setting state later_placed.begun) n [] (statement_at (txn_at setting number (session_at state number))

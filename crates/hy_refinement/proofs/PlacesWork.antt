@@ -4,7 +4,7 @@ use Rattle.std.proofs.lemmas.Option.{same_Some}
 use Rattle.hy_stamp.specs.declared.Label.{Label}
 use Rattle.hy_stamp.specs.Times.{IsLabel, id_of}
 use Rattle.hy_bound.specs.declared.Bound.{Bound}
-use Rattle.hy_bound.specs.declared.Bound.TheVariants.{Select, Group, Insert, Update, Delete}
+use Rattle.hy_bound.specs.declared.Bound.TheVariants.{Select, Group, Insert, Update, Delete, Savepoint, RollbackTo, Release}
 use Rattle.hy_plan.specs.declared.PlanPart.{PlanPart}
 use Rattle.hy_undo.specs.Chunks.{ChunkData}
 use Rattle.hy_journal.specs.declared.CoreData.{CoreData}
@@ -42,6 +42,9 @@ gathered_first setting tables (Some (Group table pred key aggregate)) =
 gathered_first setting tables (Some (Insert table row)) = refl
 gathered_first setting tables (Some (Update table sets pred)) = refl
 gathered_first setting tables (Some (Delete table pred)) = refl
+gathered_first setting tables (Some (Savepoint name)) = refl
+gathered_first setting tables (Some (RollbackTo name)) = refl
+gathered_first setting tables (Some (Release name)) = refl
 
 -- ---- at work
 

@@ -31,7 +31,7 @@ use Rattle.hy_refinement.specs.Transactions.{IsOpen}
 use Rattle.hy_refinement.specs.Places.{IsOwnStamp}
 use Rattle.hy_machine.specs.Kept.{Kept, entered}
 use Rattle.hy_refinement.specs.Rivals.{ShownAt, RivalsAreOpponents}
-use Rattle.hy_refinement.proofs.WrittenPlaces.{own_among}
+use Rattle.hy_machine.specs.WrittenPlaces.{own_among}
 use Rattle.hy_refinement.proofs.Orders.{IsLastOf, last_or_none, last_some_none, last_some_at, dropped_get, changes_none, changes_some}
 use Rattle.hy_refinement.proofs.Holders.{Holder, nobody, somebody, holder_cases, holder_open, is_there, Opened, opened, same_label, stamped_or_not}
 use Rattle.hy_refinement.proofs.RivalTops.{rival_late, rival_own, own_top, NoneOwn, rival_of_writer, rival_none}

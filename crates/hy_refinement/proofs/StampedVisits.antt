@@ -46,7 +46,7 @@ use Rattle.hy_refinement.proofs.FramesOpened.{WasOpen, same as itself, stays as 
 use Rattle.hy_refinement.proofs.FramesCores.{core_stays}
 use Rattle.hy_refinement.proofs.FramesTurns.{everywhere_length, everywhere_at, chunk_still}
 use Rattle.hy_refinement.proofs.StillOpens.{open_after}
-use Rattle.hy_refinement.proofs.StampedChunks.{written_apart, not_before, is_with_it, others_with_it}
+use Rattle.hy_machine.specs.OwnChunks.{written_apart, not_before, is_with_it, others_with_it}
 use Rattle.hy_refinement.proofs.StampedStages.{unstamped_is}
 use Rattle.hy_refinement.proofs.StampedPlaces.{stamped_shows}
 use Rattle.hy_refinement.proofs.UnwrittenPlaces.{StoodSo, shows_still}

@@ -58,16 +58,20 @@ written_below setting own index table chunk e =
 -- ---- which chunk is needed
 
 -- the chunk that a stamp or an undo visit needs, or the core where none is left
-needs_chunk : (one : Option (ℕ × ℕ)) (table chunk : ℕ) → chunk_or_core one ≡ Chunk table chunk → one ≡ Some (table, chunk)
+pub needs_chunk : (one : Option (ℕ × ℕ)) (table chunk : ℕ) → chunk_or_core one ≡ Chunk table chunk → one ≡ Some (table, chunk)
 needs_chunk None table chunk e = absurd (core_is_no_chunk table chunk e)
 needs_chunk (Some one) table chunk e =
     let same = same_chunk one.0 one.1 table chunk e in
     ap (λ (t : ℕ). Some (t, one.1)) same.0 ∙ ap (λ (c : ℕ). Some (table, c)) same.1
 
-needs_core : (ones : List (ℕ × ℕ)) (visited : ℕ) → chunk_or_core (slice_get ones visited) ≡ Core → length ones ≤ visited
+pub needs_core : (ones : List (ℕ × ℕ)) (visited : ℕ) → chunk_or_core (slice_get ones visited) ≡ Core → length ones ≤ visited
 needs_core [] visited e = omega arith
 needs_core (one ∷ ones) zero e = absurd (chunk_is_no_core one.0 one.1 e)
 needs_core (one ∷ ones) (suc visited) e = let le = needs_core ones visited e in omega (arith, le)
+
+pub needs_none : (one : Option (ℕ × ℕ)) → chunk_or_core one ≡ Core → one ≡ None
+needs_none None e = refl
+needs_none (Some one) e = absurd (chunk_is_no_core one.0 one.1 e)
 
 pub chunk_left : (setting : Setting) (session : SessionData) (now : Open) (current : MachineOpen) (visited table chunk : ℕ)
     → chunks_written session now ≡ written_chunks setting current.begun.own → written_need session now visited ≡ Chunk table chunk

@@ -5,7 +5,9 @@ use Rattle.std.specs.Prelude.{slice_get, nat_lt}
 use Rattle.std.proofs.lemmas.Bool.{le-ltb, cond_both}
 use Rattle.hy_value.specs.declared.change.Change.{Change}
 use Rattle.hy_bound.specs.declared.Bound.{Bound}
-use Rattle.hy_bound.specs.declared.Bound.TheVariants.{Select, Group, Insert, Update, Delete}
+use Rattle.hy_bound.specs.declared.Bound.TheVariants.{Select, Group, Insert, Update, Delete, Savepoint, RollbackTo, Release}
+use Rattle.hy_bound.specs.declared.Reply.{Reply}
+use Rattle.hy_bound.specs.declared.Reply.TheVariants as reply
 use Rattle.hy_bound.specs.declared.Ending.{Ending}
 use Rattle.hy_bound.specs.declared.Ending.TheVariants.{Committed, Read, RolledBack}
 use Rattle.hy_bound.specs.declared.Txn.{Txn}
@@ -17,20 +19,22 @@ use Rattle.hy_event.specs.declared.Open.{Open}
 use Rattle.hy_event.specs.declared.Need.{Need}
 use Rattle.hy_event.specs.declared.Need.TheVariants.{Core, Chunk}
 use Rattle.hy_event.specs.Sessions.{written_chunks as chunks_written}
-use Rattle.hy_event.specs.Needs.{checks_of, phase_need, working_need, closing_need, statement_need}
-use Rattle.hy_event.specs.CoreTurns.{TakesAtCore, found_at_core as found_here, no_statement, open_turn}
+use Rattle.hy_event.specs.Needs.{checks_of, phase_need, working_need, closing_need, statement_need, insert_need, chunk_or_core}
+use Rattle.hy_event.specs.CoreTurns.{TakesAtCore, found_at_core as found_here, open_turn}
 use Rattle.hy_event.specs.Events.{Part, CorePart}
 use Rattle.hy_machine.specs.declared.Setting.{Setting}
 use Rattle.hy_machine.specs.States.{State, Open as MachineOpen}
 use Rattle.hy_machine.specs.Writes.{Write, written_chunks, wrote_nothing}
 use Rattle.hy_machine.specs.Sessions.{session_at, txn_at, blocker, view}
 use Rattle.hy_machine.specs.Holding.{undone}
-use Rattle.hy_machine.specs.Turns.{found_at_core, working_turn, phase_turn}
+use Rattle.hy_machine.specs.Saving.{written_since}
+use Rattle.hy_machine.specs.Turns.{found_at_core, statement_turn, back_turn, working_turn, phase_turn}
 use Rattle.hy_protocol.specs.declared.Phase.{Phase}
 use Rattle.hy_protocol.specs.declared.Phase.TheVariants as phase
 use Rattle.hy_protocol.specs.declared.Progress.{Progress}
 use Rattle.hy_protocol.specs.Asking.{AtCore}
-use Rattle.hy_protocol.specs.Turns.{Turn, Visits, Ends, unless_blocked, is_stamping}
+use Rattle.hy_protocol.specs.Turns.{Turn, Visits, Saves, Ends, unless_blocked, is_stamping}
+use Rattle.hy_protocol.specs.Statements.{saving_turn}
 use Rattle.hy_protocol.specs.Closing.{undo_turn, stamp_turn, validated_turn, free_commit_turn, commit_turn, closing_turn}
 use Rattle.hy_protocol.specs.Sessions as by_phase
 use Rattle.hy_refinement.specs.Sessions.{statement_at}
@@ -39,7 +43,7 @@ use Rattle.hy_refinement.specs.Taken.{ShownState, AtOpen, AtStatement, IsTaken, 
 use Rattle.hy_refinement.specs.CoreVisits.{IsFreeToGo}
 use Rattle.hy_refinement.proofs.NeededParts.{chunk_is_no_core}
 use Rattle.hy_refinement.proofs.StepLaws.{StepLaws}
-use Rattle.hy_refinement.proofs.StepChunks.{nothing_held, undone_all, none_left}
+use Rattle.hy_refinement.proofs.StepChunks.{needs_none, nothing_held, undone_all, none_left}
 
 -- what is known of an open session before its visit
 pub record Opening (setting : Setting) (state : State) (parts : List Part) (sessions : List SessionData) (number : ℕ)
@@ -51,17 +55,6 @@ pub record Opening (setting : Setting) (state : State) (parts : List Part) (sess
   pub shapes : session.shapes ≡ setting.shapes
   pub chunks : session.chunks ≡ setting.chunks
   pub written : chunks_written session now ≡ written_chunks setting current.begun.own
-
--- a statement needs a chunk
-statement_no_core : (session : SessionData) (visited : ℕ) (statement : Bound) → statement_need session visited statement ≡ Core → ⊥
-statement_no_core session visited (Select tables ons pred items) e = chunk_is_no_core _ _ e
-statement_no_core session visited (Group table pred key aggregate) e = chunk_is_no_core _ _ e
-statement_no_core session visited (Insert table row) e =
-    let checks = checks_of session (shape_of session.shapes table).key in
-    cond_both (nat_lt visited checks) (Chunk table visited) (Chunk table (visited - checks)) (λ (need : Need). need ≡ Core → ⊥)
-    (λ b. chunk_is_no_core _ _) (λ b. chunk_is_no_core _ _) e
-statement_no_core session visited (Update table sets pred) e = chunk_is_no_core _ _ e
-statement_no_core session visited (Delete table pred) e = chunk_is_no_core _ _ e
 
 -- ---- a turn, unless the session is blocked
 
@@ -163,15 +156,61 @@ module _ (laws : StepLaws) (setting : Setting) (state : State) (parts : List Par
   closes visited count stands working so_far false need takes =
       ends 0 RolledBack working so_far (none_left setting session now current 0 is.written need) takes
 
+  -- an INSERT needs a chunk
+  insert_no_core : (visited table checks : ℕ) → insert_need visited table checks ≡ Core → ⊥
+  insert_no_core visited table checks =
+      cond_both (nat_lt visited checks) (Chunk table visited) (Chunk table (visited - checks)) (λ (need : Need). need ≡ Core → ⊥)
+      (λ b. chunk_is_no_core _ _) (λ b. chunk_is_no_core _ _)
+
+  answered : (visited count : ℕ) (statement : Bound) (reply : Reply) → AtStatement setting state number now visited count (Some statement)
+      → TakesTurn (unless_blocked (blocker state number) (Saves statement reply)) → TurnIsTaken (unless_blocked (blocker state number) (Saves statement reply))
+  answered visited count statement reply stands =
+      unless (Saves statement reply) (Saves statement reply) (λ free takes.
+      laws.saves setting state parts sessions number session now current visited count statement reply progress after new is.at_open stands takes)
+
+  -- a statement that needs the core opens or closes savepoints, and has gone back as far as it will
+  statement_at_core : (visited count : ℕ) → is_stamping current.phase ≡ false → (statement : Bound)
+      → AtStatement setting state number now visited count (Some statement)
+      → statement_need session now visited statement ≡ Core → TakesTurn (saving_turn there statement)
+      → TurnIsTaken (statement_turn setting state number current.begun visited count statement)
+  statement_at_core visited count working (Select tables ons pred items) stands need takes = absurd (chunk_is_no_core _ _ need)
+  statement_at_core visited count working (Group table pred key aggregate) stands need takes = absurd (chunk_is_no_core _ _ need)
+  statement_at_core visited count working (Insert table row) stands need takes =
+      absurd (insert_no_core visited table (checks_of session (shape_of session.shapes table).key) need)
+  statement_at_core visited count working (Update table sets pred) stands need takes = absurd (chunk_is_no_core _ _ need)
+  statement_at_core visited count working (Delete table pred) stands need takes = absurd (chunk_is_no_core _ _ need)
+  statement_at_core visited count working (Savepoint name) stands need takes = answered visited count (Savepoint name) reply.Saved stands takes
+  statement_at_core visited count working (RollbackTo name) stands need takes =
+      let since = laws.since setting state parts sessions number session now current name is.at_open working in
+      let none : slice_get (written_since setting current.begun name) visited ≡ None =
+      needs_none (slice_get (written_since setting current.begun name) visited)
+      (ap (λ (chunks : List (ℕ × ℕ)). chunk_or_core (slice_get chunks visited)) (sym since) ∙ need) in
+      subst (λ (one : Option (ℕ × ℕ)). TurnIsTaken (back_turn setting state number current.begun visited name one)) (sym none)
+      (answered visited count (RollbackTo name) reply.Back stands takes)
+  statement_at_core visited count working (Release name) stands need takes = answered visited count (Release name) reply.Released stands takes
+
+  -- what is done for the present statement, by what is found at the core
+  abbrev for_statement : AtCore → ℕ → ℕ → Bound → Turn Change
+  for_statement found visited count statement = saving_turn found statement
+
   works : (visited count : ℕ) → now.phase ≡ phase.Working visited count → current.phase ≡ phase.Working visited count
       → (statement : Option Bound) → slice_get txn.statements (length now.replies) ≡ statement → working_need session txn now visited statement ≡ Core
-      → TakesTurn (by_phase.working_turn no_statement there txn visited count statement)
+      → TakesTurn (by_phase.working_turn (for_statement there) there txn visited count statement)
       → TurnIsTaken (working_turn setting state number txn current.begun visited count statement)
-  works visited count at_here at_there None at need takes =
-      closes visited count
-      (record { phase_is = at_here; statement_is = ap (λ (txn : Option Txn). statement_at txn (length now.replies)) is.txn_is ∙ at })
-      (ap is_stamping at_there) (ap undone at_there) txn.commits need takes
-  works visited count at_here at_there (Some statement) at need takes = absurd (statement_no_core session visited statement need)
+  works visited count at_here at_there statement at need takes = by_statement statement at need takes
+    where
+      stands : (statement : Option Bound) → slice_get txn.statements (length now.replies) ≡ statement
+          → AtStatement setting state number now visited count statement
+      stands statement at = record { phase_is = at_here; statement_is = ap (λ (txn : Option Txn). statement_at txn (length now.replies)) is.txn_is ∙ at }
+
+      by_statement : (statement : Option Bound) → slice_get txn.statements (length now.replies) ≡ statement
+          → working_need session txn now visited statement ≡ Core
+          → TakesTurn (by_phase.working_turn (for_statement there) there txn visited count statement)
+          → TurnIsTaken (working_turn setting state number txn current.begun visited count statement)
+      by_statement None at need takes =
+          closes visited count (stands None at) (ap is_stamping at_there) (ap undone at_there) txn.commits need takes
+      by_statement (Some statement) at need takes =
+          statement_at_core visited count (ap is_stamping at_there) statement (stands (Some statement) at) need takes
 
   pub core_step : (stands : Phase) → now.phase ≡ stands → current.phase ≡ stands → phase_need session txn now stands ≡ Core
       → TakesTurn (open_turn session core txn now stands) → TurnIsTaken (phase_turn setting state number txn current.begun stands)
@@ -179,7 +218,7 @@ module _ (laws : StepLaws) (setting : Setting) (state : State) (parts : List Par
       let statement = slice_get txn.statements (length now.replies) in
       subst (λ replies. TurnIsTaken (working_turn setting state number txn current.begun visited count (slice_get txn.statements (length replies)))) is.replies
       (works visited count at_here at_there statement refl need
-      (subst (λ (found : AtCore). TakesTurn (by_phase.working_turn no_statement found txn visited count statement)) (found_same (ap is_stamping at_there)) takes))
+      (subst (λ (found : AtCore). TakesTurn (by_phase.working_turn (for_statement found) found txn visited count statement)) (found_same (ap is_stamping at_there)) takes))
   core_step (phase.Stamping visited) at_here at_there need takes =
       leaves visited at_here (none_left setting session now current visited is.written need)
       (subst (λ (n : ℕ). TakesTurn (stamp_turn there.written (n - 1) visited)) is.at_open.shown.shows.core_shows.entries_show.count

@@ -98,6 +98,7 @@ module _ (laws : StepLaws) (setting : Setting) (state : State) (parts : List Par
           statement_is = ap (λ (txn : Option Txn). statement_at txn (length now.replies)) is.txn_is ∙ at;
         };
         reads_fit = subst (λ (statement : Option Bound). ReadsFit setting (view setting state current.begun) statement) at is.reads_fit;
+        since = λ name. laws.since setting state parts sessions number session now current name is.at_open (ap is_stamping at_there);
         visits = fits.visits statement (ap (λ (replies : List Reply). slice_get txn.statements (length replies)) (sym is.replies) ∙ at);
         shapes = is.shapes;
         chunks = is.chunks;

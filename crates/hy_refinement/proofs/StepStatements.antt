@@ -5,20 +5,22 @@ use Rattle.std.specs.Prelude.{slice_get, slice_index_or, nat_lt, MatchBool}
 use Rattle.std.proofs.lemmas.Bool.{ltb-true, ltb-false}
 use Rattle.hy_value.specs.declared.Value.{Value}
 use Rattle.hy_bound.specs.declared.Bound.{Bound}
-use Rattle.hy_bound.specs.declared.Bound.TheVariants.{Select, Group, Insert, Update, Delete}
+use Rattle.hy_bound.specs.declared.Bound.TheVariants.{Select, Group, Insert, Update, Delete, Savepoint, RollbackTo, Release}
 use Rattle.hy_bound.specs.declared.Shape.{Shape}
 use Rattle.hy_bound.specs.Records.{shape_of}
 use Rattle.hy_undo.specs.Chunks.{ChunkData}
 use Rattle.hy_event.specs.declared.SessionData.{SessionData}
 use Rattle.hy_event.specs.declared.Open.{Open}
-use Rattle.hy_event.specs.declared.Need.TheVariants.{Chunk}
+use Rattle.hy_event.specs.declared.Need.TheVariants.{Core, Chunk}
 use Rattle.hy_protocol.specs.declared.Progress.{Progress}
-use Rattle.hy_event.specs.Needs.{statement_need, insert_need, checks_of as checks_here}
+use Rattle.hy_event.specs.Sessions.{chunks_since}
+use Rattle.hy_event.specs.Needs.{statement_need, insert_need, chunk_or_core, checks_of as checks_here}
 use Rattle.hy_event.specs.Inserting.{CheckVisit, PlaceVisit, InsertVisit}
 use Rattle.hy_event.specs.Events.{Part, ChunkPart, StatementVisit}
 use Rattle.hy_machine.specs.declared.Setting.{Setting}
 use Rattle.hy_machine.specs.States.{State, Open as MachineOpen}
-use Rattle.hy_machine.specs.Turns.{statement_turn, insert_turn, check_turn, place_turn}
+use Rattle.hy_machine.specs.Saving.{own_since, written_since}
+use Rattle.hy_machine.specs.Turns.{statement_turn, insert_turn, check_turn, place_turn, back_turn}
 use Rattle.hy_machine.specs.Sessions.{view}
 use Rattle.hy_machine.specs.Visits.{checks_of, sees_key, free_position}
 use Rattle.hy_machine.specs.Writes.{Write}
@@ -26,7 +28,8 @@ use Rattle.hy_protocol.specs.Turns.{Turn}
 use Rattle.hy_machine.specs.Kept.{visits_in}
 use Rattle.hy_refinement.specs.Steps.{ReadsFit}
 use Rattle.hy_refinement.specs.Taken.{AtOpen, AtChunk, AtStatement, IsTaken, chunk_number}
-use Rattle.hy_refinement.proofs.NeededParts.{chunk_part, some_chunks, same_chunk}
+use Rattle.hy_refinement.proofs.NeededParts.{chunk_part, some_chunks, same_chunk, core_is_no_chunk}
+use Rattle.hy_refinement.proofs.StepChunks.{needs_chunk, written_below}
 use Rattle.hy_refinement.proofs.StepLaws.{StepLaws}
 
 -- what is known where a session visits a chunk for its present statement
@@ -36,6 +39,7 @@ pub record Standing (setting : Setting) (state : State) (parts : List Part) (ses
   pub stands : AtStatement setting state number now visited count (Some statement)
   pub reads_fit : ReadsFit setting (view setting state current.begun) (Some statement)
   pub visits : (visited ≡ 0) ⊎ (visited < visits_in setting statement)
+  pub since : (name : List ℕ) → chunks_since session now name ≡ written_since setting current.begun name
   pub shapes : session.shapes ≡ setting.shapes
   pub chunks : session.chunks ≡ setting.chunks
 
@@ -133,7 +137,7 @@ module _ (laws : StepLaws) (setting : Setting) (state : State) (parts : List Par
 
   -- ---- all statements
 
-  pub statement_step : (statement : Bound) (table chunk : ℕ) → Stands statement → IsAt table chunk → statement_need session visited statement ≡ Chunk table chunk
+  pub statement_step : (statement : Bound) (table chunk : ℕ) → Stands statement → IsAt table chunk → statement_need session now visited statement ≡ Chunk table chunk
       → StatementVisit session now visited count statement old progress after new
       → TurnIsTaken (statement_turn setting state number current.begun visited count statement) table chunk
   statement_step (Select tables ons pred items) table chunk is found need visit =
@@ -173,3 +177,13 @@ module _ (laws : StepLaws) (setting : Setting) (state : State) (parts : List Par
       laws.writes setting state parts sessions number session now current named visited old visited count None pred progress after new
       (at_chunk (Delete named pred) named visited is here
       (fewer visited setting.chunks is.visits (has_chunks (Delete named pred) table chunk is found))) is.stands refl visit)
+  statement_step (Savepoint name) table chunk is found need visit = absurd visit
+  statement_step (RollbackTo name) table chunk is found need visit =
+      let here : slice_get (written_since setting current.begun name) visited ≡ Some (table, chunk) =
+      needs_chunk (slice_get (written_since setting current.begun name) visited) table chunk
+      (ap (λ (chunks : List (ℕ × ℕ)). chunk_or_core (slice_get chunks visited)) (sym (is.since name)) ∙ need) in
+      subst (λ (one : Option (ℕ × ℕ)). TurnIsTaken (back_turn setting state number current.begun visited name one) table chunk) (sym here)
+      (laws.backs setting state parts sessions number session now current table chunk old visited count name progress after new
+      (at_chunk (RollbackTo name) table chunk is found (written_below setting (own_since setting current.begun name) visited table chunk here))
+      is.stands here visit)
+  statement_step (Release name) table chunk is found need visit = absurd visit

@@ -11,7 +11,7 @@ use Rattle.hy_machine.specs.Positions.{item_at}
 use Rattle.hy_machine.specs.Tables.{Own, chunk_of}
 use Rattle.hy_machine.specs.Writes.{written_chunks, is_among}
 use Rattle.hy_machine.specs.Holding.{holds, undone}
-use Rattle.hy_refinement.proofs.StampedChunks.{AllApart, written_apart}
+use Rattle.hy_machine.specs.OwnChunks.{AllApart, written_apart}
 
 -- ---- one chunk after another
 

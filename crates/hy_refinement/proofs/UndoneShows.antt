@@ -39,8 +39,8 @@ use Rattle.hy_refinement.proofs.FramesOpened.{goes_there, stays_there, opens_her
 use Rattle.hy_refinement.proofs.CountedWriters.{writer_still, last_writer_was}
 use Rattle.hy_refinement.proofs.OpensGoneOn.{each_apart}
 use Rattle.hy_refinement.proofs.PrunedPlaces.{falls_by_stamps}
-use Rattle.hy_refinement.proofs.UndonePlaces.{TakesBack, newest_among, quiet, stamps_were, stamps_left, left_writer, left_below, stops_there, in_place_prefix}
-use Rattle.hy_refinement.proofs.UndonePlaces.{image_live}
+use Rattle.hy_refinement.proofs.OwnRecords.{newest_among, quiet, stamps_are, behind_writer, behind_below}
+use Rattle.hy_refinement.proofs.UndonePlaces.{TakesBack, stamps_left, stops_there, in_place_prefix, image_live}
 
 module _ {setting : Setting} {state : State} {core : CoreData} {sessions : List SessionData} {table chunk pos : ℕ} {old new : Place}
     {number : ℕ} {session : SessionData} {now : Open} {current : MachineOpen}
@@ -50,26 +50,26 @@ module _ {setting : Setting} {state : State} {core : CoreData} {sessions : List 
   same_counted : entries_counted setting (gone_on state number later) table chunk ≡ entries_counted setting state table chunk
   same_counted = counted_same setting state number table chunk later same_stamped
 
-  writer_left : (stamp : Stamp) → Contains (stamps_of back.rest) stamp → IsOfWriter setting (gone_on state number later) core table chunk pos stamp
+  writer_left : (stamp : Stamp) → Contains (stamps_of back.has.rest) stamp → IsOfWriter setting (gone_on state number later) core table chunk pos stamp
   writer_left stamp c =
-      writer_still setting state (gone_on state number later) table chunk pos refl same_counted core core refl stamp (left_writer back stamp c)
+      writer_still setting state (gone_on state number later) table chunk pos refl same_counted core core refl stamp (behind_writer back.has stamp c)
 
   -- nobody else holds the position, or has its identifier
   other_holds_not : (other : ℕ) (there : MachineOpen) → (other ≡ number → ⊥) → (session_at state other).now ≡ Some there
       → holds setting table pos (Some there) ≡ false
   other_holds_not other there apart open' = elim (cases_Bool (holds setting table pos (Some there))) [
     | inr not_held ↦ not_held
-    | inl holds_it ↦ absurd (back.shown.kept.holders_apart other number apart table pos (ap (holds setting table pos) open' ∙ holds_it)
-        (ap (holds setting table pos) back.is_open.open_there ∙ back.held))
+    | inl holds_it ↦ absurd (back.has.shown.kept.holders_apart other number apart table pos (ap (holds setting table pos) open' ∙ holds_it)
+        (ap (holds setting table pos) back.has.is_open.open_there ∙ back.has.held))
   ]
 
   other_id : (other : ℕ) (one : SessionData) (present : Open) (there : MachineOpen) → (other ≡ number → ⊥) → IsOpen state sessions other one present there
       → HasNotStamped setting state other table chunk → id_of (label_of session) ≡ id_of (label_of one) → ⊥
   other_id other one present there apart open' not_stamped same =
-      let head = back.shown.place_shows.own_heads other one present there open' not_stamped in
+      let head = back.has.shown.place_shows.own_heads other one present there open' not_stamped in
       absurd (let e : true ≡ false =
-      sym (ap (λ (chain : List (Undo Image)). is_own (id_of (label_of one)) (newest chain)) back.chain_is
-      ∙ eq-eqb back.undo.stamp.mark (id_of (label_of one)) (back.own ∙ same))
+      sym (ap (λ (chain : List (Undo Image)). is_own (id_of (label_of one)) (newest chain)) back.has.chain_is
+      ∙ eq-eqb back.has.undo.stamp.mark (id_of (label_of one)) (back.has.own ∙ same))
       ∙ (head.holds_it ∙ other_holds_not other there apart open'.open_there) in cc)
 
   -- no identifier is on top
@@ -77,8 +77,8 @@ module _ {setting : Setting} {state : State} {core : CoreData} {sessions : List 
   not_own one = elim (top_or_none (newest new.chain)) [
     | inl none ↦ ap (is_own (id_of (label_of one))) none
     | inr top ↦
-        let early = left_below back top.0 (newest_among new.chain top.0 (stamps_of back.rest) (stamps_left back) top.1) in
-        let ids = back.shown.below_ids in
+        let early = behind_below back.has top.0 (newest_among new.chain top.0 (stamps_of back.has.rest) (stamps_left back) top.1) in
+        let ids = back.has.shown.below_ids in
         ap (is_own (id_of (label_of one))) top.1 ∙ ne_eqb top.0.mark (id_of (label_of one)) (λ e. absurd (omega (arith, e, early, ids)))
   ]
 
@@ -95,7 +95,7 @@ module _ {setting : Setting} {state : State} {core : CoreData} {sessions : List 
   own_heads =
       each_apart (λ (other : ℕ) (one : SessionData) (present : Open) (there : MachineOpen).
       HasNotStamped setting (gone_on state number later) other table chunk → OwnHead setting table pos new one there)
-      state sessions number session now then current later back.is_open
+      state sessions number session now then current later back.has.is_open
       (λ not_stamped. head_after (went_on session then) later gone)
       (λ other one present there apart open' not_stamped. head_after one there (other_holds_not other there apart open'.open_there))
 
@@ -112,11 +112,11 @@ module _ {setting : Setting} {state : State} {core : CoreData} {sessions : List 
 
   newest_time : newest_below core.next (stamps new) ≡ newest_below core.next (stamps old)
   newest_time =
-      let ids = back.shown.below_ids in
-      let own = back.own in
+      let ids = back.has.shown.below_ids in
+      let own = back.has.own in
       ap (newest_below core.next) (stamps_left back)
-      ∙ (sym (below_later core.next back.undo.stamp (stamps_of back.rest) (omega (arith, own, ids)))
-      ∙ ap (newest_below core.next) (sym (stamps_were back)))
+      ∙ (sym (below_later core.next back.has.undo.stamp (stamps_of back.has.rest) (omega (arith, own, ids)))
+      ∙ ap (newest_below core.next) (sym (stamps_are back.has)))
 
   last_writer_before : (rank : ℕ) (entered : Entry) → IsLastWriter setting (gone_on state number later) table chunk pos rank entered
       → IsLastWriter setting state table chunk pos rank entered
@@ -126,21 +126,21 @@ module _ {setting : Setting} {state : State} {core : CoreData} {sessions : List 
   last_writer_on_top rank entered entry last stands =
       each_apart (λ (other : ℕ) (one : SessionData) (present : Open) (there : MachineOpen).
       present.start < entry.time → newest_below core.next (stamps new) ≡ Some (record { owner = entered.label; mark = entry.time }))
-      state sessions number session now then current later back.is_open
+      state sessions number session now then current later back.has.is_open
       (λ above.
       newest_time
-      ∙ back.shown.place_shows.last_writer_on_top rank entered entry (last_writer_before rank entered last) stands number session now current back.is_open
-      (let start = keeps.start in omega (arith, above, start)))
+      ∙ back.has.shown.place_shows.last_writer_on_top rank entered entry (last_writer_before rank entered last) stands number session now current
+      back.has.is_open (let start = keeps.start in omega (arith, above, start)))
       (λ other one present there apart open' above.
       newest_time
-      ∙ back.shown.place_shows.last_writer_on_top rank entered entry (last_writer_before rank entered last) stands other one present there open' above)
+      ∙ back.has.shown.place_shows.last_writer_on_top rank entered entry (last_writer_before rank entered last) stands other one present there open' above)
 
   viewer_sees : ViewerSees setting (gone_on state number later) (sessions_on sessions number session then) table chunk pos new
   viewer_sees =
       each_apart (λ (other : ℕ) (one : SessionData) (present : Open) (there : MachineOpen).
       HasNotStamped setting (gone_on state number later) other table chunk
       → sees (viewer_of one present) new ≡ cell_held setting (gone_on state number later) table pos there)
-      state sessions number session now then current later back.is_open
+      state sessions number session now then current later back.has.is_open
       (λ not_stamped.
       stops_there back (viewer_of (went_on session then) then) (let start = keeps.start in omega (arith, start))
       ∙ (in_place_prefix back
@@ -150,10 +150,10 @@ module _ {setting : Setting} {state : State} {core : CoreData} {sessions : List 
       (λ other one present there apart open' not_stamped.
       back.undone.others (viewer_of one present) (record {
         other = other_id other one present there apart open' (had_not_stamped other not_stamped);
-        start = let early = back.shown.core_shows.times_apart.starts other one present there open' in
-            let ids = back.shown.below_ids in omega (arith, early, ids);
+        start = let early = back.has.shown.core_shows.times_apart.starts other one present there open' in
+            let ids = back.has.shown.below_ids in omega (arith, early, ids);
       })
-      ∙ back.shown.place_shows.viewer_sees other one present there open' (had_not_stamped other not_stamped))
+      ∙ back.has.shown.place_shows.viewer_sees other one present there open' (had_not_stamped other not_stamped))
 
   was_newcomer : (viewer : Viewer) → IsNewcomer (gone_on state number later) core (sessions_on sessions number session then) viewer
       → IsNewcomer state core sessions viewer
@@ -164,8 +164,8 @@ module _ {setting : Setting} {state : State} {core : CoreData} {sessions : List 
       | inr apart ↦
           one.new other another present there (opens_other state sessions number session then later other another present there apart open') e
       | inl same ↦
-          let it = open_once state sessions number other session another now present current there back.is_open open' same in
-          one.new number (went_on session then) then later (opens_here state sessions number session now then current later back.is_open)
+          let it = open_once state sessions number other session another now present current there back.has.is_open open' same in
+          one.new number (went_on session then) then later (opens_here state sessions number session now then current later back.has.is_open)
           (sym (ap (λ (s : SessionData). id_of (label_of s)) it.session_is) ∙ e)
     ];
   }
@@ -174,9 +174,9 @@ module _ {setting : Setting} {state : State} {core : CoreData} {sessions : List 
   newcomer_sees viewer one =
       let was = was_newcomer viewer one in
       let start = was.start in
-      let ids = back.shown.below_ids in
-      back.undone.others viewer (record { other = was.new number session now current back.is_open; start = omega (arith, start, ids) })
-      ∙ (back.shown.place_shows.newcomer_sees viewer was
+      let ids = back.has.shown.below_ids in
+      back.undone.others viewer (record { other = was.new number session now current back.has.is_open; start = omega (arith, start, ids) })
+      ∙ (back.has.shown.place_shows.newcomer_sees viewer was
       ∙ ap (λ (n : ℕ). item_at (snapshot setting state n) table pos) (sym same_counted))
 
   -- ---- use
@@ -184,7 +184,7 @@ module _ {setting : Setting} {state : State} {core : CoreData} {sessions : List 
   held_before : is_held setting state table pos ≡ true
   held_before =
       any_true (λ (each : Session). holds setting table pos each.now) state.sessions number (session_at state number)
-      (is_there state number current back.is_open.open_there) (ap (holds setting table pos) back.is_open.open_there ∙ back.held)
+      (is_there state number current back.has.is_open.open_there) (ap (holds setting table pos) back.has.is_open.open_there ∙ back.has.held)
 
   held_after : is_held setting (gone_on state number later) table pos ≡ false
   held_after =
@@ -193,7 +193,7 @@ module _ {setting : Setting} {state : State} {core : CoreData} {sessions : List 
             ap (λ (each : Session). holds setting table pos each.now)
             (sym (get_or_from_slice_get (gone_on state number later).sessions other one fresh e)
             ∙ (ap (session_at (gone_on state number later)) same
-            ∙ goes_there state number current later back.is_open.open_there))
+            ∙ goes_there state number current later back.has.is_open.open_there))
             ∙ gone
         | inr apart ↦
             ap (λ (each : Session). holds setting table pos each.now)
@@ -208,27 +208,28 @@ module _ {setting : Setting} {state : State} {core : CoreData} {sessions : List 
 
   used_shows : new.used ≡ is_used setting (gone_on state number later) table pos
   used_shows =
-      back.undone.used back.undo back.rest back.chain_is
-      ∙ (ap (λ (b : Bool). b && (back.undo.image.live || not (old.death == 0))) was_used
+      back.undone.used back.has.undo back.has.rest back.has.chain_is
+      ∙ (ap (λ (b : Bool). b && (back.has.undo.image.live || not (old.death == 0))) was_used
       ∙ (ap (λ (b : Bool). b || not (old.death == 0))
       (image_live back)
       ∙ (ap (λ (n : ℕ). is_some (item_at (snapshot setting state (entries_counted setting state table chunk)) table pos) || not (n == 0))
-      back.shown.place_shows.death_shows
-      ∙ (row_or_emptied setting state core sessions table chunk pos old back.shown has number current back.is_open.open_there
-      (quiet back)
+      back.has.shown.place_shows.death_shows
+      ∙ (row_or_emptied setting state core sessions table chunk pos old back.has.shown has number current back.has.is_open.open_there
+      (quiet back.has)
       ∙ (ap (λ (b : Bool). is_some (item_at (opening_tables setting) table pos) || b) (sym (or-false (list_any (has_pair table pos) state.order)))
       ∙ ap (λ (b : Bool). is_some (item_at (opening_tables setting) table pos) || (list_any (has_pair table pos) state.order || b)) (sym held_after))))))
     where
       was_used : old.used ≡ true
       was_used =
-          back.shown.place_shows.used_shows
+          back.has.shown.place_shows.used_shows
           ∙ or_right (is_some (item_at (opening_tables setting) table pos)) (list_any (has_pair table pos) state.order || is_held setting state table pos)
           (or_right (list_any (has_pair table pos) state.order) (is_held setting state table pos) held_before)
 
   pub undone_shows : PlaceShows setting (gone_on state number later) core (sessions_on sessions number session then) table chunk pos new
   undone_shows = record {
-    falls = falls_by_stamps back.rest new.chain (sym (stamps_left back))
-        (let f : Falls (back.undo ∷ back.rest) = subst (λ (chain : List (Undo Image)). Falls chain) back.chain_is back.shown.place_shows.falls in f.1);
+    falls = falls_by_stamps back.has.rest new.chain (sym (stamps_left back))
+        (let f : Falls (back.has.undo ∷ back.has.rest) =
+        subst (λ (chain : List (Undo Image)). Falls chain) back.has.chain_is back.has.shown.place_shows.falls in f.1);
     own_heads = own_heads;
     times_are_writers = times_are_writers;
     last_writer_on_top = last_writer_on_top;
@@ -236,6 +237,6 @@ module _ {setting : Setting} {state : State} {core : CoreData} {sessions : List 
     newcomer_sees = newcomer_sees;
     used_shows = used_shows;
     death_shows = back.undone.death
-        ∙ (back.shown.place_shows.death_shows
+        ∙ (back.has.shown.place_shows.death_shows
         ∙ ap (λ (n : ℕ). unwrap_or (last_some (emptied_at table pos) (take n core.entries)) 0) (sym same_counted));
   }

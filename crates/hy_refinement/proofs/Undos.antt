@@ -4,7 +4,6 @@ use Rattle.std.proofs.Common.{subst, arith, cond, inl, inr}
 use Rattle.std.specs.Prelude.{slice_get}
 use Rattle.std.proofs.lemmas.Bool.{cases_Bool}
 use Rattle.std.proofs.lemmas.Option.{slice_get_within}
-use Rattle.hy_stamp.specs.declared.Stamp.{Stamp}
 use Rattle.hy_stamp.specs.Times.{id_of}
 use Rattle.hy_chain.specs.Chains.{newest}
 use Rattle.hy_undo.specs.Places.{Place}
@@ -32,12 +31,12 @@ use Rattle.hy_refinement.specs.Taken.{AtChunk, chunk_number}
 use Rattle.hy_refinement.specs.Frames.{gone_on, sessions_on, KeepsStart, WentOn, StandsElsewhere, ChunkShows, UnmovedPlacesShow, ChunkVisitsShow}
 use Rattle.hy_refinement.specs.Frames.{VisitedChunksShow, GoingOnIsTaken}
 use Rattle.hy_refinement.specs.Visits.{UndosAreTaken}
-use Rattle.hy_refinement.proofs.RivalTops.{own_top, open_shown}
+use Rattle.hy_refinement.proofs.RivalTops.{open_shown}
 use Rattle.hy_refinement.proofs.NotedPlaces.{not_marked}
 use Rattle.hy_refinement.proofs.ChunkPlaces.{has_position}
 use Rattle.hy_refinement.proofs.FramesTurns.{everywhere_length, everywhere_at, chunk_still}
 use Rattle.hy_refinement.proofs.OpensGoneOn.{unstamped_on}
-use Rattle.hy_refinement.proofs.UndonePlaces.{first_undo}
+use Rattle.hy_refinement.proofs.OwnRecords.{own_record}
 use Rattle.hy_refinement.proofs.UndoneShows.{undone_shows}
 use Rattle.hy_refinement.proofs.UndoneChunks.{chunk_is_of, holds_not, holds_still}
 
@@ -70,7 +69,7 @@ module _ (setting : Setting) (state : State) (parts : List Part) (sessions : Lis
       took = shows.open_shows.took;
       phase = refl;
     };
-    notes_show = λ other. record { notes = (shows.notes_show other).notes; ascends = (shows.notes_show other).ascends };
+    notes_show = λ other. record { all = (shows.notes_show other).all; saved = (shows.notes_show other).saved };
     gathered_shows = λ visits count e. absurd cc;
     stamping = λ visits e. absurd cc;
   }
@@ -103,23 +102,14 @@ module _ (setting : Setting) (state : State) (parts : List Part) (sessions : Lis
         → PlaceShows setting (gone_on state number later) at.at_open.shown.shows.core (sessions_on sessions number session then) table chunk
         (chunk * setting.rows + index) new
     by_own own =
-        let top = own_top (id_of (label_of session)) (newest place.chain) own in
-        let first = first_undo place.chain top.0 top.1.0 in
         undone_shows (record {
-          shown = record {
+          has = own_record setting state at.at_open.shown.shows.core sessions table chunk (chunk * setting.rows + index) place (record {
             kept = at.at_open.shown.kept;
             below_ids = at.at_open.shown.below_ids;
             core_shows = at.at_open.shown.shows.core_shows;
             sessions_show = at.at_open.shown.shows.sessions_show;
             place_shows = place_shows;
-          };
-          is_open = at.at_open.is_open;
-          unmarked = unmarked;
-          held = sym held_is ∙ own;
-          undo = first.0;
-          rest = first.1.0;
-          chain_is = first.1.1.0;
-          own = ap (λ (s : Stamp). s.mark) first.1.1.1 ∙ top.1.1;
+          }) number session now current at.at_open.is_open unmarked own;
           undone = change.own own;
         })
         (has_position setting state table chunk index at.at_open.shown.kept at.is_part.table_below at.is_part.chunk_below below)

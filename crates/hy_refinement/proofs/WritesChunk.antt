@@ -1,5 +1,5 @@
 -- A chunk of which positions are written shows what is written.
-use Rattle.std.proofs.Common.{◌≡◌, ℕ, zero, suc, ◌+◌, ◌-◌, ◌*◌, ◌<◌, ◌≤◌, List, length, Option, None, Some, Ok}
+use Rattle.std.proofs.Common.{◌≡◌, ℕ, zero, suc, ◌+◌, ◌-◌, ◌*◌, ◌<◌, ◌≤◌, List, length, Option, None, Some, Ok, true}
 use Rattle.std.proofs.Common.{sym, ap, ◌∙◌, subst, arith, inl, inr}
 use Rattle.std.specs.Prelude.{slice_get, is_some}
 use Rattle.std.specs.Option.{option_or}
@@ -28,11 +28,11 @@ use Rattle.hy_protocol.specs.Statements.{kind_of}
 use Rattle.hy_machine.specs.Visits.{verdict_at, verdict as verdict_there, swept as swept_there}
 use Rattle.hy_refinement.specs.Transactions.{IsOpen}
 use Rattle.hy_refinement.specs.Numbers.{CoreShows}
-use Rattle.hy_refinement.specs.Places.{PlaceShows, cell_held}
+use Rattle.hy_refinement.specs.Places.{PlaceShows, cell_held, is_used}
 use Rattle.hy_refinement.specs.Parts.{ChunkIs}
 use Rattle.hy_refinement.specs.Pruned.{IsBelowIds}
 use Rattle.hy_refinement.specs.Rivals.{RivalsAreOpponents}
-use Rattle.hy_machine.specs.Kept.{Kept, OwnFits}
+use Rattle.hy_machine.specs.Kept.{Kept, OwnFits, TrailFits}
 use Rattle.hy_refinement.specs.Shows.{SessionsShow}
 use Rattle.hy_refinement.specs.Frames.{gone_on, sessions_on, KeepsStart, StandsAsBefore, StandsElsewhere, ChunkShows, UnmovedPlacesShow}
 use Rattle.hy_refinement.proofs.WritesOpen.{unstamped_on}
@@ -89,6 +89,9 @@ module _ (setting : Setting) (state : State) (core : CoreData) (sessions : List 
   pub fits : OwnFits setting current.begun.own
   fits = (work.kept.fits.opens number current work.is_open.open_there).own
 
+  pub trail_fits : TrailFits setting current.begun
+  trail_fits = (work.kept.fits.opens number current work.is_open.open_there).trail
+
   -- it sees its view
   pub sees_view : (pos : ℕ) (place : Place) → PlaceShows setting state core sessions table chunk pos place
       → sees (viewer_of session now) place ≡ item_at (view setting state current.begun) table pos
@@ -132,6 +135,31 @@ module _ (setting : Setting) (state : State) (core : CoreData) (sessions : List 
       part.places setting.rows is.places
       (λ i place e. same_judgement rivals sets pred (chunk * setting.rows + i) place (shows i place e))
 
+  -- nobody is in the way at a position, and it is used
+  pub record IsQuiet (i : ℕ) (place : Place) : Type 0 where
+    pub no_rival : rival (viewer_of session now) place.chain ≡ None
+    pub used : is_used setting state table (chunk * setting.rows + i) ≡ true
+
+  -- so it is wherever a cell comes
+  abbrev pub AreQuiet : List (Option Cell) → List Place → Type 0
+  AreQuiet cells places = (i : ℕ) (place : Place) (cell : Cell) → slice_get places i ≡ Some place → slice_get cells i ≡ Some (Some cell) → IsQuiet i place
+
+  -- where a sweep isn't refused it is so
+  pub swept_quiet : (sets : Option (List Assign)) (pred : Condition) (cells : List (Option Cell)) (places : List Place)
+      → ((i : ℕ) (place : Place) → slice_get places i ≡ Some place
+      → PlaceShows setting state core sessions table chunk (chunk * setting.rows + i) place)
+      → swept sets pred (viewer_of session now) (chunk * setting.rows) places ≡ Ok cells → AreQuiet cells places
+  swept_quiet sets pred cells places shows ok i place cell was is =
+      let pos : ℕ = chunk * setting.rows + i in
+      let says = swept_at sets pred (viewer_of session now) (chunk * setting.rows) places cells ok i place (Some cell) was is in
+      let seen = written_where_seen sets pred pos (rival (viewer_of session now) place.chain) (sees (viewer_of session now) place) cell says in
+      let held_cell : cell_held setting state table pos current ≡ Some seen.0.0 =
+      sym ((shows i place was).viewer_sees number session now current work.is_open (inl work.unmarked)) ∙ seen.0.1 in
+      record {
+        no_rival = seen.1;
+        used = used_where_seen setting state number current table pos seen.0.0 work.kept work.is_open.open_there held_cell;
+      }
+
   -- where its own cell is the same it stands as before
   pub stands : (then : Open) (later : MachineOpen) (other another pos : ℕ) → KeepsStart now then current later → undone later.phase ≡ 0
       → OwnFits setting later.begun.own
@@ -173,17 +201,13 @@ module _ (setting : Setting) (state : State) (core : CoreData) (sessions : List 
         PlaceShows setting (gone_on state number later) core (sessions_on sessions number session then) table chunk (chunk * setting.rows + i) place
 
     -- a position with a new cell shows it
-    written_here : (sets : Option (List Assign)) (pred : Condition) (i : ℕ) (old new : Place) (cell : Cell)
-        → PlaceShows setting state core sessions table chunk (chunk * setting.rows + i) old
-        → verdict sets pred (chunk * setting.rows + i) (rival (viewer_of session now) old.chain) (sees (viewer_of session now) old) ≡ Ok (Some cell)
+    written_here : (i : ℕ) (old new : Place) (cell : Cell)
+        → PlaceShows setting state core sessions table chunk (chunk * setting.rows + i) old → IsQuiet i old
         → slice_get cells i ≡ Some (Some cell) → Written (viewer_of session now) (label_of session) cell old new
         → ShowsThen i new
-    written_here sets pred i old new cell shows says is w =
+    written_here i old new cell shows quiet is w =
         let pos : ℕ = chunk * setting.rows + i in
-        let seen = written_where_seen sets pred pos (rival (viewer_of session now) old.chain) (sees (viewer_of session now) old) cell says in
         let own : item_at later.begun.own table pos ≡ Some cell = own_at i (Some cell) is in
-        let held_cell : cell_held setting state table pos current ≡ Some seen.0.0 =
-        sym (shows.viewer_sees number session now current work.is_open (inl work.unmarked)) ∙ seen.0.1 in
         written_shows setting state core sessions table chunk pos old new number session now then current later cell work.below_ids work.core_shows shows
         (record {
           is_open = work.is_open;
@@ -192,31 +216,27 @@ module _ (setting : Setting) (state : State) (core : CoreData) (sessions : List 
           start = on.keeps.start;
           holds_it = holds_own setting later table pos fits_later on.working ∙ ap is_some own;
         })
-        seen.1
-        (used_where_seen setting state number current table pos seen.0.0 work.kept work.is_open.open_there held_cell)
+        quiet.no_rival quiet.used
         (view_own setting state later.begun table pos cell fits_later own)
         w
 
     -- the chunk shows what is written
-    pub chunk_written : UnmovedPlacesShow → (sets : Option (List Assign)) (pred : Condition) (olds news : List Place)
+    pub chunk_written : UnmovedPlacesShow → (olds news : List Place)
         → ((i : ℕ) (place : Place) → slice_get olds i ≡ Some place
         → PlaceShows setting state core sessions table chunk (chunk * setting.rows + i) place)
-        → swept sets pred (viewer_of session now) (chunk * setting.rows) olds ≡ Ok cells
+        → AreQuiet cells olds
         → AllWritten (viewer_of session now) (label_of session) cells olds news
         → (i : ℕ) (place : Place) → slice_get news i ≡ Some place
         → ShowsThen i place
-    chunk_written unmoved sets pred olds news shows ok all i place e =
+    chunk_written unmoved olds news shows quiet all i place e =
         let was = written_at (viewer_of session now) (label_of session) cells olds news all i place e in
-        by_cell was.old (shows i was.old was.was) was.cell
-        (swept_at sets pred (viewer_of session now) (chunk * setting.rows) olds cells ok i was.old was.cell was.was was.cell_is)
-        was.cell_is was.by
+        by_cell was.old (shows i was.old was.was) was.cell was.was was.cell_is was.by
       where
         by_cell : (old : Place) → PlaceShows setting state core sessions table chunk (chunk * setting.rows + i) old → (cell : Option Cell)
-            → verdict sets pred (chunk * setting.rows + i) (rival (viewer_of session now) old.chain) (sees (viewer_of session now) old) ≡ Ok cell
-            → slice_get cells i ≡ Some cell → WrittenBy (viewer_of session now) (label_of session) cell old place
+            → slice_get olds i ≡ Some old → slice_get cells i ≡ Some cell → WrittenBy (viewer_of session now) (label_of session) cell old place
             → ShowsThen i place
-        by_cell old shows (Some cell) says is w = written_here sets pred i old place cell shows says is w
-        by_cell old shows None says is same =
+        by_cell old shows (Some cell) was is w = written_here i old place cell shows (quiet i old cell was is) is w
+        by_cell old shows None was is same =
             subst (ShowsThen i) (sym same)
             (unmoved setting state core sessions number session now then current later table chunk (chunk * setting.rows + i) old work.is_open on.keeps
             (stands then later table chunk (chunk * setting.rows + i) on.keeps on.working fits_later (own_at i None is)) shows)

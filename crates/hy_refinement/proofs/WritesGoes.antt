@@ -49,19 +49,9 @@ use Rattle.hy_refinement.proofs.FramesTurns.{chunk_still}
 use Rattle.hy_refinement.proofs.PlacesWork.{gathered_first}
 use Rattle.hy_refinement.proofs.WritesOwn.{writes_from}
 use Rattle.hy_refinement.proofs.WritesSweep.{swept_long, same_count, written_long}
-use Rattle.hy_refinement.proofs.WritesNotes.{notes_written}
-use Rattle.hy_refinement.proofs.WritesChunk.{AtWork, WritesOn, chunk_room, fits, sees_view, stands_elsewhere, chunk_written}
-
--- the laws by which a visit is the machine's
-pub record Laws : Type 0 where
-  pub one_id : (a b : Label) → IsLabel a → IsLabel b → id_of a ≡ id_of b → a ≡ b
-  pub visited : VisitedChunksShow
-  pub pruned : PrunedChunksShow
-  pub rivals : RivalsAreOpponents
-  pub follow : NotesFollowWrites
-  pub unmoved : UnmovedPlacesShow
-  pub visits : ChunkVisitsShow
-  pub taken : GoingOnIsTaken
+use Rattle.hy_refinement.proofs.WritesNotes.{noting, writing}
+use Rattle.hy_refinement.proofs.WritesChunk.{AtWork, WritesOn, AreQuiet, swept_quiet}
+use Rattle.hy_refinement.proofs.WritesShown.{Laws, written_notes, written_shown, visit_taken}
 
 -- ---- what is gathered
 
@@ -101,74 +91,40 @@ module _ (laws : Laws) (setting : Setting) (state : State) (parts : List Part) (
   session_is : SessionIs setting number session
   session_is = (at.at_open.shown.shows.sessions_show.each number session work.is_open.found).session_is
 
+  long : length cells ≡ length between.places
+  long = swept_long sets pred viewer first between.places cells ok
+
+  quiet : AreQuiet setting state core sessions number session now current table chunk work cells between.places
+  quiet = swept_quiet setting state core sessions number session now current table chunk work sets pred cells between.places chunk_shows ok
+
   abbrev changes : List Change
   changes = changes_from table first viewer cells between.places
 
   abbrev writes : List Write
   writes = writes_from table first cells
 
-  long : length cells ≡ length between.places
-  long = swept_long sets pred viewer first between.places cells ok
-
   counted : length changes ≡ length writes
   counted = same_count table first viewer cells between.places long
 
-  notes : NotesShow setting state (record now { notes = with_notes now.notes changes })
-      (record current { begun = record current.begun { own = with_writes current.begun.own writes } })
-  notes = notes_written laws.follow setting state table viewer work.table_below first cells between.places now current
-      (fits setting state core sessions number session now current table chunk work)
-      (chunk_room chunk setting.chunks setting.rows (length cells) work.chunk_below (long ∙ chunk_is.places)) long (shows_open.notes_show work.unmarked)
-      (λ i place e. sees_view setting state core sessions number session now current table chunk work (first + i) place (chunk_shows i place e))
+  notes : NotesShow setting state (noting now changes) (writing current writes)
+  notes = written_notes laws setting state parts sessions number session now current table chunk old at work between new cells chunk_is chunk_shows long quiet
+      only
 
-  -- all is shown where it went on so
+  -- nothing is gathered
+  gathered : (tables : Tables) (visits : ℕ) → GatheredBy setting tables visits now.gathered
+      (statement_at (txn_at setting number (session_at state number)) (length now.replies))
+  gathered tables visits =
+      subst (GatheredBy setting tables visits now.gathered) (sym stands_at.statement_is)
+      (gathered_by_write setting (view setting state current.begun) tables visited visits now.gathered table sets pred
+      (subst (GatheredBy setting (view setting state current.begun) visited now.gathered) stands_at.statement_is
+      (shows_open.gathered_shows visited count stands_at.phase_is)))
+
   shown_on : (then : Open) (later : MachineOpen) → WritesOn setting now then current later table chunk cells → WentOn setting state core number then later
       → Shows setting (gone_on state number later) (slice_set parts (chunk_number setting table chunk) (ChunkPart new))
       (sessions_on sessions number session then)
-  shown_on then later on went =
-      laws.visits setting state parts sessions number session now then current later table chunk old new at on.keeps went
-      (stands_elsewhere setting state core sessions number session now current table chunk work then later cells (long ∙ chunk_is.places) on)
-      (chunk_still setting table chunk (AllWritten viewer (label_of session) cells) between new chunk_is only
-      (written_long viewer (label_of session) cells between.places new.places only.places))
-      (chunk_written setting state core sessions number session now current table chunk work then later cells (long ∙ chunk_is.places) on laws.unmoved
-      sets pred between.places new.places chunk_shows ok only.places)
-
-  -- a visit that isn't the last one
-  abbrev then_visited : Open
-  then_visited = visited_by changes (phase.Working (suc visited) (count + length changes)) now
-
-  abbrev later_visited : MachineOpen
-  later_visited = after_visit writes (phase.Working (suc visited) (count + length writes)) current
-
-  went_visited : WentOn setting state core number then_visited later_visited
-  went_visited = record {
-    open_shows = record {
-      prefix = shows_open.open_shows.prefix;
-      replies = shows_open.open_shows.replies;
-      records = shows_open.open_shows.records;
-      took = shows_open.open_shows.took;
-      phase = ap (λ (n : ℕ). phase.Working (suc visited) (count + n)) counted;
-    };
-    notes_show = λ free. record { notes = notes.notes; ascends = notes.ascends };
-    gathered_shows = λ visits counts e.
-        subst (GatheredBy setting (view setting state later_visited.begun) visits now.gathered) (sym stands_at.statement_is)
-        (gathered_by_write setting (view setting state current.begun) (view setting state later_visited.begun) visited visits now.gathered table sets pred
-        (subst (GatheredBy setting (view setting state current.begun) visited now.gathered) stands_at.statement_is
-        (shows_open.gathered_shows visited count stands_at.phase_is)));
-    stamping = λ visits e. absurd cc;
-  }
-
-  visit_taken : (progress : Progress) (after : SessionData)
-      → Takes session (Visits_here changes (phase.Working (suc visited) (count + length changes))) progress after
-      → IsTaken setting state parts sessions number (Visits writes (phase.Working (suc visited) (count + length writes))) (chunk_number setting table chunk)
-      progress after (ChunkPart new)
-  visit_taken progress after takes =
-      laws.taken.visits setting state parts sessions number session now current changes (phase.Working (suc visited) (count + length changes))
-      writes (phase.Working (suc visited) (count + length writes)) (chunk_number setting table chunk) progress after (ChunkPart new) work.is_open takes
-      (shown_on then_visited later_visited (record {
-        keeps = record { start = refl; prefix = refl; cover = refl; prefix_there = refl; low_there = refl };
-        own = refl;
-        working = refl;
-      }) went_visited)
+  shown_on then later =
+      written_shown laws setting state parts sessions number session now current table chunk old at work between new cells chunk_is chunk_shows long quiet
+      only then later
 
   -- the last one, which answers
   abbrev reply : Reply
@@ -192,7 +148,7 @@ module _ (laws : Laws) (setting : Setting) (state : State) (parts : List Part) (
       took = ap (λ (took : List (Option ℕ)). took ++ None ∷ []) shows_open.open_shows.took;
       phase = refl;
     };
-    notes_show = λ free. record { notes = notes.notes; ascends = notes.ascends };
+    notes_show = λ free. record { all = notes.all; saved = notes.saved };
     gathered_shows = λ visits counts e.
         let none : 0 ≡ visits = cc in
         subst (λ (n : ℕ). GatheredBy setting (view setting state later_answered.begun) n [] (statement_at (txn_at setting number (session_at state number))
@@ -243,5 +199,7 @@ module _ (laws : Laws) (setting : Setting) (state : State) (parts : List Part) (
           (cond more (Visits writes (phase.Working (suc visited) (count + length writes)))
           (answers setting current.begun (statement_by table sets pred) [] writes (told_by (kind_of sets) (count + length writes)) None))
           (chunk_number setting table chunk) progress after (ChunkPart new)
-      by_more true takes = visit_taken progress after takes
+      by_more true takes =
+          visit_taken laws setting state parts sessions number session now current table chunk old at work between new cells chunk_is chunk_shows long quiet
+          only (suc visited) (count + length changes) (count + length writes) progress after (ap (λ (n : ℕ). count + n) counted) gathered takes
       by_more false takes = answer_taken progress after takes

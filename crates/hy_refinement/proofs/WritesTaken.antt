@@ -40,7 +40,8 @@ use Rattle.hy_refinement.proofs.FramesRefusals.{refused_here, refused_there, ref
 use Rattle.hy_refinement.proofs.PlacesWork.{at_work_in}
 use Rattle.hy_refinement.proofs.WritesSweep.{as_sweep}
 use Rattle.hy_refinement.proofs.WritesChunk.{AtWork, same_swept}
-use Rattle.hy_refinement.proofs.WritesGoes.{Laws, writes_taken}
+use Rattle.hy_refinement.proofs.WritesShown.{Laws}
+use Rattle.hy_refinement.proofs.WritesGoes.{writes_taken}
 
 module _ (laws : Laws) (setting : Setting) (state : State) (parts : List Part) (sessions : List SessionData) (number : ℕ) (session : SessionData)
     (now : Open) (current : MachineOpen) (table chunk : ℕ) (old : ChunkData) (visited count : ℕ) (sets : Option (List Assign)) (pred : Condition)

@@ -14,7 +14,7 @@ use Rattle.hy_machine.specs.Sessions.{session_at, snapshot, view}
 use Rattle.hy_machine.specs.Holding.{holds, is_held, has_pair, undone}
 use Rattle.hy_refinement.specs.Places.{cell_held, is_used}
 use Rattle.hy_machine.specs.Kept.{OwnFits, Kept}
-use Rattle.hy_refinement.proofs.WrittenPlaces.{own_among}
+use Rattle.hy_machine.specs.WrittenPlaces.{own_among}
 use Rattle.hy_refinement.proofs.Orders.{tables_over, cell_stays}
 use Rattle.hy_refinement.proofs.LastCells.{any_true, pair_over, stays_along}
 use Rattle.hy_refinement.proofs.Holders.{is_there}
@@ -127,3 +127,13 @@ used_where_seen setting state number current table pos row kept there seen =
     by_use (inr (inr held)) =
         or_right (is_some (item_at (opening_tables setting) table pos)) (list_any (has_pair table pos) state.order || is_held setting state table pos)
         (or_right (list_any (has_pair table pos) state.order) (is_held setting state table pos) held)
+
+-- ---- a position that is held is in use
+
+pub used_where_held : (setting : Setting) (state : State) (number : ℕ) (current : MachineOpen) (table pos : ℕ)
+    → (session_at state number).now ≡ Some current → holds setting table pos (Some current) ≡ true → is_used setting state table pos ≡ true
+used_where_held setting state number current table pos there held =
+    or_right (is_some (item_at (opening_tables setting) table pos)) (list_any (has_pair table pos) state.order || is_held setting state table pos)
+    (or_right (list_any (has_pair table pos) state.order) (is_held setting state table pos)
+    (any_true (λ (one : Session). holds setting table pos one.now) state.sessions number (session_at state number)
+    (is_there state number current there) (ap (holds setting table pos) there ∙ held)))

@@ -1,6 +1,8 @@
 -- A visit of the core is the machine's turn: for each kind of visit.
 use Rattle.std.specs.Prelude.{◌≡◌, ℕ, ◌-◌, ◌≤◌, ◌==◌, List, false, None, Some, slice_get, drop, filter, length, map}
 use Rattle.std.specs.Option.{option_map}
+use Rattle.hy_bound.specs.declared.Bound.{Bound}
+use Rattle.hy_bound.specs.declared.Reply.{Reply}
 use Rattle.hy_bound.specs.declared.Ending.{Ending}
 use Rattle.hy_bound.specs.declared.Ending.TheVariants.{Committed}
 use Rattle.hy_stamp.specs.declared.Label.{Label}
@@ -19,7 +21,7 @@ use Rattle.hy_event.specs.CoreTurns.{TakesAtCore, invalid_by}
 use Rattle.hy_event.specs.Events.{Part, CorePart}
 use Rattle.hy_machine.specs.declared.Setting.{Setting}
 use Rattle.hy_machine.specs.States.{State, Open as MachineOpen}
-use Rattle.hy_protocol.specs.Turns.{Waits, Begins, Enters, Ends, refused, is_stamping}
+use Rattle.hy_protocol.specs.Turns.{Waits, Begins, Saves, Enters, Ends, refused, is_stamping}
 use Rattle.hy_machine.specs.Writes.{written_chunks, wrote_nothing}
 use Rattle.hy_machine.specs.Sessions.{blocker}
 use Rattle.hy_machine.specs.Holding.{holds}
@@ -74,6 +76,17 @@ LeavesAreTaken =
     → now.phase ≡ phase.Stamping visited → length (written_chunks setting current.begun.own) ≤ visited
     → TakesAtCore session at.shown.shows.core (Some (Ends (Committed (length state.order - 1)))) progress after new
     → IsTaken setting state parts sessions number (Ends (Committed (length state.order - 1))) (core_number setting) progress after (CorePart new)
+
+-- a statement that opens or closes savepoints is answered
+abbrev pub SavesAreTaken : Type 0
+SavesAreTaken =
+    (setting : Setting) (state : State) (parts : List Part) (sessions : List SessionData) (number : ℕ) (session : SessionData)
+    (now : Open) (current : MachineOpen) (visited count : ℕ) (statement : Bound) (reply : Reply)
+    (progress : Progress) (after : SessionData) (new : CoreData)
+    → (at : AtOpen setting state parts sessions number session now current)
+    → AtStatement setting state number now visited count (Some statement)
+    → TakesAtCore session at.shown.shows.core (Some (Saves statement reply)) progress after new
+    → IsTaken setting state parts sessions number (Saves statement reply) (core_number setting) progress after (CorePart new)
 
 -- ---- COMMIT
 

@@ -1,12 +1,11 @@
 -- What stays shown where one session's open transaction goes on, in one chunk or in none.
-use Rattle.std.specs.Prelude.{◌≡◌, ◌≢◌, ℕ, ◌+◌, ◌*◌, ◌<◌, List, Option, Some, slice_get, slice_set, length}
+use Rattle.std.specs.Prelude.{◌≡◌, ◌≢◌, ℕ, ◌+◌, ◌*◌, ◌<◌, List, Option, Some, slice_get, slice_set, length, ◌∷◌, []}
 use Rattle.hy_undo.specs.Chunks.{ChunkData}
 use Rattle.hy_undo.specs.Places.{Place}
 use Rattle.hy_value.specs.declared.change.Change.{Change}
 use Rattle.hy_bound.specs.declared.Record.{Record}
 use Rattle.hy_bound.specs.declared.Reply.{Reply}
 use Rattle.hy_journal.specs.declared.CoreData.{CoreData}
-use Rattle.hy_notes.specs.Notes.{with_note}
 use Rattle.hy_prune.specs.declared.Cover.{Cover}
 use Rattle.hy_event.specs.declared.SessionData.{SessionData}
 use Rattle.hy_event.specs.declared.Open.{Open}
@@ -19,7 +18,7 @@ use Rattle.hy_event.specs.Changing.{PrunesFirst}
 use Rattle.hy_event.specs.Events.{Part, ChunkPart}
 use Rattle.hy_machine.specs.declared.Setting.{Setting}
 use Rattle.hy_machine.specs.States.{State, Open as MachineOpen}
-use Rattle.hy_machine.specs.Writes.{Write, with_write}
+use Rattle.hy_machine.specs.Writes.{Write}
 use Rattle.hy_protocol.specs.Turns.{Visits, Answers}
 use Rattle.hy_machine.specs.Positions.{item_at}
 use Rattle.hy_machine.specs.Tables.{Cell, capacity}
@@ -35,7 +34,7 @@ use Rattle.hy_refinement.specs.Parts.{ChunkIs}
 use Rattle.hy_refinement.specs.Pruned.{IsBelowIds}
 use Rattle.hy_refinement.specs.Shows.{Shows}
 use Rattle.hy_refinement.specs.Taken.{AtOpen, AtChunk, IsTaken, chunk_number}
-use Rattle.hy_machine.specs.Kept.{OwnFits}
+use Rattle.hy_machine.specs.Kept.{OwnFits, TrailFits}
 
 -- ---- a transaction goes on
 
@@ -156,16 +155,20 @@ pub record GoingOnIsTaken : Type 0 where
 
 -- ---- notes
 
--- an open transaction with a cell more that it wrote
+-- an open transaction that writes a cell
 abbrev pub with_own : MachineOpen → Write → MachineOpen
-with_own current write = record current { begun = record current.begun { own = with_write current.begun.own write } }
+with_own current write = after_visit (write ∷ []) current.phase current
+
+-- an open transaction that notes a change
+abbrev pub with_noted : Open → Change → Open
+with_noted now change = visited_by (change ∷ []) now.phase now
 
 -- a change that is noted, from what the transaction sees at a position, shows the cell that it writes there
 abbrev pub NotesFollowWrites : Type 0
 NotesFollowWrites =
     (setting : Setting) (state : State) (now : Open) (current : MachineOpen) (table pos : ℕ) (cell : Cell)
-    → OwnFits setting current.begun.own → table < length setting.first → pos < capacity setting
+    → OwnFits setting current.begun.own → TrailFits setting current.begun → table < length setting.first → pos < capacity setting
     → NotesShow setting state now current
     → NotesShow setting state
-    (record now { notes = with_note (record { table = table; pos = pos; before = item_at (view setting state current.begun) table pos; after = cell }) now.notes })
+    (with_noted now (record { table = table; pos = pos; before = item_at (view setting state current.begun) table pos; after = cell }))
     (with_own current (record { table = table; pos = pos; cell = cell }))

@@ -12,6 +12,7 @@ pub mod Waiting
 pub mod Laws
 pub mod Labels
 pub mod Taken
+pub mod OwnRecords
 pub mod Frames
 pub mod Visits
 pub mod CoreVisits

@@ -1,11 +1,13 @@
 -- What a session shows: its ended transactions, and its open one.
 use Rattle.std.specs.Prelude.{◌≡◌, ◌≢◌, ◌⊎◌, ℕ, ◌<◌, ◌≤◌, ◌-◌, ◌*◌, List, [], ◌∷◌, ◌++◌, ◌==◌, Option, None, Some}
-use Rattle.std.specs.Prelude.{Contains, slice_get, slice_index_or, length, map, filter, take, min, if◌then◌else◌}
+use Rattle.std.specs.Prelude.{Contains, slice_get, slice_index_or, length, map, filter, take, drop, min, if◌then◌else◌}
 use Rattle.hy_bound.specs.declared.Bound.{Bound}
-use Rattle.hy_bound.specs.declared.Bound.TheVariants.{Select, Group, Insert, Update, Delete}
+use Rattle.hy_bound.specs.declared.Bound.TheVariants.{Select, Group, Insert, Update, Delete, Savepoint, RollbackTo, Release}
 use Rattle.hy_bound.specs.declared.Txn.{Txn}
 use Rattle.hy_bound.specs.Changes.{present}
 use Rattle.hy_bound.specs.Projection.{projected}
+use Rattle.hy_bound.specs.SavedRelations.{AreAlike}
+use Rattle.hy_value.specs.declared.change.Change.{Change}
 use Rattle.hy_plan.specs.declared.PlanPart.{PlanPart}
 use Rattle.hy_plan.specs.Reads.{is_read_of}
 use Rattle.hy_meaning.specs.Statement.{Table}
@@ -17,12 +19,14 @@ use Rattle.hy_journal.specs.declared.CoreData.{CoreData}
 use Rattle.hy_journal.specs.declared.Entry.{Entry}
 use Rattle.hy_event.specs.declared.SessionData.{SessionData}
 use Rattle.hy_event.specs.declared.Open.{Open}
+use Rattle.hy_event.specs.Sessions.{savepoint_of}
 use Rattle.hy_protocol.specs.declared.Phase.TheVariants as phase
 use Rattle.hy_event.specs.Gathering.{ReadPlan, select_read_plan, group_read_plan, joined_columns, conditions_by}
 use Rattle.hy_machine.specs.declared.Setting.{Setting}
 use Rattle.hy_machine.specs.States.{State, Open as MachineOpen}
 use Rattle.hy_machine.specs.Positions.{item_at}
-use Rattle.hy_machine.specs.Tables.{Tables}
+use Rattle.hy_machine.specs.Tables.{Tables, Own, over}
+use Rattle.hy_machine.specs.Writes.{Write, blank_own, with_writes}
 use Rattle.hy_machine.specs.Sessions.{session_at, program_of, txn_at, snapshot, view, pair_of}
 use Rattle.hy_machine.specs.Outcomes.{outcomes_from}
 use Rattle.hy_refinement.specs.Numbers.{noted}
@@ -64,11 +68,21 @@ pub record DoneSoFar (now : Open) (current : MachineOpen) : Type 0 where
   pub took : now.took ≡ current.begun.took
   pub phase : now.phase ≡ current.phase
 
--- its notes have at every position the cell that it saw at its start and the one that it wrote
+-- notes have at every position the cell of these tables and the one that was written over it
+pub record NotesHave (tables : Tables) (own : Own) (notes : List Change) : Type 0 where
+  pub each : (table pos : ℕ) → note_at notes table pos ≡ noted (pair_of (item_at tables table pos) (item_at own table pos))
+  pub ascends : Ascends notes
+
+-- notes since a savepoint, which was made behind so many writes, have what was seen then, over these tables, and what was
+-- written since
+abbrev pub SinceHave : Setting → Tables → List Write → List Change → ℕ → Type 0
+SinceHave setting tables trail notes count =
+    NotesHave (over tables (with_writes (blank_own setting) (take count trail))) (with_writes (blank_own setting) (drop count trail)) notes
+
+-- its notes have what it saw at its start and what it wrote, and so have those since its savepoints
 pub record NotesShow (setting : Setting) (state : State) (now : Open) (current : MachineOpen) : Type 0 where
-  pub notes : (table pos : ℕ) → note_at now.notes table pos
-      ≡ noted (pair_of (item_at (snapshot setting state current.begun.prefix) table pos) (item_at current.begun.own table pos))
-  pub ascends : Ascends now.notes
+  pub all : NotesHave (snapshot setting state current.begun.prefix) current.begun.own now.notes
+  pub saved : AreAlike (SinceHave setting (snapshot setting state current.begun.prefix) current.begun.trail) (map savepoint_of now.saved) current.begun.saved
 
 -- ---- what a SELECT has gathered
 
@@ -101,6 +115,9 @@ GatheredBy setting tables visited gathered (Some (Group table pred key aggregate
 GatheredBy setting tables visited gathered (Some (Insert table row)) = gathered ≡ []
 GatheredBy setting tables visited gathered (Some (Update table sets pred)) = gathered ≡ []
 GatheredBy setting tables visited gathered (Some (Delete table pred)) = gathered ≡ []
+GatheredBy setting tables visited gathered (Some (Savepoint name)) = gathered ≡ []
+GatheredBy setting tables visited gathered (Some (RollbackTo name)) = gathered ≡ []
+GatheredBy setting tables visited gathered (Some (Release name)) = gathered ≡ []
 
 -- the present statement of a transaction of a script
 abbrev pub statement_at : Option Txn → ℕ → Option Bound

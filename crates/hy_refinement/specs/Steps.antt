@@ -1,7 +1,7 @@
 -- A visit of a session to the part that it needs is the machine's step.
 use Rattle.std.specs.Prelude.{◌≡◌, ℕ, List, Option, None, Some, slice_get, length, map}
 use Rattle.hy_bound.specs.declared.Bound.{Bound}
-use Rattle.hy_bound.specs.declared.Bound.TheVariants.{Select, Group, Insert, Update, Delete}
+use Rattle.hy_bound.specs.declared.Bound.TheVariants.{Select, Group, Insert, Update, Delete, Savepoint, RollbackTo, Release}
 use Rattle.hy_bound.specs.Records.{shape_of}
 use Rattle.hy_bound.specs.Agreement.{FitTable, FitTables, HaveTheirKeys}
 use Rattle.hy_bound.specs.declared.Txn.{Txn}
@@ -29,6 +29,9 @@ ReadsFit setting seen (Some (Group table pred key aggregate)) = FitTable (shape_
 ReadsFit setting seen (Some (Insert table row)) = Unit {0}
 ReadsFit setting seen (Some (Update table sets pred)) = Unit {0}
 ReadsFit setting seen (Some (Delete table pred)) = Unit {0}
+ReadsFit setting seen (Some (Savepoint name)) = Unit {0}
+ReadsFit setting seen (Some (RollbackTo name)) = Unit {0}
+ReadsFit setting seen (Some (Release name)) = Unit {0}
 
 -- so it is for the present statement of every open transaction
 abbrev pub ViewsFit : Setting → State → Type 0

@@ -4,7 +4,7 @@ use Rattle.hy_value.specs.declared.Value.{Value}
 use Rattle.hy_bound.specs.declared.Aggregate.{Aggregate}
 use Rattle.hy_bound.specs.declared.Assign.{Assign}
 use Rattle.hy_bound.specs.declared.Bound.{Bound}
-use Rattle.hy_bound.specs.declared.Bound.TheVariants.{Select, Group, Insert, Update, Delete}
+use Rattle.hy_bound.specs.declared.Bound.TheVariants.{Select, Group, Insert, Update, Delete, RollbackTo}
 use Rattle.hy_bound.specs.declared.Items.{Items}
 use Rattle.hy_bound.specs.declared.On.{On}
 use Rattle.hy_bound.specs.Condition.{Condition}
@@ -22,6 +22,7 @@ use Rattle.hy_event.specs.Inserting.{CheckVisit, PlaceVisit}
 use Rattle.hy_event.specs.Writing.{WriteVisit}
 use Rattle.hy_event.specs.Stamping.{StampVisit}
 use Rattle.hy_event.specs.Undoing.{UndoVisit}
+use Rattle.hy_event.specs.Backing.{BackVisit}
 use Rattle.hy_event.specs.Events.{Part, ChunkPart}
 use Rattle.hy_bound.specs.declared.Ending.{Ending}
 use Rattle.hy_machine.specs.declared.Setting.{Setting}
@@ -29,11 +30,12 @@ use Rattle.hy_machine.specs.States.{State, Open as MachineOpen}
 use Rattle.hy_protocol.specs.Turns.{Visits, is_stamping}
 use Rattle.hy_machine.specs.Turns.{rows_seen, read_turn, write_turn, check_turn, place_turn}
 use Rattle.hy_machine.specs.Writes.{written_chunks}
+use Rattle.hy_machine.specs.Saving.{written_since, taken_back}
 use Rattle.hy_machine.specs.Sessions.{view}
 use Rattle.hy_machine.specs.Holding.{undone}
 use Rattle.hy_protocol.specs.Statements.{kind_of}
 use Rattle.hy_machine.specs.Visits.{swept, sees_key, free_position}
-use Rattle.hy_event.specs.Sessions.{written_chunks as chunks_written}
+use Rattle.hy_event.specs.Sessions.{written_chunks as chunks_written, chunks_since}
 use Rattle.hy_refinement.specs.Taken.{AtOpen, AtChunk, AtStatement, IsTaken, chunk_number}
 
 -- ---- statements that read
@@ -149,6 +151,20 @@ UndosAreTaken =
     (Visits [] (phase.Undoing (suc visited) cause))
     (chunk_number setting table chunk) progress after (ChunkPart new)
 
+-- a transaction goes back in the chunk that is its turn
+abbrev pub BacksAreTaken : Type 0
+BacksAreTaken =
+    (setting : Setting) (state : State) (parts : List Part) (sessions : List SessionData) (number : ℕ) (session : SessionData)
+    (now : Open) (current : MachineOpen) (table chunk : ℕ) (old : ChunkData) (visited count : ℕ) (name : List ℕ)
+    (progress : Progress) (after : SessionData) (new : ChunkData)
+    → AtChunk setting state parts sessions number session now current table chunk old
+    → AtStatement setting state number now visited count (Some (RollbackTo name))
+    → slice_get (written_since setting current.begun name) visited ≡ Some (table, chunk)
+    → BackVisit session now visited name old progress after new
+    → IsTaken setting state parts sessions number
+    (Visits (taken_back setting state current.begun name table chunk) (phase.Working (suc visited) 0))
+    (chunk_number setting table chunk) progress after (ChunkPart new)
+
 -- ---- which chunks
 
 -- an open transaction wrote in the same chunks as the machine's
@@ -158,3 +174,11 @@ WrittenChunksAreTheMachines =
     (now : Open) (current : MachineOpen)
     → AtOpen setting state parts sessions number session now current
     → chunks_written session now ≡ written_chunks setting current.begun.own
+
+-- and since its newest savepoint of a name
+abbrev pub ChunksSinceAreTheMachines : Type 0
+ChunksSinceAreTheMachines =
+    (setting : Setting) (state : State) (parts : List Part) (sessions : List SessionData) (number : ℕ) (session : SessionData)
+    (now : Open) (current : MachineOpen) (name : List ℕ)
+    → AtOpen setting state parts sessions number session now current → is_stamping current.phase ≡ false
+    → chunks_since session now name ≡ written_since setting current.begun name

@@ -9,16 +9,18 @@ ghost use Rattle.hy_refinement.specs.Pruned.{PrunedTells, PruningShowsNothing};
 ghost use Rattle.hy_refinement.specs.Rivals.{RivalsAreOpponents};
 ghost use Rattle.hy_refinement.specs.Free.{FreeIsTheMachines};
 ghost use Rattle.hy_refinement.specs.Waiting.{BlockersAreTheMachines};
+ghost use Rattle.hy_refinement.specs.OwnRecords.{BehindOwnIsTheStart, NotesHaveWhatWasSeen};
 
 mod visits;
 
 use hy_undo::Delta;
 pub use visits::{
-    begins_are_taken, checks_are_taken, chunk_visits_show, closes_are_taken, enters_are_taken,
-    entries_tell_changes, events_are_steps, going_on_is_taken, groups_are_taken,
-    hits_are_the_machines, leaves_are_taken, notes_are_writes, notes_follow_writes, own_steps_show,
-    places_are_taken, pruned_chunks_show, refusals_are_taken, selects_are_taken, stamps_are_taken,
-    undos_are_taken, unmoved_places_show, visited_chunks_show, waits_are_taken, writes_are_taken,
+    backs_are_taken, begins_are_taken, checks_are_taken, chunk_visits_show,
+    chunks_since_are_the_machines, closes_are_taken, enters_are_taken, entries_tell_changes,
+    events_are_steps, going_on_is_taken, groups_are_taken, hits_are_the_machines, leaves_are_taken,
+    notes_are_writes, notes_follow_writes, own_steps_show, places_are_taken, pruned_chunks_show,
+    refusals_are_taken, saves_are_taken, selects_are_taken, stamps_are_taken, undos_are_taken,
+    unmoved_places_show, visited_chunks_show, waits_are_taken, writes_are_taken,
     written_chunks_are_the_machines,
 };
 
@@ -58,4 +60,12 @@ pub fn free_positions_are_the_machines()
 /// A session's step at the core is blocked exactly where the machine's step is, and by the same transaction.
 pub fn blockers_are_the_machines()
     ensures { BlockersAreTheMachines }
+{}
+
+/// What a transaction that goes back finds where it wrote. Where its record is on top of a position, and it has no entry
+/// yet, what stood there before is what the tables of its start have; and where it noted a change since a savepoint it
+/// holds the position, and the note has what it saw there when the savepoint was made.
+pub fn own_records_tell()
+    ensures behind { BehindOwnIsTheStart }
+    ensures seen { NotesHaveWhatWasSeen }
 {}

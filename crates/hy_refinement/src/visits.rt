@@ -3,10 +3,10 @@
 ghost use Rattle.hy_refinement.specs.Frames.{UnmovedPlacesShow, ChunkVisitsShow, OwnStepsShow, PrunedChunksShow, VisitedChunksShow};
 ghost use Rattle.hy_refinement.specs.Frames.{GoingOnIsTaken, NotesFollowWrites};
 ghost use Rattle.hy_refinement.specs.Visits.{SelectsAreTaken, GroupsAreTaken, ChecksAreTaken, PlacesAreTaken, WritesAreTaken};
-ghost use Rattle.hy_refinement.specs.Visits.{StampsAreTaken, UndosAreTaken, WrittenChunksAreTheMachines};
+ghost use Rattle.hy_refinement.specs.Visits.{StampsAreTaken, UndosAreTaken, BacksAreTaken, WrittenChunksAreTheMachines, ChunksSinceAreTheMachines};
 ghost use Rattle.hy_refinement.specs.CoreVisits.{BeginsAreTaken, ClosesAreTaken, LeavesAreTaken, NotesAreWrites, HitsAreTheMachines};
 ghost use Rattle.hy_refinement.specs.CoreVisits.{EntriesTellChanges};
-ghost use Rattle.hy_refinement.specs.CoreVisits.{EntersAreTaken, RefusalsAreTaken, WaitsAreTaken};
+ghost use Rattle.hy_refinement.specs.CoreVisits.{SavesAreTaken, EntersAreTaken, RefusalsAreTaken, WaitsAreTaken};
 ghost use Rattle.hy_refinement.specs.Steps.{EventsAreSteps};
 
 use crate::{
@@ -133,9 +133,28 @@ pub fn undos_are_taken()
     going_on_is_taken();
 }
 
+/// A visit of a ROLLBACK TO is the machine's.
+pub fn backs_are_taken()
+    ensures { BacksAreTaken }
+{
+    hy_stamp::identifiers_are_apart();
+    visited_chunks_show();
+    pruned_chunks_show();
+    rivals_are_the_machines();
+    notes_follow_writes();
+    unmoved_places_show();
+    chunk_visits_show();
+    going_on_is_taken();
+}
+
 /// An open transaction wrote in the same chunks as the machine's.
 pub fn written_chunks_are_the_machines()
     ensures { WrittenChunksAreTheMachines }
+{}
+
+/// And since its newest savepoint of a name.
+pub fn chunks_since_are_the_machines()
+    ensures { ChunksSinceAreTheMachines }
 {}
 
 /// A BEGIN is the machine's.
@@ -190,6 +209,13 @@ pub fn refusals_are_taken()
     going_on_is_taken();
 }
 
+/// The answer to a statement that opens or closes savepoints is the machine's.
+pub fn saves_are_taken()
+    ensures { SavesAreTaken }
+{
+    own_steps_show();
+}
+
 /// A session that waits stays as it is, as in the machine.
 pub fn waits_are_taken()
     ensures { WaitsAreTaken }
@@ -201,6 +227,7 @@ pub fn events_are_steps()
 {
     blockers_are_the_machines();
     written_chunks_are_the_machines();
+    chunks_since_are_the_machines();
     notes_are_writes();
     hits_are_the_machines();
     selects_are_taken();
@@ -210,6 +237,8 @@ pub fn events_are_steps()
     writes_are_taken();
     stamps_are_taken();
     undos_are_taken();
+    backs_are_taken();
+    saves_are_taken();
     begins_are_taken();
     closes_are_taken();
     leaves_are_taken();

@@ -14,3 +14,6 @@ pub mod Alike
 mod OnePart
 mod Plans
 pub mod Wide
+pub mod NotedBefore
+pub mod Backs
+pub mod ChunkNotes

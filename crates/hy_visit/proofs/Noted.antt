@@ -1,6 +1,7 @@
 -- What an UPDATE or a DELETE notes and tells, as a session has it.
-use Rattle.std.proofs.Common.{◌≡◌, ℕ, suc, List, [], ◌∷◌, None, Some, length, refl, sym, ap, ◌∙◌, arith}
+use Rattle.std.proofs.Common.{◌≡◌, ℕ, suc, List, [], ◌∷◌, None, Some, length, map, refl, sym, ap, ◌∙◌, arith}
 use Rattle.std.specs.Prelude.{Option, Result, Ok, Err, count_by, is_some, cond}
+use Rattle.std.proofs.lemmas.List.{map-id}
 use Rattle.std.proofs.lemmas.List.Sums.{sum_by-cons}
 use Rattle.std.proofs.lemmas.Option.{none-some, same_Some}
 use Rattle.hy_stamp.specs.declared.Label.{Label}
@@ -11,7 +12,7 @@ use Rattle.hy_undo.specs.declared.refusal.Refusal.{Refusal}
 use Rattle.hy_undo.specs.Places.{Place, Cell, sees}
 use Rattle.hy_undo.specs.Chunks.{ChunkData}
 use Rattle.hy_undo.specs.Sweeps.{AllWritten}
-use Rattle.hy_chunk.specs.Writes.{IsDone, all_noted, refusal_in}
+use Rattle.hy_chunk.specs.Writes.{IsDone, all_noted, notes_with, refusal_in}
 use Rattle.hy_event.specs.Changing.{changes_from}
 use Rattle.hy_event.specs.Turns.{with_notes}
 use Rattle.hy_event.specs.Writing.{Becomes, changes_by}
@@ -49,10 +50,11 @@ counted_each table pos viewer label (Some cell ∷ cells) (old ∷ olds) (new �
 
 -- what becomes of a chunk, what is told of it, and the notes after it
 pub record ComesTo (viewer : Viewer) (label : Label) (table : ℕ) (cells : Result (List (Option Cell)) Refusal) (old : ChunkData) (notes : List Change)
-    (answer : Result ℕ Refusal) (new : ChunkData) (now : List Change) : Type 0 where
+    (levels : List (List Change)) (answer : Result ℕ Refusal) (new : ChunkData) (now : List Change) (later : List (List Change)) : Type 0 where
   pub chunk : Becomes viewer label cells old new
   pub told : answer ≡ counted (changes_by table viewer old cells)
   pub noted : now ≡ noted_after notes (changes_by table viewer old cells)
+  pub in_each : later ≡ map (λ since. noted_after since (changes_by table viewer old cells)) levels
 
 abbrev answered : ℕ → Result ℕ Refusal
 answered count = Ok count
@@ -61,21 +63,24 @@ abbrev failed : Refusal → Result ℕ Refusal
 failed refusal = Err refusal
 
 pub done_so : (viewer : Viewer) (label : Label) (table : ℕ) (cells : Result (List (Option Cell)) Refusal) (old : ChunkData) (notes : List Change)
-    (count : ℕ) (new : ChunkData) (now : List Change) → new ≡ record old { places = new.places }
-    → IsDone viewer label table old.first cells old.places new.places notes now count → ComesTo viewer label table cells old notes (Ok count) new now
-done_so viewer label table (Err refusal) old notes count new now others done = absurd done
-done_so viewer label table (Ok cells) old notes count new now others done = record {
+    (levels : List (List Change)) (count : ℕ) (new : ChunkData) (now : List Change) (later : List (List Change)) → new ≡ record old { places = new.places }
+    → IsDone viewer label table old.first cells old.places new.places notes now count → later ≡ map (notes_with table old.first viewer cells old.places) levels
+    → ComesTo viewer label table cells old notes levels (Ok count) new now later
+done_so viewer label table (Err refusal) old notes levels count new now later others done in_levels = absurd done
+done_so viewer label table (Ok cells) old notes levels count new now later others done in_levels = record {
   chunk = record { places = done.written; others = others };
   told = ap answered (done.counted ∙ counted_each table old.first viewer label cells old.places new.places done.written);
   noted = done.noted ∙ noted_each table old.first viewer cells old.places notes;
+  in_each = in_levels ∙ (λ i. map (λ (since : List Change). noted_each table old.first viewer cells old.places since i) levels);
 }
 
 pub refused_so : (viewer : Viewer) (label : Label) (table : ℕ) (cells : Result (List (Option Cell)) Refusal) (old : ChunkData) (notes : List Change)
-    (refusal : Refusal) (new : ChunkData) (now : List Change) → Some refusal ≡ refusal_in cells → new ≡ old → now ≡ notes
-    → ComesTo viewer label table cells old notes (Err refusal) new now
-refused_so viewer label table (Ok cells) old notes refusal new now is chunk kept = absurd (none-some refusal (sym is))
-refused_so viewer label table (Err other) old notes refusal new now is chunk kept = record {
+    (levels : List (List Change)) (refusal : Refusal) (new : ChunkData) (now : List Change) (later : List (List Change)) → Some refusal ≡ refusal_in cells
+    → new ≡ old → now ≡ notes → later ≡ levels → ComesTo viewer label table cells old notes levels (Err refusal) new now later
+refused_so viewer label table (Ok cells) old notes levels refusal new now later is chunk kept kept_levels = absurd (none-some refusal (sym is))
+refused_so viewer label table (Err other) old notes levels refusal new now later is chunk kept kept_levels = record {
   chunk = chunk;
   told = ap failed (same_Some refusal other is);
   noted = kept;
+  in_each = kept_levels ∙ sym (map-id levels);
 }

@@ -1,9 +1,10 @@
 -- What becomes of a chunk in a visit of an INSERT that looks for a free position.
-use Rattle.std.proofs.Common.{◌≡◌, ℕ, zero, suc, ◌+◌, ◌≤◌, ◌<◌, Bool, List, [], ◌∷◌, None, Some, length, sym, ap, ◌∙◌, subst, cond, arith}
+use Rattle.std.proofs.Common.{◌≡◌, ℕ, zero, suc, ◌+◌, ◌≤◌, ◌<◌, Bool, List, [], ◌∷◌, None, Some, length, map, sym, ap, ◌∙◌, subst, cond, arith}
 use Rattle.std.specs.Prelude.{Option, slice_set}
 use Rattle.std.specs.List.{AllByRecursion}
 use Rattle.std.specs.Option.{option_map}
 use Rattle.std.proofs.lemmas.Bool.{le-ltb, lt-ltb}
+use Rattle.std.proofs.lemmas.List.{map-id}
 use Rattle.std.proofs.lemmas.Option.{slice_get-get_or}
 use Rattle.hy_value.specs.declared.Value.{Value}
 use Rattle.hy_stamp.specs.declared.Label.{Label}
@@ -62,7 +63,7 @@ row_comes viewer label cover row old new there others put =
     subst (λ (found : Option ℕ). Comes viewer label cover row found old new) (sym (free_found cover old there)) comes
 
 -- that is a visit, with the pruning before it and the note of the row
-pub place_done : (writer : Writer) (row : List Value) (old between new : ChunkData) (notes now : List Change) (pos : ℕ)
+pub place_done : (writer : Writer) (row : List Value) (old between new : ChunkData) (notes now : List Change) (levels later : List (List Change)) (pos : ℕ)
     → PrunesFirst writer.prunes writer.cover.now old between → between.table ≡ old.table
     → pos ≡ between.first + least_free (watermark_of writer.cover.now) between.places
     → least_free (watermark_of writer.cover.now) between.places < length between.places
@@ -70,8 +71,9 @@ pub place_done : (writer : Writer) (row : List Value) (old between new : ChunkDa
     → IsPut (least_free (watermark_of writer.cover.now) between.places) (Placed writer.viewer writer.label (watermark_of writer.cover.now) row)
     between.places new.places
     → now ≡ with_note (record { table = between.table; pos = pos; before = None; after = Some row }) notes
-    → PlaceDone writer row old notes (Some pos) new now
-place_done writer row old between new notes now pos pruned same is there others put noted = record {
+    → later ≡ map (with_note (record { table = between.table; pos = pos; before = None; after = Some row })) levels
+    → PlaceDone writer row old notes levels (Some pos) new now later
+place_done writer row old between new notes now levels later pos pruned same is there others put noted in_levels = record {
   between = between;
   prunes = pruned;
   chunk = row_comes writer.viewer writer.label writer.cover.now row between new there others put;
@@ -79,6 +81,7 @@ place_done writer row old between new notes now pos pruned same is there others 
       ∙ sym (position_of writer.cover.now between (Some (least_free (watermark_of writer.cover.now) between.places))
       (free_found writer.cover.now between there));
   noted = noted ∙ ap (λ (t : ℕ). with_note (record { table = t; pos = pos; before = None; after = Some row }) notes) same;
+  in_each = in_levels ∙ ap (λ (t : ℕ). map (with_note (record { table = t; pos = pos; before = None; after = Some row })) levels) same;
 }
 
 -- ---- the bound after pruning stays
@@ -102,3 +105,18 @@ short_placed cover viewer label row index olds news late short put =
     subst (AllShort cover) (sym put.others)
     (all_set (λ place. count_old cover place.chain ≤ length cover.starts) olds index (nth news index) short
     (one_alone cover viewer label row (nth olds index) (nth news index) late put.here))
+
+-- no position is free: nothing is told, and nothing changes
+pub none_done : (writer : Writer) (row : List Value) (old between new : ChunkData) (notes now : List Change) (levels later : List (List Change))
+    → PrunesFirst writer.prunes writer.cover.now old between → least_free (watermark_of writer.cover.now) between.places ≡ length between.places
+    → new ≡ between → now ≡ notes → later ≡ levels → PlaceDone writer row old notes levels None new now later
+none_done writer row old between new notes now levels later pruned all stays same_notes same_levels =
+    let none : free_index writer.cover.now between ≡ None = free_none writer.cover.now between all in
+    record {
+      between = between;
+      prunes = pruned;
+      chunk = subst (λ (index : Option ℕ). Comes writer.viewer writer.label writer.cover.now row index between new) (sym none) stays;
+      told = sym (position_of writer.cover.now between None none);
+      noted = same_notes;
+      in_each = same_levels ∙ sym (map-id levels);
+    }

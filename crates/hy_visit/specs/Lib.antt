@@ -5,3 +5,4 @@ pub mod Gathering
 pub mod Parts
 pub mod Readers
 pub mod PlanParts
+pub mod Backing

@@ -14,4 +14,7 @@ pub use gathering::{Found, Fresh, add_piece, found_with, gather_part, keep_keys,
 pub use parts::PartRows;
 pub use pruning::{stamp_visit, undo_visit};
 pub use reader::{Reader, Told, reader_of};
-pub use writing::{Writer, check_visit, is_passed, place_visit, write_visit};
+pub use writing::{
+    Writer, back_visit, check_visit, is_passed, notes_of_a_chunk_stand, notes_of_a_chunk_tell,
+    place_visit, write_visit,
+};

@@ -1,12 +1,15 @@
 //! Visits of an UPDATE, a DELETE or an INSERT.
 
 ghost use Rattle.std.specs.Prelude.{◌≡◌, ◌+◌, ◌<◌, ◌≤◌, true, None, Some, length};
+ghost use Rattle.std.specs.List.{AllByRecursion};
 ghost use Rattle.hy_chunk.specs.Candidates.{AreCandidates};
 ghost use Rattle.hy_chunk.specs.Sound.{FitsRow, most_texts};
 ghost use Rattle.hy_chunk.specs.Views.{with_places};
 ghost use Rattle.hy_chunk.specs.Writes.{FitsWrite, sets_of};
 ghost use Rattle.hy_event.specs.Changing.{PrunesFirst};
 ghost use Rattle.hy_event.specs.Inserting.{free_index, sees_key};
+ghost use Rattle.hy_notes.specs.Notes.{Ascends, is_between};
+ghost use Rattle.hy_visit.specs.Backing.{BackDone, ChunkNotesStand, ChunkNotesTell, MayAllGoBack};
 ghost use Rattle.hy_visit.specs.Placing.{PlaceDone};
 ghost use Rattle.hy_visit.specs.Pruning.{AllFall, AllShort};
 ghost use Rattle.hy_visit.specs.Writing.{WriteDone};
@@ -18,7 +21,7 @@ use hy_notes::Changes;
 use hy_prune::Cover;
 use hy_stamp::{Label, Viewer};
 use hy_undo::{Delta, Refusal};
-use hy_value::{Row, Value};
+use hy_value::{Change, Row, Value};
 
 /// Who writes, and how the chunk is pruned before.
 #[derive(Clone, Copy)]
@@ -51,7 +54,8 @@ pub fn write_visit(
     requires wide { length chunk.old.kinds ≤ changes.old.width }
     requires long { most_texts chunk.old.kinds ≤ changes.old.texts }
     requires fits { FitsWrite chunk.old.kinds chunk.old.shown.key kind.now }
-    ensures done { WriteDone writer.now (sets_of kind.now) pred.now chunk.old.shown changes.old.notes result chunk.new.shown changes.new.notes }
+    ensures done { WriteDone writer.now (sets_of kind.now) pred.now chunk.old.shown changes.old.notes changes.old.levels result
+        chunk.new.shown changes.new.notes changes.new.levels }
     ensures short { writer.now.prunes ≡ true → writer.now.cover.now.next ≤ writer.now.viewer.id → AllShort writer.now.cover.now chunk.new.shown.places }
     ensures all { chunk.new ≡ with_places chunk.old chunk.new.shown.places chunk.new.room }
     ensures room { chunk.old.room ≤ chunk.new.room + length places.now }
@@ -106,7 +110,8 @@ pub fn place_visit(
     requires notes { 0 < changes.old.room }
     requires wide { length chunk.old.kinds ≤ changes.old.width }
     requires long { most_texts chunk.old.kinds ≤ changes.old.texts }
-    ensures done { PlaceDone writer.now row.now chunk.old.shown changes.old.notes result chunk.new.shown changes.new.notes }
+    ensures done { PlaceDone writer.now row.now chunk.old.shown changes.old.notes changes.old.levels result
+        chunk.new.shown changes.new.notes changes.new.levels }
     ensures short { writer.now.prunes ≡ true → writer.now.cover.now.next ≤ writer.now.viewer.id → AllShort writer.now.cover.now chunk.new.shown.places }
     ensures all { chunk.new ≡ with_places chunk.old chunk.new.shown.places chunk.new.room }
     ensures room { chunk.old.room ≤ chunk.new.room + 1 }
@@ -120,3 +125,37 @@ pub fn place_visit(
         Err(_) => None,
     }
 }
+
+/// Goes back in a chunk: at each position of these notes since a savepoint, which are of the chunk and in order, the row
+/// before is put back, and that is noted. Nothing is pruned. It takes no memory.
+pub fn back_visit(chunk: &mut Chunk, writer: &Writer, since: &[Change], changes: &mut Changes)
+    requires order { Ascends since.now }
+    requires within { AllByRecursion (λ note. is_between chunk.old.shown.table chunk.old.shown.first
+        (chunk.old.shown.first + length chunk.old.shown.places) note ≡ true) since.now }
+    requires may { MayAllGoBack chunk.old.kinds chunk.old.shown.key writer.now.viewer.id since.now chunk.old.shown }
+    requires room { length since.now ≤ chunk.old.room }
+    requires notes { length since.now ≤ changes.old.room }
+    requires wide { length chunk.old.kinds ≤ changes.old.width }
+    requires long { most_texts chunk.old.kinds ≤ changes.old.texts }
+    ensures done { BackDone writer.now since.now chunk.old.shown changes.old.notes changes.old.levels
+        chunk.new.shown changes.new.notes changes.new.levels }
+    ensures all { chunk.new ≡ with_places chunk.old chunk.new.shown.places chunk.new.room }
+    ensures room { chunk.old.room ≤ chunk.new.room + length since.now }
+    ensures notes_room { changes.old.room ≤ changes.new.room + length since.now }
+    ensures notes_width { changes.new.width ≡ changes.old.width }
+    ensures notes_texts { changes.new.texts ≡ changes.old.texts }
+{
+    for note in since {
+        chunk.write_back(&writer.viewer, writer.label, note, changes);
+    }
+}
+
+/// What goes back in a chunk is told by the notes of its positions alone.
+pub fn notes_of_a_chunk_tell()
+    ensures { ChunkNotesTell }
+{}
+
+/// The notes of a chunk's positions are in order where all notes are.
+pub fn notes_of_a_chunk_stand()
+    ensures { ChunkNotesStand }
+{}

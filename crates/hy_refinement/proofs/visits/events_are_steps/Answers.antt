@@ -5,6 +5,7 @@ pub returns : goal.returns
 returns c = steps_are (record {
   blockers = c.blockers_are_the_machines.ensures;
   chunks = c.written_chunks_are_the_machines.ensures;
+  since = c.chunks_since_are_the_machines.ensures;
   notes = c.notes_are_writes.ensures;
   hits = c.hits_are_the_machines.ensures;
   selects = c.selects_are_taken.ensures;
@@ -14,6 +15,8 @@ returns c = steps_are (record {
   writes = c.writes_are_taken.ensures;
   stamps = c.stamps_are_taken.ensures;
   undos = c.undos_are_taken.ensures;
+  backs = c.backs_are_taken.ensures;
+  saves = c.saves_are_taken.ensures;
   begins = c.begins_are_taken.ensures;
   closes = c.closes_are_taken.ensures;
   leaves = c.leaves_are_taken.ensures;

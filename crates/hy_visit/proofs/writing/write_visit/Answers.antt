@@ -14,7 +14,7 @@ returns-clause-done c =
     let between = c.prune_first.new.chunk in
     let new = c.write.new.self in
     let here = comes_to writer sets c.args.pred.now between new c.args.changes.now c.write.new.changes c.write.result
-    (ap (λ (w : Whole). w.shown) c.write.ensures.all) c.write.ensures.done c.write.ensures.refused c.write.ensures.kept in
+    (ap (λ (w : Whole). w.shown) c.write.ensures.all) c.write.ensures.done c.write.ensures.levels c.write.ensures.refused c.write.ensures.kept in
     write_done writer sets c.args.pred.now between new c.args.changes.now c.write.new.changes c.args.chunk.now.shown c.write.result
     c.prune_first.ensures.pruned (ap (λ (w : Whole). w.shown.table) c.prune_first.ensures.all) here
 
@@ -25,7 +25,7 @@ returns-clause-short c = λ does late.
     let between = c.prune_first.new.chunk in
     let new = c.write.new.self in
     let here = comes_to writer sets c.args.pred.now between new c.args.changes.now c.write.new.changes c.write.result
-    (ap (λ (w : Whole). w.shown) c.write.ensures.all) c.write.ensures.done c.write.ensures.refused c.write.ensures.kept in
+    (ap (λ (w : Whole). w.shown) c.write.ensures.all) c.write.ensures.done c.write.ensures.levels c.write.ensures.refused c.write.ensures.kept in
     short_becomes writer.cover.now writer.viewer writer.label late (cells_by sets c.args.pred.now writer.viewer between.shown) between.shown new.shown
     (c.prune_first.ensures.short does) here.chunk
 

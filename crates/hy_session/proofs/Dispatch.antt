@@ -3,7 +3,7 @@ use Rattle.std.proofs.Common.{◌≡◌, ℕ, List, Bool, true, false, Option, N
 use Rattle.std.specs.Prelude.{slice_get}
 use Rattle.std.specs.Option.{option_map_or}
 use Rattle.hy_bound.specs.declared.Bound.{Bound}
-use Rattle.hy_bound.specs.declared.Bound.TheVariants.{Update, Delete}
+use Rattle.hy_bound.specs.declared.Bound.TheVariants.{Update, Delete, RollbackTo}
 use Rattle.hy_bound.specs.declared.Assign.{Assign}
 use Rattle.hy_bound.specs.declared.Txn.{Txn}
 use Rattle.hy_bound.specs.declared.WriteKind.{WriteKind}
@@ -19,6 +19,7 @@ use Rattle.hy_protocol.specs.declared.Phase.{Phase}
 use Rattle.hy_protocol.specs.declared.Phase.TheVariants.{Working, Stamping, Undoing}
 use Rattle.hy_event.specs.declared.Need.TheVariants.{Chunk}
 use Rattle.hy_protocol.specs.declared.Progress.{Progress}
+use Rattle.hy_event.specs.Backing.{BackVisit}
 use Rattle.hy_event.specs.Ended.{statements_in}
 use Rattle.hy_event.specs.Events.{ChunkEvent, ClosingVisit, PhaseVisit, SessionVisit, StatementVisit, WorkingVisit}
 use Rattle.hy_event.specs.Needs.{closing_need, need_of, phase_need, session_need, working_need}
@@ -125,3 +126,11 @@ module _ (session : SessionData) (now : Open) (visited count : ℕ) (statement :
       let one : StatementVisit session now visited count (Delete table pred) old progress after new =
       subst (λ (b : Bound). WriteVisit session now visited count b table None pred old progress after new) is visit in
       subst (λ (b : Bound). StatementVisit session now visited count b old progress after new) (sym is) one
+
+-- a visit that goes back is one of a ROLLBACK TO
+pub as_back : (session : SessionData) (now : Open) (visited count : ℕ) (statement : Bound) (name : List ℕ) (old : ChunkData) (progress : Progress)
+    (after : SessionData) (new : ChunkData) → statement ≡ RollbackTo name → BackVisit session now visited name old progress after new
+    → StatementVisit session now visited count statement old progress after new
+as_back session now visited count statement name old progress after new is visit =
+    let one : StatementVisit session now visited count (RollbackTo name) old progress after new = visit in
+    subst (λ (b : Bound). StatementVisit session now visited count b old progress after new) (sym is) one

@@ -1,3 +1,5 @@
+mod OpenSavepoints
+mod Savings
 mod RangeSeeks
 mod WrittenChunks
 mod Endings
@@ -9,6 +11,7 @@ pub mod SelectSteps
 pub mod PresentSelects
 mod VisitTurns
 mod WriteVisits
+mod BackVisits
 mod StatementVisits
 mod Results
 mod Dispatch

@@ -1,5 +1,5 @@
 -- What an open transaction wrote stays in order.
-use Rattle.std.proofs.Common.{◌≡◌, ℕ, suc, ◌<◌, List, [], ◌∷◌, Bool, true, false, Option, None, Some, Result, Ok, Err, map, sym, ap, subst, inl, inr, ◌-◌}
+use Rattle.std.proofs.Common.{◌≡◌, ℕ, zero, suc, ◌<◌, List, [], ◌∷◌, Bool, true, false, Option, None, Some, Result, Ok, Err, map, sym, ap, subst, inl, inr, ◌-◌}
 use Rattle.std.specs.Prelude.{◌⊎◌, IfOk, OnErr, nat_lt, slice_get, ◌/◌}
 use Rattle.std.specs.Bool.{MatchBool}
 use Rattle.std.specs.Option.{option_map}
@@ -13,7 +13,7 @@ use Rattle.hy_value.specs.declared.change.Change.{Change}
 use Rattle.hy_notes.specs.Notes.{Ascends, order_of}
 use Rattle.hy_notes.specs.Telling.{NotesTell}
 use Rattle.hy_bound.specs.declared.Bound.{Bound}
-use Rattle.hy_bound.specs.declared.Bound.TheVariants.{Select, Group, Insert, Update, Delete}
+use Rattle.hy_bound.specs.declared.Bound.TheVariants.{Select, Group, Insert, Update, Delete, Savepoint, RollbackTo, Release}
 use Rattle.hy_bound.specs.Records.{shape_of}
 use Rattle.hy_plan.specs.declared.PlanPart.{PlanPart}
 use Rattle.hy_undo.specs.Chunks.{ChunkData}
@@ -21,23 +21,28 @@ use Rattle.hy_meaning.specs.Statement.{Table}
 use Rattle.hy_protocol.specs.declared.Phase.{Phase}
 use Rattle.hy_protocol.specs.declared.Phase.TheVariants.{Working, Stamping, Undoing}
 use Rattle.hy_protocol.specs.declared.Progress.{Progress}
-use Rattle.hy_protocol.specs.Turns.{Turn, Done, Waits, Begins, Visits, Answers, Enters, Ends}
+use Rattle.hy_protocol.specs.Turns.{Turn, Done, Waits, Begins, Visits, Answers, Saves, Enters, Ends}
 use Rattle.hy_event.specs.declared.SessionData.{SessionData}
 use Rattle.hy_event.specs.declared.Open.{Open}
+use Rattle.hy_event.specs.declared.SavedNotes.{SavedNotes}
+use Rattle.hy_event.specs.Backing.{cells_back}
+use Rattle.hy_event.specs.Changing.{changes_from}
 use Rattle.hy_event.specs.Events.{StatementVisit}
 use Rattle.hy_event.specs.Gathering.{ReadPlan, group_read_plan, select_read_plan}
 use Rattle.hy_event.specs.Inserting.{CheckVisit, PlaceVisit}
 use Rattle.hy_event.specs.Needs.{checks_of}
 use Rattle.hy_event.specs.Reading.{PlannedVisit, ReadVisit, Reads, gathered_with, read_turn, with_gathered}
 use Rattle.hy_gathered.specs.Answers.{spread_all}
-use Rattle.hy_event.specs.Sessions.{place_noted, written, written_in}
+use Rattle.hy_event.specs.Sessions.{notes_since, place_noted, viewer_of, written, written_in}
 use Rattle.hy_event.specs.Stamping.{StampVisit}
 use Rattle.hy_event.specs.Turns.{Step, Takes, after_turn, with_notes, with_open}
 use Rattle.hy_event.specs.Undoing.{UndoVisit}
 use Rattle.hy_bound.specs.declared.Ending.{Ending}
 use Rattle.hy_session.specs.declared.visitors.Visitor.{Visitor}
 use Rattle.hy_session.specs.Visitors.{ForVisitor, IsVisitor}
-use Rattle.hy_session.specs.Limits.{HasOrder, IsInOrder}
+use Rattle.hy_session.specs.Limits.{HasOrder, IsInOrder, IsSavedInOrder}
+use Rattle.hy_session.specs.Savepoints.{noted_since}
+use Rattle.hy_session.proofs.OpenSavepoints.{more_in_order, since_in_order, saved_in_order}
 use Rattle.hy_session.specs.Seeking.{Rises, comes_before}
 use Rattle.hy_session.proofs.OrderedPlaces.{is_before}
 
@@ -70,18 +75,23 @@ written_rises_in now (Working visited count) order = notes_rise now.notes order.
 written_rises_in now (Stamping visited) order = order.wrote
 written_rises_in now (Undoing visited cause) order = notes_rise now.notes order.notes
 
+-- what it noted since a savepoint is in order
+pub since_rises : (saved : List SavedNotes) (number : ℕ) → IsSavedInOrder saved → Rises (map place_noted (noted_since saved number))
+since_rises [] number order = tt
+since_rises (one ∷ saved) zero order = notes_rise one.since order.0
+since_rises (one ∷ saved) (suc number) order = since_rises saved number order.1
+
 -- what an open transaction wrote is in order
 pub written_rises : (now : Open) → IsInOrder now → Rises (written now)
 written_rises now order = written_rises_in now now.phase order
+
+pub open_saved : (one : Option Open) (now : Open) → HasOrder one → one ≡ Some now → IsSavedInOrder now.saved
+open_saved one now order is = (subst HasOrder is order).saved
 
 pub open_rises : (one : Option Open) (now : Open) → HasOrder one → one ≡ Some now → Rises (written now)
 open_rises one now order is = written_rises now (subst HasOrder is order)
 
 -- ---- a turn keeps that order
-
-more_in_order : NotesTell → (changes notes : List Change) → Ascends notes → Ascends (with_notes notes changes)
-more_in_order tell [] notes up = up
-more_in_order tell (change ∷ changes) notes up = more_in_order tell changes _ (tell change notes 0 0 up).1
 
 changed : (change : Open → Open) (one : Option Open) → ((now : Open) → IsInOrder now → IsInOrder (change now)) → HasOrder one → HasOrder (option_map change one)
 changed change None keeps order = tt
@@ -92,10 +102,20 @@ turned tell session Done order = order
 turned tell session (Waits by) order = order
 turned tell session Begins order = tt
 turned tell session (Visits changes phase) order =
-    changed _ session.now (λ now one. record { notes = more_in_order tell changes now.notes one.notes; wrote = one.wrote }) order
+    changed _ session.now (λ now one. record {
+      notes = more_in_order tell changes now.notes one.notes;
+      saved = since_in_order tell changes now.saved one.saved;
+      wrote = one.wrote;
+    }) order
 turned tell session (Answers changes reply took records) order =
-    changed _ session.now (λ now one. record { notes = more_in_order tell changes now.notes one.notes; wrote = one.wrote }) order
-turned tell session Enters order = changed _ session.now (λ now one. record { notes = tt; wrote = written_rises now one }) order
+    changed _ session.now (λ now one. record {
+      notes = more_in_order tell changes now.notes one.notes;
+      saved = since_in_order tell changes now.saved one.saved;
+      wrote = one.wrote;
+    }) order
+turned tell session (Saves statement reply) order =
+    changed _ session.now (λ now one. record { notes = one.notes; saved = saved_in_order statement now.saved one.saved; wrote = one.wrote }) order
+turned tell session Enters order = changed _ session.now (λ now one. record { notes = tt; saved = tt; wrote = written_rises now one }) order
 turned tell session (Ends ending) order = tt
 
 taken : NotesTell → (session after : SessionData) (turn : Turn Change) (progress : Progress) → Takes session turn progress after → HasOrder session.now
@@ -112,7 +132,7 @@ module _ (tell : NotesTell) (session : SessionData) (now : Open) (order : HasOrd
   reads visited statement plan gathered visit =
       taken tell (with_gathered gathered session) after
       (read_turn session now visited plan.tables statement (spread_all plan.parts gathered) (plan.reply gathered)) progress visit
-      (changed (λ (one : Open). record one { gathered = gathered }) session.now (λ open_one one. record { notes = one.notes; wrote = one.wrote }) order)
+      (changed (λ (one : Open). record one { gathered = gathered }) session.now (λ open_one one. record { notes = one.notes; saved = one.saved; wrote = one.wrote }) order)
 
   planned : (visited : ℕ) (statement : Bound) (plan : ReadPlan) (part : Option PlanPart) → PlannedVisit session now visited statement plan part old.places progress after
       → HasOrder after.now
@@ -140,6 +160,11 @@ module _ (tell : NotesTell) (session : SessionData) (now : Open) (order : HasOrd
       (visited - checks_of session (shape_of session.shapes table).key) table (Insert table row) row (shape_of session.shapes table).key visit
   statement_visit visited count (Update table sets pred) visit = taken tell session after _ progress visit.turn order
   statement_visit visited count (Delete table pred) visit = taken tell session after _ progress visit.turn order
+  statement_visit visited count (Savepoint name) visit = absurd visit
+  statement_visit visited count (RollbackTo name) visit =
+      taken tell session after (Visits (changes_from old.table old.first (viewer_of session now) (cells_back (notes_since now name) old) old.places)
+      (Working (suc visited) 0)) progress visit.turn order
+  statement_visit visited count (Release name) visit = absurd visit
 
 -- ---- of what an open transaction does alone
 

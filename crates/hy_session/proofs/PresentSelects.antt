@@ -28,7 +28,7 @@ works_at session now visited count statement opened working present =
 -- what its next visit needs
 pub needed_at : (session : SessionData) (txn : Txn) (now : Open) (visited count : ℕ) (statement : Bound) → txn_at session ≡ Some txn → session.now ≡ Some now
     → now.phase ≡ Working visited count → slice_get txn.statements (length now.replies) ≡ Some statement
-    → need_of session ≡ statement_need session visited statement
+    → need_of session ≡ statement_need session now visited statement
 needed_at session txn now visited count statement there opened working found =
     ap (λ (t : Option Txn). session_need session t session.now) there
     ∙ (ap (session_need session (Some txn)) opened
@@ -38,7 +38,7 @@ needed_at session txn now visited count statement there opened working found =
 -- the chunk is one that its next visit needs
 pub next_at : (session : SessionData) (txn : Txn) (now : Open) (visited count : ℕ) (statement : Bound) (chunk : Whole) → NearChunk session chunk
     → txn_at session ≡ Some txn → session.now ≡ Some now → now.phase ≡ Working visited count → slice_get txn.statements (length now.replies) ≡ Some statement
-    → IsNextFor session visited statement chunk
+    → IsNextFor session now visited statement chunk
 next_at session txn now visited count statement chunk near there opened working found = record {
   number = near.number;
   needed = sym (needed_at session txn now visited count statement there opened working found) ∙ near.needed;

@@ -5,7 +5,7 @@ use Rattle.hy_limits.specs.declared.TheConstants.{MOST_TXNS}
 use Rattle.hy_stamp.specs.declared.Label.{Label}
 use Rattle.hy_stamp.specs.Times.{IsLabel}
 use Rattle.hy_bound.specs.declared.Bound.{Bound}
-use Rattle.hy_bound.specs.declared.Bound.TheVariants.{Select, Group, Insert, Update, Delete}
+use Rattle.hy_bound.specs.declared.Bound.TheVariants.{Select, Group, Insert, Update, Delete, Savepoint, RollbackTo, Release}
 use Rattle.hy_bound.specs.declared.Record.{Record}
 use Rattle.hy_bound.specs.declared.Reply.{Reply}
 use Rattle.hy_bound.specs.declared.Txn.{Txn}
@@ -61,6 +61,9 @@ planned_visit session now visited count (Group table pred key aggregate) plan ol
 planned_visit session now visited count (Insert table row) plan old progress after new is visit = absurd is
 planned_visit session now visited count (Update table sets pred) plan old progress after new is visit = absurd is
 planned_visit session now visited count (Delete table pred) plan old progress after new is visit = absurd is
+planned_visit session now visited count (Savepoint name) plan old progress after new is visit = absurd is
+planned_visit session now visited count (RollbackTo name) plan old progress after new is visit = absurd is
+planned_visit session now visited count (Release name) plan old progress after new is visit = absurd is
 
 -- the present statement of an open transaction is visited
 pub session_visit : (session : SessionData) (txn : Option Txn) (held : Option Open) (now : Open) (visited count : ℕ) (statement : Bound) (old : ChunkData)

@@ -27,26 +27,30 @@ use Rattle.hy_event.specs.Turns.{with_open}
 use Rattle.hy_event.specs.Writing.{WriteVisit, ending_by, told_by}
 use Rattle.hy_session.specs.declared.visitors.Visitor.{Visitor}
 use Rattle.hy_session.specs.Visitors.{IsVisitor}
-use Rattle.hy_session.specs.Written.{Came, HasNoted, Wrote}
+use Rattle.hy_bound.specs.Savepoints.{Saved}
+use Rattle.hy_session.specs.Savepoints.{savepoints}
+use Rattle.hy_session.specs.Written.{Came, HasNoted, NotesKept, Wrote}
 use Rattle.hy_session.proofs.VisitTurns.{moved_to, answered_so, write_refused, write_goes, write_answers, place_answers, place_passes}
 
 -- what an open transaction has noted is what is seen of it
-pub has_noted : (view now : Open) → view ≡ now → HasNoted view.start view.cover view.notes now
-has_noted view now same = record {
+pub has_noted : (view now : Open) (names : List (Saved (Unit {0}))) (levels : List (List Change)) → view ≡ now → view.saved ≡ savepoints names levels
+    → HasNoted view.start view.cover view.notes names levels now
+has_noted view now names levels same saved = record {
   starts = ap (λ (v : Open). v.start) (sym same);
   covers = ap (λ (v : Open). v.cover) (sym same);
   noted = ap (λ (v : Open). v.notes) (sym same);
+  saved = ap (λ (v : Open). v.saved) (sym same) ∙ saved;
 }
 
 -- an open transaction that has room for an answer, and goes on to a phase without one
-pub reserved_so : (view now : Open) (notes : List Change) (replies : List Reply) (took : List (Option ℕ)) (log : List Record) (phase : Phase)
+pub reserved_so : (view now : Open) (kept : NotesKept) (replies : List Reply) (took : List (Option ℕ)) (log : List Record) (phase : Phase)
     → view ≡ now → replies ≡ view.replies → took ≡ view.took → log ≡ view.records
-    → record view { notes = notes; took = took; replies = replies; records = log; phase = phase } ≡ moved_to now notes phase
-reserved_so view now notes replies took log phase same told taken logged =
-    let one : List Reply → Open = λ r. record view { notes = notes; took = took; replies = r; records = log; phase = phase } in
-    let two : List (Option ℕ) → Open = λ t. record view { notes = notes; took = t; records = log; phase = phase } in
-    let three : List Record → Open = λ l. record view { notes = notes; records = l; phase = phase } in
-    ap one told ∙ (ap two taken ∙ (ap three logged ∙ ap (λ (v : Open). moved_to v notes phase) same))
+    → record view { notes = kept.notes; saved = kept.saved; took = took; replies = replies; records = log; phase = phase } ≡ moved_to now kept phase
+reserved_so view now kept replies took log phase same told taken logged =
+    let one : List Reply → Open = λ r. record view { notes = kept.notes; saved = kept.saved; took = took; replies = r; records = log; phase = phase } in
+    let two : List (Option ℕ) → Open = λ t. record view { notes = kept.notes; saved = kept.saved; took = t; records = log; phase = phase } in
+    let three : List Record → Open = λ l. record view { notes = kept.notes; saved = kept.saved; records = l; phase = phase } in
+    ap one told ∙ (ap two taken ∙ (ap three logged ∙ ap (λ (v : Open). moved_to v kept phase) same))
 
 -- one more, where that fits
 pub added_one : (n next : ℕ) (fits : Type 0) (sum : Option ℕ) → SomeIff sum fits (n + 1) → sum ≡ Some next → next ≡ suc n
@@ -56,28 +60,29 @@ added_one n next fits (Some x) added is =
 added_one n next fits None added is = cc
 
 -- an open transaction whose answers have one more, and which has gathered nothing then, has answered so
-pub answered_by : (view now : Open) (notes : List Change) (replies : List Reply) (took : List (Option ℕ)) (log : List Record) (gathered : List Table)
+pub answered_by : (view now : Open) (kept : NotesKept) (replies : List Reply) (took : List (Option ℕ)) (log : List Record) (gathered : List Table)
     (reply answer : Reply) (pos : Option ℕ) (records own : List Record) → view ≡ now → replies ≡ view.replies ++ reply ∷ [] → took ≡ view.took ++ pos ∷ []
     → log ≡ view.records ++ records → gathered ≡ [] → reply ≡ answer → records ≡ own
-    → record view { notes = notes; took = took; replies = replies; records = log; gathered = gathered; phase = Working 0 0 } ≡ answered_so now notes answer pos own
-answered_by view now notes replies took log gathered reply answer pos records own same told taken logged none is_answer is_own =
+    → record view { notes = kept.notes; saved = kept.saved; took = took; replies = replies; records = log; gathered = gathered; phase = Working 0 0 } ≡ answered_so now kept answer pos own
+answered_by view now kept replies took log gathered reply answer pos records own same told taken logged none is_answer is_own =
     let one : List Reply → Open =
-    λ r. record view { notes = notes; took = took; replies = r; records = log; gathered = gathered; phase = Working 0 0 } in
+    λ r. record view { notes = kept.notes; saved = kept.saved; took = took; replies = r; records = log; gathered = gathered; phase = Working 0 0 } in
     let two : List (Option ℕ) → Open =
-    λ t. record view { notes = notes; took = t; replies = view.replies ++ reply ∷ []; records = log; gathered = gathered; phase = Working 0 0 } in
+    λ t. record view { notes = kept.notes; saved = kept.saved; took = t; replies = view.replies ++ reply ∷ []; records = log; gathered = gathered; phase = Working 0 0 } in
     let three : List Record → Open =
-    λ l. record view { notes = notes; took = view.took ++ pos ∷ []; replies = view.replies ++ reply ∷ []; records = l; gathered = gathered; phase = Working 0 0 } in
+    λ l. record view { notes = kept.notes; saved = kept.saved; took = view.took ++ pos ∷ []; replies = view.replies ++ reply ∷ []; records = l; gathered = gathered; phase = Working 0 0 } in
     let four : List Table → Open =
     λ g. record view {
-      notes = notes;
+      notes = kept.notes;
+      saved = kept.saved;
       took = view.took ++ pos ∷ [];
       replies = view.replies ++ reply ∷ [];
       records = view.records ++ records;
       gathered = g;
       phase = Working 0 0;
     } in
-    ap one told ∙ (ap two taken ∙ (ap three logged ∙ (ap four none ∙ (ap (λ (v : Open). answered_so v notes reply pos records) same
-    ∙ (ap (λ (r : Reply). answered_so now notes r pos records) is_answer ∙ ap (λ (l : List Record). answered_so now notes answer pos l) is_own)))))
+    ap one told ∙ (ap two taken ∙ (ap three logged ∙ (ap four none ∙ (ap (λ (v : Open). answered_so v kept reply pos records) same
+    ∙ (ap (λ (r : Reply). answered_so now kept r pos records) is_answer ∙ ap (λ (l : List Record). answered_so now kept answer pos l) is_own)))))
 
 -- the number of a chunk behind which there are others, and of the last one
 is_more : (visitors chunks next visited : ℕ) → visitors ≡ chunks → next ≡ suc visited → next < visitors → nat_lt (suc visited) chunks ≡ true
@@ -94,64 +99,64 @@ module _ (session : SessionData) (now after : Open) (visitor : Visitor) (visited
 
   -- ---- UPDATE and DELETE
 
-  module _ (count : ℕ) (sets : Option (List Assign)) (pred : Condition) (notes : List Change) where
-    pub refuses : (refusal : Refusal) → Wrote session now table sets pred old (Err refusal) new notes
-        → after ≡ moved_to now notes (Undoing 0 (ending_by table refusal))
+  module _ (count : ℕ) (sets : Option (List Assign)) (pred : Condition) (kept : NotesKept) where
+    pub refuses : (refusal : Refusal) → Wrote session now table sets pred old (Err refusal) new kept
+        → after ≡ moved_to now kept (Undoing 0 (ending_by table refusal))
         → WriteVisit session now visited count statement table sets pred old Moved (with_open after session) new
     refuses refusal did same = record {
       between = did.between;
       prunes = did.prunes;
       chunk = did.chunk;
-      turn = write_refused session now after notes visited count statement table sets opened refusal _ did.told did.noted same;
+      turn = write_refused session now after kept visited count statement table sets opened refusal _ did.told did.noted same;
     }
 
-    pub writes_on : (rows next : ℕ) → Wrote session now table sets pred old (Ok rows) new notes → next ≡ suc visited → next < visitor.chunks
-        → after ≡ moved_to now notes (Working next (count + rows))
+    pub writes_on : (rows next : ℕ) → Wrote session now table sets pred old (Ok rows) new kept → next ≡ suc visited → next < visitor.chunks
+        → after ≡ moved_to now kept (Working next (count + rows))
         → WriteVisit session now visited count statement table sets pred old Moved (with_open after session) new
     writes_on rows next did one more same = record {
       between = did.between;
       prunes = did.prunes;
       chunk = did.chunk;
-      turn = write_goes session now after notes visited count statement table sets opened rows _ did.told did.noted
+      turn = write_goes session now after kept visited count statement table sets opened rows _ did.told did.noted
           (is_more visitor.chunks session.chunks next visited is.chunks one more)
-          (same ∙ ap (λ (n : ℕ). moved_to now notes (Working n (count + rows))) one);
+          (same ∙ ap (λ (n : ℕ). moved_to now kept (Working n (count + rows))) one);
     }
 
-    pub writes_last : (rows : ℕ) → Wrote session now table sets pred old (Ok rows) new notes → visitor.chunks ≤ suc visited
-        → after ≡ answered_so now notes (told_by sets (count + rows)) None (own_records visitor.shapes.now)
+    pub writes_last : (rows : ℕ) → Wrote session now table sets pred old (Ok rows) new kept → visitor.chunks ≤ suc visited
+        → after ≡ answered_so now kept (told_by sets (count + rows)) None (own_records visitor.shapes.now)
         → WriteVisit session now visited count statement table sets pred old Answered (with_open after session) new
     writes_last rows did last same = record {
       between = did.between;
       prunes = did.prunes;
       chunk = did.chunk;
-      turn = write_answers session now after notes visited count statement table sets opened rows _ did.told did.noted
+      turn = write_answers session now after kept visited count statement table sets opened rows _ did.told did.noted
           (is_last visitor.chunks session.chunks visited is.chunks last)
-          (same ∙ ap (λ (s : List Shape). answered_so now notes (told_by sets (count + rows)) None (own_records s)) is.shapes);
+          (same ∙ ap (λ (s : List Shape). answered_so now kept (told_by sets (count + rows)) None (own_records s)) is.shapes);
     }
 
   -- ---- INSERT
 
   module _ (row : List Value) where
-    module _ (notes : List Change) (number : ℕ) where
-      pub places_here : (pos : ℕ) → Came session now table row old (Some pos) new notes
-          → after ≡ answered_so now notes reply.Inserted (Some pos) (own_records visitor.shapes.now)
+    module _ (kept : NotesKept) (number : ℕ) where
+      pub places_here : (pos : ℕ) → Came session now table row old (Some pos) new kept
+          → after ≡ answered_so now kept reply.Inserted (Some pos) (own_records visitor.shapes.now)
           → PlaceVisit session now visited number statement table row old Answered (with_open after session) new
       places_here pos did same = record {
         between = did.between;
         prunes = did.prunes;
         chunk = did.chunk;
-        turn = place_answers session now after visited statement opened notes number table row pos _ did.told did.noted
-            (same ∙ ap (λ (s : List Shape). answered_so now notes reply.Inserted (Some pos) (own_records s)) is.shapes);
+        turn = place_answers session now after visited statement opened kept number table row pos _ did.told did.noted
+            (same ∙ ap (λ (s : List Shape). answered_so now kept reply.Inserted (Some pos) (own_records s)) is.shapes);
       }
 
-      pub places_not : (next : ℕ) → Came session now table row old None new notes → next ≡ suc visited
-          → after ≡ moved_to now notes (if nat_lt (suc number) visitor.chunks then Working next 0 else Undoing 0 (Full table))
+      pub places_not : (next : ℕ) → Came session now table row old None new kept → next ≡ suc visited
+          → after ≡ moved_to now kept (if nat_lt (suc number) visitor.chunks then Working next 0 else Undoing 0 (Full table))
           → PlaceVisit session now visited number statement table row old Moved (with_open after session) new
       places_not next did one same = record {
         between = did.between;
         prunes = did.prunes;
         chunk = did.chunk;
-        turn = place_passes session now after visited statement opened notes number table row _ (nat_lt (suc number) visitor.chunks) did.told did.noted
+        turn = place_passes session now after visited statement opened kept number table row _ (nat_lt (suc number) visitor.chunks) did.told did.noted
             (ap (nat_lt (suc number)) (sym is.chunks))
-            (same ∙ ap (λ (n : ℕ). moved_to now notes (if nat_lt (suc number) visitor.chunks then Working n 0 else Undoing 0 (Full table))) one);
+            (same ∙ ap (λ (n : ℕ). moved_to now kept (if nat_lt (suc number) visitor.chunks then Working n 0 else Undoing 0 (Full table))) one);
       }

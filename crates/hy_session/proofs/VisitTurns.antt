@@ -13,7 +13,7 @@ use Rattle.hy_plan.specs.Reads.{records_of}
 use Rattle.hy_bound.specs.declared.Ending.TheVariants.{Full}
 use Rattle.hy_undo.specs.declared.refusal.Refusal.{Refusal}
 use Rattle.hy_visit.specs.Placing.{change_at}
-use Rattle.hy_visit.specs.Writing.{counted, noted_after}
+use Rattle.hy_visit.specs.Writing.{counted}
 use Rattle.hy_event.specs.declared.SessionData.{SessionData}
 use Rattle.hy_event.specs.declared.Open.{Open}
 use Rattle.hy_protocol.specs.declared.Phase.{Phase}
@@ -22,17 +22,19 @@ use Rattle.hy_protocol.specs.declared.Progress.{Progress}
 use Rattle.hy_protocol.specs.declared.Progress.TheVariants.{Moved, Answered}
 use Rattle.hy_event.specs.Inserting.{place_turn}
 use Rattle.hy_protocol.specs.Turns.{Visits, Answers}
-use Rattle.hy_event.specs.Turns.{Step, Takes, with_notes, with_open, after_visit, after_answer}
+use Rattle.hy_event.specs.Turns.{Step, Takes, with_open, after_visit, after_answer}
 use Rattle.hy_event.specs.Writing.{ending_by, told_by, write_turn}
+use Rattle.hy_session.specs.Written.{NotesKept, kept_in, kept_with, kept_after}
 
 -- an open transaction that has written so and goes on to a phase
-abbrev pub moved_to : Open → List Change → Phase → Open
-moved_to now notes phase = record now { notes = notes; phase = phase }
+abbrev pub moved_to : Open → NotesKept → Phase → Open
+moved_to now kept phase = record now { notes = kept.notes; saved = kept.saved; phase = phase }
 
 -- an open transaction that has written so and answered
-abbrev pub answered_so : Open → List Change → Reply → Option ℕ → List Record → Open
-answered_so now notes reply took records = record now {
-  notes = notes;
+abbrev pub answered_so : Open → NotesKept → Reply → Option ℕ → List Record → Open
+answered_so now kept reply took records = record now {
+  notes = kept.notes;
+  saved = kept.saved;
   took = now.took ++ took ∷ [];
   replies = now.replies ++ reply ∷ [];
   records = now.records ++ records;
@@ -58,75 +60,75 @@ takes_answer session now after changes reply took records opened same = takes_ch
 
 -- ---- UPDATE and DELETE
 
-module _ (session : SessionData) (now after : Open) (notes : List Change) (visited count : ℕ) (statement : Bound) (table : ℕ) (sets : Option (List Assign))
+module _ (session : SessionData) (now after : Open) (kept : NotesKept) (visited count : ℕ) (statement : Bound) (table : ℕ) (sets : Option (List Assign))
     (opened : session.now ≡ Some now) where
   -- a refused write undoes from the first chunk
-  pub write_refused : (refusal : Refusal) (changes : Result (List Change) Refusal) → Err refusal ≡ counted changes → notes ≡ noted_after now.notes changes
-      → after ≡ moved_to now notes (Undoing 0 (ending_by table refusal))
+  pub write_refused : (refusal : Refusal) (changes : Result (List Change) Refusal) → Err refusal ≡ counted changes → kept ≡ kept_after (kept_in now) changes
+      → after ≡ moved_to now kept (Undoing 0 (ending_by table refusal))
       → Takes session (write_turn session now visited count statement table sets changes) Moved (with_open after session)
   write_refused refusal (Err other) told noted same =
       let one : refusal ≡ other = cc in
       takes_visit session now after [] (Undoing 0 (ending_by table other)) opened
-      (same ∙ (ap (λ (n : List Change). moved_to now n (Undoing 0 (ending_by table refusal))) noted
-      ∙ ap (λ (r : Refusal). moved_to now now.notes (Undoing 0 (ending_by table r))) one))
+      (same ∙ (ap (λ (n : NotesKept). moved_to now n (Undoing 0 (ending_by table refusal))) noted
+      ∙ ap (λ (r : Refusal). moved_to now (kept_in now) (Undoing 0 (ending_by table r))) one))
   write_refused refusal (Ok changes) told noted same = cc
 
   -- one that isn't the last goes on
-  pub write_goes : (rows : ℕ) (changes : Result (List Change) Refusal) → Ok rows ≡ counted changes → notes ≡ noted_after now.notes changes
-      → nat_lt (suc visited) session.chunks ≡ true → after ≡ moved_to now notes (Working (suc visited) (count + rows))
+  pub write_goes : (rows : ℕ) (changes : Result (List Change) Refusal) → Ok rows ≡ counted changes → kept ≡ kept_after (kept_in now) changes
+      → nat_lt (suc visited) session.chunks ≡ true → after ≡ moved_to now kept (Working (suc visited) (count + rows))
       → Takes session (write_turn session now visited count statement table sets changes) Moved (with_open after session)
   write_goes rows (Err other) told noted more same = cc
   write_goes rows (Ok changes) told noted more same =
       let one : rows ≡ length changes = cc in
       rw more (takes_visit session now after changes (Working (suc visited) (count + length changes)) opened
-      (same ∙ (ap (λ (n : List Change). moved_to now n (Working (suc visited) (count + rows))) noted
-      ∙ ap (λ (r : ℕ). moved_to now (with_notes now.notes changes) (Working (suc visited) (count + r))) one)))
+      (same ∙ (ap (λ (n : NotesKept). moved_to now n (Working (suc visited) (count + rows))) noted
+      ∙ ap (λ (r : ℕ). moved_to now (kept_with (kept_in now) changes) (Working (suc visited) (count + r))) one)))
 
   -- the last one answers
-  pub write_answers : (rows : ℕ) (changes : Result (List Change) Refusal) → Ok rows ≡ counted changes → notes ≡ noted_after now.notes changes
+  pub write_answers : (rows : ℕ) (changes : Result (List Change) Refusal) → Ok rows ≡ counted changes → kept ≡ kept_after (kept_in now) changes
       → nat_lt (suc visited) session.chunks ≡ false
-      → after ≡ answered_so now notes (told_by sets (count + rows)) None (records_of session.shapes (suc (length now.replies)) statement [])
+      → after ≡ answered_so now kept (told_by sets (count + rows)) None (records_of session.shapes (suc (length now.replies)) statement [])
       → Takes session (write_turn session now visited count statement table sets changes) Answered (with_open after session)
   write_answers rows (Err other) told noted last same = cc
   write_answers rows (Ok changes) told noted last same =
       let one : rows ≡ length changes = cc in
       let records : List Record = records_of session.shapes (suc (length now.replies)) statement [] in
       rw last (takes_answer session now after changes (told_by sets (count + length changes)) None records opened
-      (same ∙ (ap (λ (n : List Change). answered_so now n (told_by sets (count + rows)) None records) noted
-      ∙ ap (λ (r : ℕ). answered_so now (with_notes now.notes changes) (told_by sets (count + r)) None records) one)))
+      (same ∙ (ap (λ (n : NotesKept). answered_so now n (told_by sets (count + rows)) None records) noted
+      ∙ ap (λ (r : ℕ). answered_so now (kept_with (kept_in now) changes) (told_by sets (count + r)) None records) one)))
 
 -- ---- INSERT
 
 module _ (session : SessionData) (now after : Open) (visited : ℕ) (statement : Bound) (opened : session.now ≡ Some now) where
-  module _ (notes : List Change) (number table : ℕ) (row : List Value) where
+  module _ (kept : NotesKept) (number table : ℕ) (row : List Value) where
     -- the row has come
-    pub place_answers : (pos : ℕ) (found : Option ℕ) → Some pos ≡ found → notes ≡ with_notes now.notes (change_at table row (Some pos))
-        → after ≡ answered_so now notes reply.Inserted (Some pos) (records_of session.shapes (suc (length now.replies)) statement [])
+    pub place_answers : (pos : ℕ) (found : Option ℕ) → Some pos ≡ found → kept ≡ kept_with (kept_in now) (change_at table row (Some pos))
+        → after ≡ answered_so now kept reply.Inserted (Some pos) (records_of session.shapes (suc (length now.replies)) statement [])
         → Takes session (place_turn session now visited number statement table row found) Answered (with_open after session)
     place_answers pos found told noted same =
         let records : List Record = records_of session.shapes (suc (length now.replies)) statement [] in
         rw (← told) (takes_answer session now after (change_at table row (Some pos)) reply.Inserted (Some pos) records opened
-        (same ∙ ap (λ (n : List Change). answered_so now n reply.Inserted (Some pos) records) noted))
+        (same ∙ ap (λ (n : NotesKept). answered_so now n reply.Inserted (Some pos) records) noted))
 
     -- no position is free here, and there are other chunks
-    pub place_goes : (found : Option ℕ) → None ≡ found → notes ≡ now.notes → nat_lt (suc number) session.chunks ≡ true
-        → after ≡ moved_to now notes (Working (suc visited) 0)
+    pub place_goes : (found : Option ℕ) → None ≡ found → kept ≡ kept_in now → nat_lt (suc number) session.chunks ≡ true
+        → after ≡ moved_to now kept (Working (suc visited) 0)
         → Takes session (place_turn session now visited number statement table row found) Moved (with_open after session)
     place_goes found told noted more same =
         rw (← told, more) (takes_visit session now after [] (Working (suc visited) 0) opened
-        (same ∙ ap (λ (n : List Change). moved_to now n (Working (suc visited) 0)) noted))
+        (same ∙ ap (λ (n : NotesKept). moved_to now n (Working (suc visited) 0)) noted))
 
     -- no position is free
-    pub place_refused : (found : Option ℕ) → None ≡ found → notes ≡ now.notes → nat_lt (suc number) session.chunks ≡ false
-        → after ≡ moved_to now notes (Undoing 0 (Full table))
+    pub place_refused : (found : Option ℕ) → None ≡ found → kept ≡ kept_in now → nat_lt (suc number) session.chunks ≡ false
+        → after ≡ moved_to now kept (Undoing 0 (Full table))
         → Takes session (place_turn session now visited number statement table row found) Moved (with_open after session)
     place_refused found told noted last same =
         rw (← told, last) (takes_visit session now after [] (Undoing 0 (Full table)) opened
-        (same ∙ ap (λ (n : List Change). moved_to now n (Undoing 0 (Full table))) noted))
+        (same ∙ ap (λ (n : NotesKept). moved_to now n (Undoing 0 (Full table))) noted))
 
     -- no position is free here, whether there are other chunks or not
-    pub place_passes : (found : Option ℕ) (more : Bool) → None ≡ found → notes ≡ now.notes → nat_lt (suc number) session.chunks ≡ more
-        → after ≡ moved_to now notes (if more then Working (suc visited) 0 else Undoing 0 (Full table))
+    pub place_passes : (found : Option ℕ) (more : Bool) → None ≡ found → kept ≡ kept_in now → nat_lt (suc number) session.chunks ≡ more
+        → after ≡ moved_to now kept (if more then Working (suc visited) 0 else Undoing 0 (Full table))
         → Takes session (place_turn session now visited number statement table row found) Moved (with_open after session)
     place_passes found true told noted is_more same = place_goes found told noted is_more same
     place_passes found false told noted is_more same = place_refused found told noted is_more same

@@ -1,3 +1,4 @@
+pub mod Savepoints
 pub mod Limits
 pub mod Seeking
 pub mod Near

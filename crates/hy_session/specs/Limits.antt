@@ -2,11 +2,13 @@
 -- that it keeps is one in which the statement of its numbers is run, there is room for the end of an open transaction, and what
 -- it wrote is in order.
 use Rattle.std.specs.Prelude.{◌≡◌, ℕ, ◌*◌, ◌^◌, ◌<◌, ◌≤◌, List, [], Option, None, Some, length}
+use Rattle.std.specs.List.{AllByRecursion}
 use Rattle.hy_bound.specs.declared.Shape.{Shape}
 use Rattle.hy_bound.specs.declared.Txn.{Txn}
 use Rattle.hy_value.specs.declared.change.Change.{Change}
 use Rattle.hy_notes.specs.Notes.{Ascends}
 use Rattle.hy_event.specs.declared.Open.{Open}
+use Rattle.hy_event.specs.declared.SavedNotes.{SavedNotes}
 use Rattle.hy_limits.specs.declared.TheConstants.{MOST_TABLES, MOST_TXNS}
 use Rattle.hy_session.specs.declared.prepared.Prepared.{Prepared}
 use Rattle.hy_session.specs.Preparing.{IsKept}
@@ -14,7 +16,7 @@ use Rattle.hy_session.specs.Seeking.{Rises}
 
 -- a table has a chunk, all chunks have numbers of 32 bits, there are at most as many tables and transactions as may be, no
 -- more have ended than there are, nothing is noted in what is spare, and the statement that is prepared is run so
-pub record IsLimited (chunks : ℕ) (shapes : List Shape) (program : List Txn) (ended : ℕ) (spare : List Change)
+pub record IsLimited (chunks : ℕ) (shapes : List Shape) (program : List Txn) (ended : ℕ) (spare : List Change) (levels : List (List Change))
     (prepared : Option Prepared) : Type 0 where
   pub some_chunk : 0 < chunks
   pub few_chunks : length shapes * chunks < 2 ^ 32
@@ -22,6 +24,7 @@ pub record IsLimited (chunks : ℕ) (shapes : List Shape) (program : List Txn) (
   pub few_txns : length program ≤ MOST_TXNS
   pub few_ended : ended ≤ length program
   pub none_noted : spare ≡ []
+  pub none_saved : levels ≡ []
   pub kept : IsKept shapes program prepared
 
 -- there is room for one more outcome, and for a count for each table
@@ -35,9 +38,14 @@ abbrev pub HasRoomFor : Option Open → ℕ → ℕ → ℕ → List ℕ → ℕ
 HasRoomFor None tables ended outcomes counts room = Unit {0}
 HasRoomFor (Some now) tables ended outcomes counts room = HasRoom tables ended outcomes counts room
 
--- what an open transaction notes is in order, and so are the positions that it wrote by its entry
+-- what is noted since savepoints is in order
+abbrev pub IsSavedInOrder : List SavedNotes → Type 0
+IsSavedInOrder saved = AllByRecursion (λ (one : SavedNotes). Ascends one.since) saved
+
+-- what an open transaction notes is in order, since each savepoint too, and so are the positions that it wrote by its entry
 pub record IsInOrder (now : Open) : Type 0 where
   pub notes : Ascends now.notes
+  pub saved : IsSavedInOrder now.saved
   pub wrote : Rises now.wrote
 
 abbrev pub HasOrder : Option Open → Type 0

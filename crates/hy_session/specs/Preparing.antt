@@ -1,7 +1,7 @@
 -- How a statement is run, made once for the statement and kept from visit to visit.
 use Rattle.std.specs.Prelude.{◌≡◌, ℕ, List, Option, None, Some, slice_get, length}
 use Rattle.hy_bound.specs.declared.Bound.{Bound}
-use Rattle.hy_bound.specs.declared.Bound.TheVariants.{Select, Group, Insert, Update, Delete}
+use Rattle.hy_bound.specs.declared.Bound.TheVariants.{Select, Group, Insert, Update, Delete, Savepoint, RollbackTo, Release}
 use Rattle.hy_bound.specs.declared.Shape.{Shape}
 use Rattle.hy_bound.specs.declared.Txn.{Txn}
 use Rattle.hy_bound.specs.declared.WriteKind.{WriteKind}
@@ -26,6 +26,9 @@ kind_of (Group table pred key aggregate) = None
 kind_of (Insert table row) = None
 kind_of (Update table sets pred) = Some (Set sets)
 kind_of (Delete table pred) = None
+kind_of (Savepoint name) = None
+kind_of (RollbackTo name) = None
+kind_of (Release name) = None
 
 -- a statement is run by this plan
 abbrev pub IsStatementPlan : List Shape → Bound → StatementPlan → Type 0

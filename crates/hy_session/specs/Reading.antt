@@ -35,9 +35,9 @@ pub record IsReading (session : SessionData) : Type 0 where
   pub reads : IsRead statement
 
 -- the chunk is one that the next visit of a SELECT needs, of its table's columns
-pub record IsNextFor (session : SessionData) (visited : ℕ) (statement : Bound) (chunk : Whole) : Type 0 where
+pub record IsNextFor (session : SessionData) (now : Open) (visited : ℕ) (statement : Bound) (chunk : Whole) : Type 0 where
   pub number : ℕ
-  pub needed : statement_need session visited statement ≡ Chunk chunk.shown.table number
+  pub needed : statement_need session now visited statement ≡ Chunk chunk.shown.table number
   pub wide : length chunk.kinds ≡ (shape_of session.shapes chunk.shown.table).width
   pub left : HasVisitLeft session.chunks visited statement
 

@@ -2,7 +2,7 @@
 use Rattle.std.specs.Prelude.{◌≡◌, ℕ, Bool, true, false, nat_le, Option, None, Some}
 use Rattle.std.specs.Option.{option_map_or}
 use Rattle.hy_bound.specs.declared.Bound.{Bound}
-use Rattle.hy_bound.specs.declared.Bound.TheVariants.{Select, Group, Insert, Update, Delete}
+use Rattle.hy_bound.specs.declared.Bound.TheVariants.{Select, Group, Insert, Update, Delete, Savepoint, RollbackTo, Release}
 use Rattle.hy_bound.specs.Records.{shape_of}
 use Rattle.hy_undo.specs.Chunks.{ChunkData}
 use Rattle.hy_visit.specs.Pruning.{AllShort}
@@ -21,6 +21,9 @@ statement_prunes session visited (Group table pred key aggregate) = false
 statement_prunes session visited (Insert table row) = nat_le (checks_of session (shape_of session.shapes table).key) visited
 statement_prunes session visited (Update table sets pred) = true
 statement_prunes session visited (Delete table pred) = true
+statement_prunes session visited (Savepoint name) = false
+statement_prunes session visited (RollbackTo name) = false
+statement_prunes session visited (Release name) = false
 
 -- whether the next visit of an open transaction prunes; a stamp visit does
 abbrev pub visit_prunes : SessionData → Open → Phase → Bool

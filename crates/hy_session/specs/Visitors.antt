@@ -4,7 +4,7 @@ use Rattle.std.specs.Option.{option_map_or}
 use Rattle.hy_stamp.specs.Times.{id_of}
 use Rattle.hy_prune.specs.declared.Cover.{Cover}
 use Rattle.hy_bound.specs.declared.Bound.{Bound}
-use Rattle.hy_bound.specs.declared.Bound.TheVariants.{Select, Group, Insert, Update, Delete}
+use Rattle.hy_bound.specs.declared.Bound.TheVariants.{Select, Group, Insert, Update, Delete, Savepoint, RollbackTo, Release}
 use Rattle.hy_bound.specs.Records.{shape_of}
 use Rattle.hy_chunk.specs.Views.{Whole}
 use Rattle.hy_undo.specs.Chunks.{ChunkData}
@@ -31,13 +31,16 @@ pub record IsVisitor (session : SessionData) (visitor : Visitor) : Type 0 where
 abbrev pub ForVisitor : Visitor → Open → Open → (SessionData → SessionData → Type 0) → Type 0
 ForVisitor visitor old new visit = (session : SessionData) → IsVisitor session visitor → session.now ≡ Some old → visit session (with_open new session)
 
--- a statement that writes is of the chunk's table
+-- a statement that writes is of the chunk's table; a ROLLBACK TO is of any
 abbrev pub IsInTable : ℕ → Bound → Type 0
 IsInTable table (Select tables ons pred items) = ⊥
 IsInTable table (Group other pred key aggregate) = ⊥
 IsInTable table (Insert other row) = other ≡ table
 IsInTable table (Update other sets pred) = other ≡ table
 IsInTable table (Delete other pred) = other ≡ table
+IsInTable table (Savepoint name) = ⊥
+IsInTable table (RollbackTo name) = Unit {0}
+IsInTable table (Release name) = ⊥
 
 -- the chunk has the columns of its table, in each chain the marks fall, and the cover is of before the transaction
 pub record IsReady (visitor : Visitor) (cover : Cover) (chunk : Whole) : Type 0 where
@@ -63,6 +66,9 @@ gathers (Group table pred key aggregate) = true
 gathers (Insert table row) = false
 gathers (Update table sets pred) = false
 gathers (Delete table pred) = false
+gathers (Savepoint name) = false
+gathers (RollbackTo name) = false
+gathers (Release name) = false
 
 -- whether the next visit of an open transaction, by where it stands, is one of a SELECT
 abbrev pub reads_at : SessionData → Open → Phase → Bool

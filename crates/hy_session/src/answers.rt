@@ -30,6 +30,7 @@ pub fn reserve_writes(
 ) -> Result<(), AllocError>
     ensures all { chunk.new ≡ with_places chunk.old chunk.old.shown.places chunk.new.room }
     ensures notes { notes.new.notes ≡ notes.old.notes }
+    ensures levels { notes.new.levels ≡ notes.old.levels }
     ensures room { OnOk result (count ≤ chunk.new.room) }
     ensures notes_room { OnOk result (count ≤ notes.new.room) }
     ensures wide { OnOk result (width ≤ notes.new.width) }

@@ -1,9 +1,9 @@
 //! What a session does at the core, chosen before anything changes.
 
-ghost use Rattle.std.specs.Prelude.{◌≡◌, ◌^◌, ◌<◌, false, Some, IfOk, OnErr, length, drop};
+ghost use Rattle.std.specs.Prelude.{◌≡◌, ◌-◌, ◌^◌, ◌<◌, false, Some, IfOk, OnErr, length, drop};
 ghost use Rattle.hy_event.specs.declared.Need.{Need};
 ghost use Rattle.hy_event.specs.declared.SessionData.{SessionData};
-ghost use Rattle.hy_event.specs.Sessions.{label_of};
+ghost use Rattle.hy_event.specs.Sessions.{label_of, txn_at};
 ghost use Rattle.hy_event.specs.Needs.{need_of, phase_need};
 ghost use Rattle.hy_event.specs.CoreTurns.{core_turn, phase_turn, invalid_by};
 ghost use Rattle.hy_protocol.specs.Turns.{is_stamping};
@@ -28,6 +28,8 @@ pub enum CoreStep {
     Wait(Label),
     /// It begins a transaction.
     Begin,
+    /// Its open transaction answers its present statement, which opens or closes savepoints.
+    Save,
     /// Its open transaction enters the journal.
     Enter,
     /// Its open transaction is refused so.
@@ -103,6 +105,14 @@ fn commit(
     }
 }
 
+/// The rank of the newest entry of the journal.
+fn last_rank(core: &Core) -> u32
+    requires { length core.now.entries < 2 ^ 32 }
+    ensures { result ≡ length core.now.entries - 1 }
+{
+    core.since(0).len().saturating_sub(1) as u32
+}
+
 impl Session {
     /// The label of its transaction that is open or comes next.
     pub(crate) fn label(&self) -> Label
@@ -123,6 +133,7 @@ impl Session {
         txn: &Txn,
         now: &OpenTransaction,
     ) -> Result<CoreStep, AllocError>
+        requires at_txn { txn_at self.now ≡ Some txn.now }
         requires is_open { self.now.now ≡ Some now.now }
         requires needs { phase_need self.now txn.now now.now now.now.phase ≡ Need.Core }
         requires at { length self.now.done < length self.now.program }
@@ -134,14 +145,11 @@ impl Session {
         let label = self.label();
         match now.phase {
             Phase::Working { .. } => match txn.statements.as_slice().get(now.replies.len()) {
-                Some(_) => unreachable!(),
+                Some(_) => Ok(unless_marked(core, label, CoreStep::Save)),
                 None if txn.commits => commit(alloc, core, label, now),
                 None => Ok(unless_marked(core, label, CoreStep::Close(Ending::RolledBack))),
             },
-            Phase::Stamping { .. } => {
-                let entries = core.since(0).len();
-                Ok(CoreStep::Leave(entries.saturating_sub(1) as u32))
-            }
+            Phase::Stamping { .. } => Ok(CoreStep::Leave(last_rank(core))),
             Phase::Undoing { cause, .. } => Ok(unless_marked(core, label, CoreStep::Close(cause))),
         }
     }

@@ -33,10 +33,12 @@ fn begin_transaction(
     requires clock { core.old.next < 2 ^ 63 }
     requires few { length core.old.entries < 2 ^ 32 }
     requires none_noted { spare.old.notes ≡ [] }
+    requires none_saved { spare.old.levels ≡ [] }
     ensures now { IfOk result (λ now. now ≡ beginning core.old) }
     ensures ok { OnOk result (core.new ≡ core_begun core.old) }
     ensures err { OnErr result (core.new ≡ core.old) }
     ensures none_left { spare.new.notes ≡ [] }
+    ensures no_savepoint_left { spare.new.levels ≡ [] }
 {
     let prefix = core.since(0).len() as u32;
     let begun = core.begin()?;
@@ -49,6 +51,7 @@ fn begin_transaction(
         took: Vec::new(alloc),
         gathered: Vec::new(alloc),
         notes: mem::replace(spare, Changes::new(alloc)),
+        saved: Seq::new(alloc),
         wrote: Seq::new(alloc),
         time: 0,
         phase: Phase::Working {
@@ -90,6 +93,7 @@ impl Session {
         };
         let wrote = written_places(alloc, now)?;
         let time = core.enter(label, now.start, &mut now.notes)?;
+        now.saved.truncate(0);
         now.wrote = wrote;
         now.time = time;
         now.phase = Phase::Stamping { visited: 0 };
@@ -156,6 +160,7 @@ impl Session {
         match self.choose(alloc, core)? {
             CoreStep::Wait(by) => Ok(Progress::Blocked { by }),
             CoreStep::Begin => self.begin(alloc, core),
+            CoreStep::Save => self.save(),
             CoreStep::Enter => self.enter(alloc, core),
             CoreStep::Refuse(cause) => Ok(self.refuse(cause)),
             CoreStep::Close(cause) => self.close(alloc, core, cause),

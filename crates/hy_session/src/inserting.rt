@@ -1,6 +1,6 @@
 //! Visits of an INSERT.
 
-ghost use Rattle.std.specs.Prelude.{◌≡◌, ◌<◌, ◌≤◌, suc, true, false, nat_lt, if◌then◌else◌, Some, IfOk, OnErr, OnOk};
+ghost use Rattle.std.specs.Prelude.{length, ◌≡◌, ◌<◌, ◌≤◌, suc, true, false, nat_lt, if◌then◌else◌, Some, IfOk, OnErr, OnOk};
 ghost use Rattle.hy_protocol.specs.declared.Phase.{Phase};
 ghost use Rattle.hy_protocol.specs.declared.Progress.{Progress};
 ghost use Rattle.hy_bound.specs.declared.Ending.{Ending};
@@ -88,10 +88,12 @@ fn place_in(
 ) -> Result<Option<u32>, AllocError>
     requires { CanInsert visitor.now insertion.now cover.now chunk.old }
     ensures done { IfOk result (λ answer. HasCome visitor.now insertion.now start cover.now
-        notes.old.notes chunk.old.shown answer chunk.new.shown notes.new.notes) }
+        notes.old.notes notes.old.levels chunk.old.shown answer chunk.new.shown notes.new.notes notes.new.levels) }
+    ensures long { length notes.new.levels ≡ length notes.old.levels }
     ensures short { OnOk result (visitor.now.prunes ≡ true → AllShort cover.now chunk.new.shown.places) }
     ensures kept { OnErr result (chunk.new.shown ≡ chunk.old.shown) }
     ensures notes_kept { OnErr result (notes.new.notes ≡ notes.old.notes) }
+    ensures levels_kept { OnErr result (notes.new.levels ≡ notes.old.levels) }
     ensures kinds { chunk.new.kinds ≡ chunk.old.kinds }
 {
     let width = table_shape(visitor.shapes, insertion.table).width;

@@ -7,6 +7,7 @@ ghost use Rattle.hy_event.specs.Needs.{need_of};
 ghost use Rattle.hy_session.specs.Standing.{standing_of};
 
 mod answers;
+mod backing;
 mod copying;
 mod core_steps;
 mod core_visits;
@@ -16,13 +17,14 @@ mod needs;
 mod numbers;
 mod prepared;
 mod reading;
+mod savepoints;
 mod seeking;
 mod stamping;
 mod visitors;
 mod visits;
 mod writing;
 
-use hy_bound::{Reply, Shapes, Txns};
+use hy_bound::{Reply, SavedName, Shapes, Txns};
 use hy_event::Need;
 use hy_gathered::Pieces;
 use hy_notes::Changes;
@@ -30,6 +32,7 @@ use hy_plan::ReadLog;
 use hy_protocol::Phase;
 use hy_prune::Cover;
 use hy_render::{Places, TxnOutcome};
+use hy_value::Seq;
 use prepared::Prepared;
 use std::alloc::Global;
 use std::marker::Model;
@@ -44,7 +47,10 @@ struct OpenTransaction {
     records: ReadLog,
     took: Vec<Option<u32>>,
     gathered: Vec<Pieces>,
+    /// What it wrote, and what since each of its savepoints.
     notes: Changes,
+    /// The names of its savepoints, the oldest first.
+    saved: Seq<SavedName>,
     wrote: Places,
     time: u64,
     phase: Phase,
@@ -53,6 +59,8 @@ struct OpenTransaction {
 impl Model for OpenTransaction {
     ghost use Rattle.hy_event.specs.declared.Open.{Open};
     ghost use Rattle.hy_event.specs.contracts.Open as open_data;
+    ghost use Rattle.std.specs.Prelude.{◌≡◌, length};
+    ghost use Rattle.hy_session.specs.Savepoints.{savepoints};
 
     ghost Value = { Open };
 
@@ -67,10 +75,13 @@ impl Model for OpenTransaction {
       took = a.took.items;
       gathered = a.gathered.items;
       notes = a.notes.notes;
+      saved = savepoints a.saved a.notes.levels;
       wrote = a.wrote;
       time = a.time;
       phase = a.phase;
     } };
+
+    ghost invariant = { λ a. length a.saved ≡ length a.notes.levels };
 }
 
 /// A session. Contracts see its plain data.
@@ -113,7 +124,7 @@ impl Model for Session {
       now = a.now;
     } };
 
-    ghost invariant = { λ a. IsLimited a.chunks a.shapes a.program (length a.done.items) a.spare.notes a.prepared
+    ghost invariant = { λ a. IsLimited a.chunks a.shapes a.program (length a.done.items) a.spare.notes a.spare.levels a.prepared
         × HasRoomFor a.now (length a.shapes) (vec_len a.done) (vec_capacity a.done) a.counts.items (vec_capacity a.counts)
         × HasOrder a.now };
 }

@@ -1,14 +1,15 @@
 //! What an open transaction needs next.
 
-ghost use Rattle.std.specs.Prelude.{◌≡◌, IfSome, slice_index_or};
+ghost use Rattle.std.specs.Prelude.{◌≡◌, IfSome, slice_get, slice_index_or};
 ghost use Rattle.hy_bound.specs.Records.{shape_of};
-ghost use Rattle.hy_event.specs.Needs.{checks_of, insert_need, need_of, statement_need, phase_need};
-ghost use Rattle.hy_event.specs.Sessions.{written};
+ghost use Rattle.hy_event.specs.Needs.{checks_of, chunk_or_core, insert_need, need_of, statement_need, phase_need};
+ghost use Rattle.hy_event.specs.Sessions.{chunks_since, written};
+ghost use Rattle.hy_session.specs.Limits.{IsSavedInOrder};
 ghost use Rattle.hy_session.specs.Seeking.{Rises};
 ghost use Rattle.hy_session.specs.Standing.{needed_number};
 
 use crate::{OpenTransaction, Session};
-use hy_bound::{Bound, Txn, table_shape};
+use hy_bound::{Bound, Name, Txn, newest_savepoint, table_shape};
 use hy_event::Need;
 use hy_protocol::Phase;
 
@@ -45,9 +46,21 @@ impl Session {
         }
     }
 
-    /// The chunk that a visit of a statement needs.
-    fn needed_by_statement(&self, visited: u32, statement: &Bound) -> Need
-        ensures { result ≡ statement_need self.entry.now visited statement.now }
+    /// What a ROLLBACK TO needs: the next chunk that was written since the savepoint, or the core.
+    fn needed_to_go_back(&self, now: &OpenTransaction, visited: u32, name: &Name) -> Need
+        requires { IsSavedInOrder now.now.saved }
+        ensures { result ≡ chunk_or_core (slice_get (chunks_since self.entry.now now.now name.now) visited) }
+    {
+        match newest_savepoint(now.saved.as_slice(), name.text()) {
+            Some(number) => self.left_of_written(now, Some(number), visited),
+            None => Need::Core,
+        }
+    }
+
+    /// What a visit of a statement needs.
+    fn needed_by_statement(&self, now: &OpenTransaction, visited: u32, statement: &Bound) -> Need
+        requires { IsSavedInOrder now.now.saved }
+        ensures { result ≡ statement_need self.entry.now now.now visited statement.now }
     {
         match statement {
             Bound::Select { tables, .. } => Need::Chunk {
@@ -61,6 +74,8 @@ impl Session {
                 table: *table,
                 chunk: visited,
             },
+            Bound::Savepoint { .. } | Bound::Release { .. } => Need::Core,
+            Bound::RollbackTo { name } => self.needed_to_go_back(now, visited, name),
         }
     }
 
@@ -81,19 +96,20 @@ impl Session {
 
     /// What its open transaction needs, by where it stands.
     pub(crate) fn needed_by(&self, txn: &Txn, now: &OpenTransaction) -> Need
-        requires { Rises (written now.now) }
+        requires order { Rises (written now.now) }
+        requires saved { IsSavedInOrder now.now.saved }
         ensures { result ≡ phase_need self.entry.now txn.now now.now now.now.phase }
     {
         match now.phase {
             Phase::Working { visited, .. } => {
                 match txn.statements.as_slice().get(now.replies.len()) {
-                    Some(statement) => self.needed_by_statement(visited, statement),
+                    Some(statement) => self.needed_by_statement(now, visited, statement),
                     None if txn.commits => Need::Core,
-                    None => self.left_of_written(now, 0),
+                    None => self.left_of_written(now, None, 0),
                 }
             }
             Phase::Stamping { visited } | Phase::Undoing { visited, .. } => {
-                self.left_of_written(now, visited)
+                self.left_of_written(now, None, visited)
             }
         }
     }

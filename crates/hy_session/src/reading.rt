@@ -109,7 +109,7 @@ impl Session {
     ) -> Result<ReadStep, AllocError>
         requires at { length self.now.done < length self.now.program }
         requires planned { IsPlanOf self.now.shapes present.now.statement.now (plan_by reader.now) }
-        requires fits { IsNextFor self.now present.now.visited present.now.statement.now chunk.old }
+        requires fits { IsNextFor self.now now.now present.now.visited present.now.statement.now chunk.old }
         ensures step { IfOk result (λ step. IsStep self.entry.now now.now present.now.visited present.now.statement.now chunk.old.shown.places step) }
         ensures all { chunk.new ≡ chunk.old }
     {

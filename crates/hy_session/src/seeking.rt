@@ -1,10 +1,12 @@
 //! The chunks that an open transaction wrote.
 //!
-//! The positions that it wrote are in order, so that each chunk is found by binary search behind the one before.
+//! The positions that it wrote, at all or since a savepoint, are in order, so that each chunk is found by binary search behind the
+//! one before.
 
 ghost use Rattle.std.specs.Prelude.{◌≡◌, ◌<◌, ◌++◌, ℕ, List, Some, length, map, slice_get};
-ghost use Rattle.hy_event.specs.Sessions.{place_noted, written, chunks_in_table};
-ghost use Rattle.hy_event.specs.Needs.{written_need};
+ghost use Rattle.hy_event.specs.Sessions.{place_noted, written, chunks_from, chunks_in_table};
+ghost use Rattle.hy_event.specs.Needs.{chunk_or_core};
+ghost use Rattle.hy_session.specs.Savepoints.{places_since};
 ghost use Rattle.hy_session.specs.Seeking.{IsNextChunk, Rises, comes_before, first_from, of_table, sought, written_place};
 
 use crate::{OpenTransaction, Session};
@@ -70,30 +72,68 @@ fn first_written(now: &OpenTransaction, table: u32, from: u64) -> Option<u32>
     }
 }
 
+/// The first position of a table from this one on that is noted since the savepoint of this number.
+fn first_noted_since(now: &OpenTransaction, number: usize, table: u32, from: u64) -> Option<u32>
+    requires { Rises (places_since now.now (Some number)) }
+    ensures { result ≡ first_from table from (places_since now.now (Some number)) }
+{
+    let noted = now.notes.first_since(number, table, from)?;
+    position_in(place_of(noted), table)
+}
+
+/// The first position of a table from this one on that an open transaction wrote, at all or since the savepoint of this number.
+fn first_since(
+    now: &OpenTransaction,
+    savepoint: Option<usize>,
+    table: u32,
+    from: u64,
+) -> Option<u32>
+    requires { Rises (places_since now.now savepoint) }
+    ensures { result ≡ first_from table from (places_since now.now savepoint) }
+{
+    match savepoint {
+        Some(number) => first_noted_since(now, number, table, from),
+        None => first_written(now, table, from),
+    }
+}
+
 impl Session {
-    /// The first chunk of a table from this one on in which an open transaction wrote.
-    fn next_written(&self, now: &OpenTransaction, table: u32, from: u32) -> Option<u32>
-        requires { Rises (written now.now) }
-        ensures { IsNextChunk self.entry.now (written now.now) table from result }
+    /// The first chunk of a table from this one on in which an open transaction wrote, at all or since a savepoint.
+    fn next_written(
+        &self,
+        now: &OpenTransaction,
+        savepoint: Option<usize>,
+        table: u32,
+        from: u32,
+    ) -> Option<u32>
+        requires { Rises (places_since now.now savepoint) }
+        ensures { IsNextChunk self.entry.now (places_since now.now savepoint) table from result }
     {
         let first = u64::from(from) * u64::from(self.rows);
-        let pos = first_written(now, table, first)?;
+        let pos = first_since(now, savepoint, table, first)?;
         let chunk = pos.checked_div(self.rows)?;
         (chunk < self.chunks).then_some(chunk)
     }
 
-    /// The chunk of a table that is so many behind the first one in which an open transaction wrote; Err is for how
-    /// many it is behind all of the table's.
-    fn seek_in_table(&self, now: &OpenTransaction, table: u32, behind: u32) -> Result<u32, u32>
-        requires order { Rises (written now.now) }
+    /// The chunk of a table that is so many behind the first one in which an open transaction wrote, at all or since a savepoint;
+    /// Err is for how many it is behind all of the table's.
+    fn seek_in_table(
+        &self,
+        now: &OpenTransaction,
+        savepoint: Option<usize>,
+        table: u32,
+        behind: u32,
+    ) -> Result<u32, u32>
+        requires order { Rises (places_since now.now savepoint) }
         requires within { table < length self.now.shapes }
-        ensures { (others : List (ℕ × ℕ)) → slice_get (chunks_in_table self.entry.now (written now.now) table ++ others) behind ≡ sought table result others }
+        ensures { (others : List (ℕ × ℕ))
+            → slice_get (chunks_in_table self.entry.now (places_since now.now savepoint) table ++ others) behind ≡ sought table result others }
     {
         // The limits of a session make the number behind its last chunk one of 32 bits.
         let _ = &self.chunks;
         let mut left = behind;
         let mut chunk = 0;
-        while let Some(next) = self.next_written(now, table, chunk) {
+        while let Some(next) = self.next_written(now, savepoint, table, chunk) {
             if left == 0 {
                 return Ok(next);
             }
@@ -103,15 +143,20 @@ impl Session {
         Err(left)
     }
 
-    /// What an open transaction needs that has visited so many of the chunks that it wrote: the next of them, or the
-    /// core behind the last one.
-    pub(crate) fn left_of_written(&self, now: &OpenTransaction, visited: u32) -> Need
-        requires { Rises (written now.now) }
-        ensures { result ≡ written_need self.entry.now now.now visited }
+    /// What an open transaction needs that has visited so many of the chunks that it wrote, at all or since a savepoint: the
+    /// next of them, or the core behind the last one.
+    pub(crate) fn left_of_written(
+        &self,
+        now: &OpenTransaction,
+        savepoint: Option<usize>,
+        visited: u32,
+    ) -> Need
+        requires { Rises (places_since now.now savepoint) }
+        ensures { result ≡ chunk_or_core (slice_get (chunks_from self.entry.now (places_since now.now savepoint) 0 self.entry.now.shapes) visited) }
     {
         let mut left = visited;
         for table in 0..self.shapes.len() as u32 {
-            match self.seek_in_table(now, table, left) {
+            match self.seek_in_table(now, savepoint, table, left) {
                 Ok(chunk) => return Need::Chunk { table, chunk },
                 Err(behind) => left = behind,
             }

@@ -1,15 +1,20 @@
 //! Visits of chunks.
 
-ghost use Rattle.std.specs.Prelude.{◌≡◌, None, true, false, IfOk, OnErr, OnOk};
+ghost use Rattle.std.specs.Prelude.{◌≡◌, ℕ, List, None, true, false, IfOk, OnErr, OnOk};
 ghost use Rattle.std.specs.Option.{option_copied};
+ghost use Rattle.hy_bound.specs.declared.Bound.{Bound};
 ghost use Rattle.hy_event.specs.Events.{ChunkEvent, StatementVisit};
+ghost use Rattle.hy_event.specs.Sessions.{notes_since};
+ghost use Rattle.hy_visit.specs.Backing.{MayAllGoBack};
 ghost use Rattle.hy_protocol.specs.declared.Progress.{Progress};
 ghost use Rattle.hy_session.specs.Entered.{has_entry};
+ghost use Rattle.hy_session.specs.Limits.{IsSavedInOrder};
 ghost use Rattle.hy_session.specs.Near.{NearChunk};
 ghost use Rattle.hy_session.specs.Preparing.{kind_in, kind_of};
 ghost use Rattle.hy_session.specs.Short.{LeavesShort};
 ghost use Rattle.hy_session.specs.Visitors.{CanWork, ForVisitor, ShortAt, gathers, is_reading};
 
+use crate::backing::go_back;
 use crate::inserting::{Insertion, insert, pass};
 use crate::prepared::StatementPlan;
 use crate::stamping::{stamp, undo};
@@ -30,7 +35,12 @@ fn gathers(statement: &Bound) -> bool
 {
     match statement {
         Bound::Select { .. } | Bound::Group { .. } => true,
-        Bound::Insert { .. } | Bound::Update { .. } | Bound::Delete { .. } => false,
+        Bound::Insert { .. }
+        | Bound::Update { .. }
+        | Bound::Delete { .. }
+        | Bound::Savepoint { .. }
+        | Bound::RollbackTo { .. }
+        | Bound::Release { .. } => false,
     }
 }
 
@@ -44,6 +54,9 @@ fn visit_statement(
     chunk: &mut Chunk,
 ) -> Result<Progress, AllocError>
     requires can { CanWork visitor.now now.old.cover present.now.statement.now chunk.old }
+    requires order { IsSavedInOrder now.old.saved }
+    requires back { (name : List ℕ) → present.now.statement.now ≡ Bound.RollbackTo name
+        → MayAllGoBack chunk.old.kinds chunk.old.shown.key visitor.now.id (notes_since now.old name) chunk.old.shown }
     requires kind { option_copied kind ≡ kind_of present.now.statement.now }
     ensures event { IfOk result (λ progress. ForVisitor visitor.now now.old now.new (λ session after.
         StatementVisit session now.old present.now.visited present.now.count present.now.statement.now
@@ -54,7 +67,11 @@ fn visit_statement(
     ensures kinds { chunk.new.kinds ≡ chunk.old.kinds }
 {
     match present.statement {
-        Bound::Select { .. } | Bound::Group { .. } => unreachable!(),
+        Bound::Select { .. }
+        | Bound::Group { .. }
+        | Bound::Savepoint { .. }
+        | Bound::Release { .. } => unreachable!(),
+        Bound::RollbackTo { name } => go_back(alloc, visitor, present.visited, name, now, chunk),
         Bound::Insert { table, row } => {
             let insertion = Insertion {
                 present: *present,

@@ -1,6 +1,6 @@
 //! Visits of an UPDATE or a DELETE.
 
-ghost use Rattle.std.specs.Prelude.{◌≡◌, suc, ◌+◌, ◌^◌, ◌<◌, ◌≤◌, true, IfOk, OnErr, OnOk};
+ghost use Rattle.std.specs.Prelude.{◌≡◌, suc, ◌+◌, ◌^◌, ◌<◌, ◌≤◌, true, length, IfOk, OnErr, OnOk};
 ghost use Rattle.hy_event.specs.Writing.{WriteVisit, told_by, ending_by};
 ghost use Rattle.hy_chunk.specs.Writes.{sets_of};
 ghost use Rattle.hy_visit.specs.Pruning.{AllShort};
@@ -65,10 +65,12 @@ fn write_chunk(
 ) -> Result<Result<u32, Refusal>, AllocError>
     requires { CanWrite visitor.now write.now cover.now chunk.old }
     ensures done { IfOk result (λ answer. HasWritten visitor.now write.now start cover.now
-        notes.old.notes chunk.old.shown answer chunk.new.shown notes.new.notes) }
+        notes.old.notes notes.old.levels chunk.old.shown answer chunk.new.shown notes.new.notes notes.new.levels) }
+    ensures long { length notes.new.levels ≡ length notes.old.levels }
     ensures short { OnOk result (visitor.now.prunes ≡ true → AllShort cover.now chunk.new.shown.places) }
     ensures kept { OnErr result (chunk.new.shown ≡ chunk.old.shown) }
     ensures notes_kept { OnErr result (notes.new.notes ≡ notes.old.notes) }
+    ensures levels_kept { OnErr result (notes.new.levels ≡ notes.old.levels) }
     ensures kinds { chunk.new.kinds ≡ chunk.old.kinds }
 {
     let width = table_shape(visitor.shapes, write.table).width;

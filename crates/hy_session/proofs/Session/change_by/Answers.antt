@@ -1,11 +1,11 @@
-use Rattle.std.proofs.Common.{◌≡◌, None, Some, Ok, length, vec_len, vec_capacity, ap, sym, subst, ◌∙◌, arith}
+use Rattle.std.proofs.Common.{◌≡◌, ℕ, None, Some, Ok, length, vec_len, vec_capacity, ap, sym, subst, ◌∙◌, arith}
 use Rattle.std.specs.Prelude.{slice_get}
 use Rattle.std.specs.declared.alloc.AllocError.{AllocError}
 use Rattle.hy_stamp.specs.Times.{id_of}
 use Rattle.hy_event.specs.declared.SessionData.{SessionData}
 use Rattle.hy_event.specs.declared.Open.{Open}
 use Rattle.hy_protocol.specs.declared.Phase.TheVariants.{Working, Stamping, Undoing}
-use Rattle.hy_event.specs.Sessions.{txn_at}
+use Rattle.hy_event.specs.Sessions.{notes_since, txn_at}
 use Rattle.hy_event.specs.Turns.{with_open}
 use Rattle.hy_session.specs.contracts.Session.{the_view}
 use Rattle.hy_session.specs.declared.Session.TheInside.{Inside}
@@ -13,11 +13,13 @@ use Rattle.hy_session.specs.Limits.{IsLimited, HasOrder, HasRoomFor}
 use Rattle.hy_session.specs.declared.visitors.Visitor.{Visitor}
 use Rattle.hy_session.specs.Short.{LeavesShort, visit_prunes}
 use Rattle.hy_session.specs.Visitors.{IsVisitor, ShortAt}
+use Rattle.hy_bound.specs.declared.Bound.{Bound}
 use Rattle.hy_bound.specs.declared.Ending.TheVariants.{RolledBack}
-use Rattle.hy_session.proofs.OrderedNotes.{stamped_in_order, undone_in_order, worked_in_order}
+use Rattle.hy_visit.specs.Backing.{MayAllGoBack}
+use Rattle.hy_session.proofs.OrderedNotes.{open_saved, stamped_in_order, undone_in_order, worked_in_order}
 use Rattle.hy_session.proofs.VisitNumbers.{room_stays, stamp_fits, undo_fits}
 use Rattle.hy_session.proofs.OpenVisits.{closed, event_moves, stamped, undone, worked}
-use Rattle.hy_session.proofs.Dispatch.{close_prunes_nothing}
+use Rattle.hy_session.proofs.Dispatch.{close_prunes_nothing, statement_is}
 use Rattle.hy_session.proofs.ShortChains.{leaves_at, leaves_others, leaves_stamped, leaving_moves}
 use Rattle.hy_session.proofs.Results.{got, got_none, ok_gives}
 use Rattle.hy_session.proofs.Session.change_by.Goals as goal
@@ -132,6 +134,34 @@ returns-clause-short c =
           w.chunk-is (leaves_others session now w.undo-in-Undoing.new.chunk.shown (open_is c) (ap (visit_prunes session now) stands))
     ]
 
+pub visit_statement-requires-clause-order : goal.visit_statement-requires-clause-order
+visit_statement-requires-clause-order c =
+    let session = c.args.self.now in
+    let opened : session.now ≡ Some c.in-Some-now.now = ap (λ (v : SessionData). v.now) (sym c.self.view_is) ∙ c.in-Some-now.is in
+    open_saved session.now c.in-Some-now.now (subst (λ (s : SessionData). HasOrder s.now) c.self.view_is c.self.invariant.2) opened
+
+pub visit_statement-requires-clause-back : goal.visit_statement-requires-clause-back
+visit_statement-requires-clause-back c = λ name is.
+    let session = c.args.self.now in
+    let txn = c.in-Some.txn.now in
+    let now = c.in-Some-now.now in
+    let chunk = c.args.chunk.now in
+    let statement = c.in-Some-get.statement.now in
+    let there : txn_at session ≡ Some txn =
+    got session.program c.as_slice.result.now c.len.result (length session.done) txn
+    (c.as_slice.ensures ∙ ap (λ (v : SessionData). v.program) c.self.view_is)
+    (omega (arith, c.len.ensures, c.self.inside.done.ok.0, ap (λ (v : SessionData). length v.done) c.self.view_is))
+    c.in-Some.ensures.lookup.0 c.in-Some.ensures.lookup.1 in
+    let opened : session.now ≡ Some now = ap (λ (v : SessionData). v.now) (sym c.self.view_is) ∙ c.in-Some-now.is in
+    let works : now.phase ≡ Working c.in-Working.visited c.in-Working.count = ap (λ (v : Open). v.phase) (sym c.now.view_is) ∙ c.in-Working.is in
+    let present : slice_get txn.statements (length now.replies) ≡ Some statement =
+    got txn.statements c.as_slice-in-Working.result.now c.len-in-Working.result (length now.replies) statement c.as_slice-in-Working.ensures
+    (omega (arith, c.len-in-Working.ensures, c.now.inside.replies.ok.0, ap (λ (v : Open). length v.replies) c.now.view_is))
+    c.in-Some-get.ensures.lookup.0 c.in-Some-get.ensures.lookup.1 in
+    subst (λ (id : ℕ). MayAllGoBack chunk.kinds chunk.shown.key id (notes_since now name) chunk.shown) (sym (c.id.ensures ∙ ap id_of c.label-label.ensures))
+    ((c.requires.near.opened now opened).back c.in-Working.visited c.in-Working.count name works
+    (statement_is session txn now there opened c.in-Working.visited c.in-Working.count works statement present ∙ ap (λ (b : Bound). Some b) is))
+
 pub stamp-requires-clause-few : goal.stamp-requires-clause-few
 stamp-requires-clause-few c =
     let session = c.args.self.now in
@@ -164,7 +194,7 @@ undo-requires-in-Undoing c =
 
 abbrev Holds : Inside → Type 0
 Holds s =
-    IsLimited s.chunks s.shapes s.program (length s.done.items) s.spare.notes s.prepared
+    IsLimited s.chunks s.shapes s.program (length s.done.items) s.spare.notes s.spare.levels s.prepared
     × HasRoomFor s.now (length s.shapes) (vec_len s.done) (vec_capacity s.done) s.counts.items (vec_capacity s.counts)
     × HasOrder s.now
 

@@ -1,4 +1,7 @@
-use Rattle.std.proofs.Common.{sym, subst}
+use Rattle.std.proofs.Common.{List, sym, subst}
+use Rattle.hy_bound.specs.Savepoints.{Saved}
+use Rattle.hy_session.specs.Limits.{IsSavedInOrder}
+use Rattle.hy_session.specs.Savepoints.{savepoints}
 use Rattle.hy_notes.specs.Notes.{Ascends}
 use Rattle.hy_session.specs.Seeking.{Rises}
 use Rattle.hy_session.proofs.OrderedNotes.{open_rises}
@@ -11,6 +14,7 @@ invariant_of-self-2 c = (
   room_stays c.self.inside.now c.in-Some.now c.in-Some.is c.self.invariant.1 c.in-Some.now,
   record {
     notes = subst Ascends (sym c.in_ok-time.ensures.none) tt;
+    saved = subst (λ (names : List (Saved (Unit {0}))). IsSavedInOrder (savepoints names c.enter.new.changes.levels)) (sym c.truncate.ensures) tt;
     wrote = subst Rises (sym c.in_ok-wrote.ensures) (open_rises c.self.inside.now c.in-Some.now c.self.invariant.2 c.in-Some.is);
   },
 )

@@ -39,7 +39,7 @@ gather_part-requires c =
     found_in _ session reader.parts c.args.present.now.visited _ _ c.self.view_is c.part.ensures
     (ap (λ (one : Option (Bor PlanPart)). option_copied one) c.in-Some.is) in
     c.requires.fits.wide
-    ∙ sym (wide_part session c.args.present.now.statement.now (plan_by reader) part c.args.present.now.visited c.args.chunk.now.shown.table c.requires.fits.number
+    ∙ sym (wide_part session c.args.now.now c.args.present.now.statement.now (plan_by reader) part c.args.present.now.visited c.args.chunk.now.shown.table c.requires.fits.number
     planned found c.requires.fits.needed)
 
 pub returns-then-from-parts-clause-step : goal.returns-then-from-parts-clause-step

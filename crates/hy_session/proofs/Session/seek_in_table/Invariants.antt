@@ -1,6 +1,7 @@
 use Rattle.std.proofs.Common.{◌≡◌, ◌≤◌, ◌++◌, ◌-◌, ℕ, List, map}
 use Rattle.std.specs.List.{filter, list_any, range_with_len, slice_get}
-use Rattle.hy_event.specs.Sessions.{chunks_in_table, lies_in, written}
+use Rattle.hy_event.specs.Sessions.{chunks_in_table, lies_in}
+use Rattle.hy_session.specs.Savepoints.{places_since}
 use Rattle.hy_session.proofs.Session.seek_in_table.Given as goal
 
 -- what is left of the table's chunks is looked at so many behind
@@ -9,8 +10,8 @@ invariant-loop-next l = record {
   within : l.chunk ≤ l.self.chunks;
   seeks : (others : List (ℕ × ℕ))
       → slice_get (map (λ (chunk : ℕ). (l.table, chunk))
-      (filter (λ (chunk : ℕ). list_any (lies_in l.self l.table chunk) (written l.now)) (range_with_len l.chunk (l.self.chunks - l.chunk))) ++ others) l.left
-      ≡ slice_get (chunks_in_table l.self (written l.now) l.table ++ others) l.behind;
+      (filter (λ (chunk : ℕ). list_any (lies_in l.self l.table chunk) (places_since l.now l.savepoint)) (range_with_len l.chunk (l.self.chunks - l.chunk))) ++ others) l.left
+      ≡ slice_get (chunks_in_table l.self (places_since l.now l.savepoint) l.table ++ others) l.behind;
 }
 
 abbrev pub decreases-loop-next : goal.decreases-loop-next

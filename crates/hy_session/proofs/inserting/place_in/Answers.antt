@@ -2,27 +2,34 @@ use Rattle.std.proofs.Common.{◌≡◌, ◌≤◌, ap, sym, ◌∙◌, subst}
 use Rattle.hy_stamp.specs.declared.Viewer.{Viewer}
 use Rattle.hy_undo.specs.Chunks.{ChunkData}
 use Rattle.hy_chunk.specs.Views.{Whole}
-use Rattle.hy_session.specs.Written.{Came}
+use Rattle.hy_session.specs.Savepoints.{savepoints}
+use Rattle.hy_session.specs.Written.{Came, kept_as}
+use Rattle.hy_session.proofs.OpenSavepoints.{mapped_long}
 use Rattle.hy_session.proofs.WriteVisits.{came_so, viewer_so}
 use Rattle.hy_session.proofs.inserting.place_in.Goals as goal
 
 pub returns-clause-done : goal.returns-clause-done
-returns-clause-done c = λ session now is noted.
+returns-clause-done c = λ session now names is noted.
     let insertion = c.args.insertion.now in
     let same : c.reserve_writes.new.chunk.shown ≡ c.args.chunk.now.shown = ap (λ (w : Whole). w.shown) c.reserve_writes.ensures.all in
     let did : Came session now insertion.table insertion.row.now c.reserve_writes.new.chunk.shown c.place_visit.result
-    c.place_visit.new.chunk.shown c.place_visit.new.changes.notes =
-    came_so session now _ insertion.table _ _ _ _ insertion.row.now _ c.place_visit.ensures.done
+    c.place_visit.new.chunk.shown (kept_as names c.place_visit.new.changes.notes c.place_visit.new.changes.levels) =
+    came_so session now _ insertion.table _ _ _ _ _ _ names insertion.row.now _ c.place_visit.ensures.done
     (record {
       viewer = c.viewer.ensures ∙ viewer_so session now c.args.visitor.now.id c.args.start is.id noted.starts;
       label = is.label;
       cover = sym noted.covers;
       prunes = is.prunes;
     })
-    (ap (λ (o : ChunkData). o.table) same ∙ sym c.requires.table) (c.reserve_writes.ensures.notes ∙ sym noted.noted) in
+    (ap (λ (o : ChunkData). o.table) same ∙ sym c.requires.table) (c.reserve_writes.ensures.notes ∙ sym noted.noted)
+    (ap (savepoints names) c.reserve_writes.ensures.levels ∙ sym noted.saved) in
     subst
-    (λ (o : ChunkData). Came session now insertion.table insertion.row.now o c.place_visit.result c.place_visit.new.chunk.shown c.place_visit.new.changes.notes)
+    (λ (o : ChunkData). Came session now insertion.table insertion.row.now o c.place_visit.result c.place_visit.new.chunk.shown
+    (kept_as names c.place_visit.new.changes.notes c.place_visit.new.changes.levels))
     same did
+
+pub returns-clause-long : goal.returns-clause-long
+returns-clause-long c = mapped_long _ _ _ _ c.place_visit.ensures.done.in_each c.reserve_writes.ensures.levels
 
 pub returns-clause-short : goal.returns-clause-short
 returns-clause-short c = λ does.

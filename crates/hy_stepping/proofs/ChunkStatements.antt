@@ -4,7 +4,7 @@ use Rattle.std.specs.Prelude.{slice_get, nat_lt}
 use Rattle.std.specs.List.{All}
 use Rattle.hy_value.specs.declared.Kind.{Kind}
 use Rattle.hy_bound.specs.declared.Bound.{Bound}
-use Rattle.hy_bound.specs.declared.Bound.TheVariants.{Select, Group, Insert, Update, Delete}
+use Rattle.hy_bound.specs.declared.Bound.TheVariants.{Select, Group, Insert, Update, Delete, Savepoint, RollbackTo, Release}
 use Rattle.hy_bound.specs.declared.Reply.{Reply}
 use Rattle.hy_bound.specs.declared.Shape.{Shape}
 use Rattle.hy_bound.specs.declared.Txn.{Txn}
@@ -38,7 +38,7 @@ at_present setting state core number session now statement one present =
 -- a session at work needs what its statement needs
 pub statement_needs : (setting : Setting) (state : State) (core : CoreData) (number : ℕ) (session : SessionData) (now : Open) (statement : Bound)
     (visited count : ℕ) → (one : OpenOne setting state core number session now) → session.now ≡ Some now → now.phase ≡ phase.Working visited count
-    → slice_get one.txn.statements (length now.replies) ≡ Some statement → need_of session ≡ statement_need session visited statement
+    → slice_get one.txn.statements (length now.replies) ≡ Some statement → need_of session ≡ statement_need session now visited statement
 statement_needs setting state core number session now statement visited count one here working at =
     ap (λ (txn : Option Txn). session_need session txn session.now) one.txn_here
     ∙ (ap (λ (open' : Option Open). session_need session (Some one.txn) open') here
@@ -75,18 +75,21 @@ typed_by kinds shapes types key table other statement types_are key_is same type
     (subst (λ (t : ℕ). IsTypedOf kinds shapes t statement) same typed))
 
 -- a statement is of the types of the chunk that it needs
-pub typed_here : (kinds : List (List Kind)) (shapes : List Shape) (types : List Kind) (key : Option ℕ) (session : SessionData)
+pub typed_here : (kinds : List (List Kind)) (shapes : List Shape) (types : List Kind) (key : Option ℕ) (session : SessionData) (now : Open)
     (visited table chunk : ℕ) (statement : Bound) → types ≡ kinds_of kinds table → key ≡ (shape_of shapes table).key
-    → statement_need session visited statement ≡ Chunk table chunk → IsTypedIn kinds shapes statement → IsTyped types key statement
-typed_here kinds shapes types key session visited table chunk (Select tables ons pred items) types_are key_is need typed = tt
-typed_here kinds shapes types key session visited table chunk (Group other pred grouped aggregate) types_are key_is need typed = tt
-typed_here kinds shapes types key session visited table chunk (Insert other row) types_are key_is need typed =
+    → statement_need session now visited statement ≡ Chunk table chunk → IsTypedIn kinds shapes statement → IsTyped types key statement
+typed_here kinds shapes types key session now visited table chunk (Select tables ons pred items) types_are key_is need typed = tt
+typed_here kinds shapes types key session now visited table chunk (Group other pred grouped aggregate) types_are key_is need typed = tt
+typed_here kinds shapes types key session now visited table chunk (Insert other row) types_are key_is need typed =
     let checks : ℕ = checks_of session (shape_of session.shapes other).key in
     typed_by kinds shapes types key table other (Insert other row) types_are key_is
     (insert_table other visited (visited - checks) table chunk (nat_lt visited checks) need) typed
-typed_here kinds shapes types key session visited table chunk (Update other sets pred) types_are key_is need typed =
+typed_here kinds shapes types key session now visited table chunk (Update other sets pred) types_are key_is need typed =
     typed_by kinds shapes types key table other (Update other sets pred) types_are key_is (ap table_needed need) typed
-typed_here kinds shapes types key session visited table chunk (Delete other pred) types_are key_is need typed = tt
+typed_here kinds shapes types key session now visited table chunk (Delete other pred) types_are key_is need typed = tt
+typed_here kinds shapes types key session now visited table chunk (Savepoint name) types_are key_is need typed = tt
+typed_here kinds shapes types key session now visited table chunk (RollbackTo name) types_are key_is need typed = tt
+typed_here kinds shapes types key session now visited table chunk (Release name) types_are key_is need typed = tt
 
 -- ---- visits
 
@@ -108,3 +111,6 @@ left_of setting visited (Group table pred grouped aggregate) left = left
 left_of setting visited (Insert table row) left = tt
 left_of setting visited (Update table sets pred) left = tt
 left_of setting visited (Delete table pred) left = tt
+left_of setting visited (Savepoint name) left = tt
+left_of setting visited (RollbackTo name) left = tt
+left_of setting visited (Release name) left = tt

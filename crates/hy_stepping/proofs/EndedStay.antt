@@ -4,7 +4,7 @@ use Rattle.std.specs.Prelude.{slice_get}
 use Rattle.std.proofs.lemmas.Bool.{cond_both}
 use Rattle.std.proofs.lemmas.List.{get_or_past}
 use Rattle.hy_bound.specs.declared.Bound.{Bound}
-use Rattle.hy_bound.specs.declared.Bound.TheVariants.{Select, Group, Insert, Update, Delete}
+use Rattle.hy_bound.specs.declared.Bound.TheVariants.{Select, Group, Insert, Update, Delete, Savepoint, RollbackTo, Release}
 use Rattle.hy_bound.specs.declared.Txn.{Txn}
 use Rattle.hy_bound.specs.Records.{shape_of}
 use Rattle.hy_event.specs.declared.SessionData.{SessionData}
@@ -13,7 +13,7 @@ use Rattle.hy_protocol.specs.declared.Phase.{Phase}
 use Rattle.hy_protocol.specs.declared.Phase.TheVariants.{Working, Stamping, Undoing}
 use Rattle.hy_event.specs.declared.Need.{Need}
 use Rattle.hy_event.specs.declared.Need.TheVariants.{Core, Chunk, Done}
-use Rattle.hy_event.specs.Sessions.{txn_at as txn_here, written_chunks}
+use Rattle.hy_event.specs.Sessions.{txn_at as txn_here, written_chunks, chunks_since}
 use Rattle.hy_event.specs.Needs.{checks_of, statement_need, chunk_or_core, written_need, working_need, phase_need, session_need, need_of}
 use Rattle.hy_machine.specs.declared.Setting.{Setting}
 use Rattle.hy_machine.specs.States.{State}
@@ -31,24 +31,27 @@ IsPart Core = Unit {0}
 IsPart (Chunk table chunk) = Unit {0}
 IsPart Done = ⊥
 
-statement_part : (session : SessionData) (visited : ℕ) (statement : Bound) → IsPart (statement_need session visited statement)
-statement_part session visited (Select tables ons pred items) = tt
-statement_part session visited (Group table pred key aggregate) = tt
-statement_part session visited (Insert table row) =
-    cond_both (ltb visited (checks_of session (shape_of session.shapes table).key)) (Chunk table visited)
-    (Chunk table (visited - checks_of session (shape_of session.shapes table).key)) IsPart (λ e. tt) (λ e. tt)
-statement_part session visited (Update table sets pred) = tt
-statement_part session visited (Delete table pred) = tt
-
 left_part : (one : Option (ℕ × ℕ)) → IsPart (chunk_or_core one)
 left_part None = tt
 left_part (Some one) = tt
+
+statement_part : (session : SessionData) (now : Open) (visited : ℕ) (statement : Bound) → IsPart (statement_need session now visited statement)
+statement_part session now visited (Select tables ons pred items) = tt
+statement_part session now visited (Group table pred key aggregate) = tt
+statement_part session now visited (Insert table row) =
+    cond_both (ltb visited (checks_of session (shape_of session.shapes table).key)) (Chunk table visited)
+    (Chunk table (visited - checks_of session (shape_of session.shapes table).key)) IsPart (λ e. tt) (λ e. tt)
+statement_part session now visited (Update table sets pred) = tt
+statement_part session now visited (Delete table pred) = tt
+statement_part session now visited (Savepoint name) = tt
+statement_part session now visited (RollbackTo name) = left_part (slice_get (chunks_since session now name) visited)
+statement_part session now visited (Release name) = tt
 
 working_part : (session : SessionData) (txn : Txn) (now : Open) (visited : ℕ) (statement : Option Bound)
     → IsPart (working_need session txn now visited statement)
 working_part session txn now visited None =
     cond_both txn.commits Core (written_need session now 0) IsPart (λ e. tt) (λ e. left_part (slice_get (written_chunks session now) 0))
-working_part session txn now visited (Some statement) = statement_part session visited statement
+working_part session txn now visited (Some statement) = statement_part session now visited statement
 
 phase_part : (session : SessionData) (txn : Txn) (now : Open) (phase : Phase) → IsPart (phase_need session txn now phase)
 phase_part session txn now (Working visited count) = working_part session txn now visited (slice_get txn.statements (length now.replies))

@@ -4,7 +4,7 @@ use Rattle.std.specs.List.{AllZip}
 use Rattle.std.proofs.lemmas.List.Elements.{recursion_from_All}
 use Rattle.hy_value.specs.declared.Value.{Value}
 use Rattle.hy_bound.specs.declared.Bound.{Bound}
-use Rattle.hy_bound.specs.declared.Bound.TheVariants.{Select, Group, Insert, Update, Delete}
+use Rattle.hy_bound.specs.declared.Bound.TheVariants.{Select, Group, Insert, Update, Delete, Savepoint, RollbackTo, Release}
 use Rattle.hy_bound.specs.declared.Shape.{Shape}
 use Rattle.hy_bound.specs.Agreement.{HaveWidth}
 use Rattle.hy_bound.specs.Fits.{FitsRows}
@@ -44,6 +44,9 @@ reads_fit setting seen fits (Some (Group table pred key aggregate)) = fits.one t
 reads_fit setting seen fits (Some (Insert table row)) = tt
 reads_fit setting seen fits (Some (Update table sets pred)) = tt
 reads_fit setting seen fits (Some (Delete table pred)) = tt
+reads_fit setting seen fits (Some (Savepoint name)) = tt
+reads_fit setting seen fits (Some (RollbackTo name)) = tt
+reads_fit setting seen fits (Some (Release name)) = tt
 
 pub views_fit : ReachedViewsFit → (setting : Setting) (state : State) → IsRunnable setting → IsReached setting state → ViewsFit setting state
 views_fit law setting state runnable reached number current is_now =

@@ -11,6 +11,8 @@ pub mod NeededChunks
 pub mod EndedStay
 pub mod ChunkMarks
 pub mod ChunkStatements
+mod RowTypes
+mod RowsBack
 pub mod NearChunks
 pub mod OutcomesPairs
 pub mod OutcomesEnds
@@ -18,7 +20,7 @@ pub mod OutcomesTables
 pub mod OutcomesShown
 pub mod EntryPlaces
 pub mod LaidEntries
-pub mod RowKinds
+pub mod RowTexts
 pub mod Entries
 pub mod ShownOrders
 pub mod Recovered

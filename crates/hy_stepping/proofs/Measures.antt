@@ -8,7 +8,7 @@ use Rattle.std.proofs.lemmas.List.{length-drop, get_or_past}
 use Rattle.std.proofs.lemmas.List.Elements.{All-head, All-tail, All-drop, All-nil}
 use Rattle.std.proofs.lemmas.Slice.Zip.{AllZip-long}
 use Rattle.hy_bound.specs.declared.Bound.{Bound}
-use Rattle.hy_bound.specs.declared.Bound.TheVariants.{Select, Group, Insert, Update, Delete}
+use Rattle.hy_bound.specs.declared.Bound.TheVariants.{Select, Group, Insert, Update, Delete, Savepoint, RollbackTo, Release}
 use Rattle.hy_bound.specs.declared.Txn.{Txn}
 use Rattle.hy_bound.specs.Fits.{FitsStatement, FitsTxn, FitsRows}
 use Rattle.hy_machine.specs.declared.Setting.{Setting}
@@ -23,50 +23,54 @@ use Rattle.hy_stepping.specs.Runnable.{IsRunnable}
 
 -- ---- statements
 
--- a statement visits at most four tables
-visits_few : (setting : Setting) (statement : Bound) → FitsStatement setting.shapes statement → visits_of setting statement ≤ 4 * setting.chunks
-visits_few setting (Select tables ons pred items) fits = omega (arith, mul-le-mul_left setting.chunks fits.few)
-visits_few setting (Group table pred key aggregate) fits = omega arith
-visits_few setting (Insert table row) fits = omega arith
-visits_few setting (Update table sets pred) fits = omega arith
-visits_few setting (Delete table pred) fits = omega arith
-
-statements_few : (setting : Setting) (visited : ℕ) (statements : List Bound) → setting.chunks ≤ 64 → All (FitsStatement setting.shapes) statements
-    → statements_left setting visited statements ≤ 257 * length statements
-statements_few setting visited [] few fits = omega arith
-statements_few setting visited (statement ∷ statements) few fits =
-    let first = visits_few setting statement (All-head (FitsStatement setting.shapes) statement statements fits) in
-    let rest = statements_few setting 0 statements few (All-tail (FitsStatement setting.shapes) statement statements fits) in
-    omega (arith, few, first, rest)
-
--- ---- transactions
-
--- of up to 256 statements and 1,024 chunks
-abbrev most_of_one : ℕ
-most_of_one = 66819
-
 parts_few : (setting : Setting) (tables : ℕ) → setting.chunks ≤ 64 → tables ≤ 16 → setting.chunks * tables ≤ 1024
 parts_few setting tables few tables_few =
     let most : setting.chunks * tables ≤ setting.chunks * 16 = mul-le-mul_left setting.chunks tables_few in
     omega arith
 
+-- a statement visits at most the chunks of four tables, or those of all of them and the core
+visits_few : (setting : Setting) (statement : Bound) → setting.chunks ≤ 64 → length setting.first ≤ 16 → FitsStatement setting.shapes statement
+    → visits_of setting statement ≤ 1025
+visits_few setting (Select tables ons pred items) few first fits = omega (arith, few, mul-le-mul_left setting.chunks fits.few)
+visits_few setting (Group table pred key aggregate) few first fits = omega (arith, few)
+visits_few setting (Insert table row) few first fits = omega (arith, few)
+visits_few setting (Update table sets pred) few first fits = omega (arith, few)
+visits_few setting (Delete table pred) few first fits = omega (arith, few)
+visits_few setting (Savepoint name) few first fits = omega arith
+visits_few setting (RollbackTo name) few first fits = omega (arith, parts_few setting (length setting.first) few first)
+visits_few setting (Release name) few first fits = omega arith
+
+statements_few : (setting : Setting) (visited : ℕ) (statements : List Bound) → setting.chunks ≤ 64 → length setting.first ≤ 16
+    → All (FitsStatement setting.shapes) statements → statements_left setting visited statements ≤ 1026 * length statements
+statements_few setting visited [] few first fits = omega arith
+statements_few setting visited (statement ∷ statements) few first fits =
+    let visits = visits_few setting statement few first (All-head (FitsStatement setting.shapes) statement statements fits) in
+    let rest = statements_few setting 0 statements few first (All-tail (FitsStatement setting.shapes) statement statements fits) in
+    omega (arith, visits, rest)
+
+-- ---- transactions
+
+-- of up to 256 statements and 1,024 chunks
+abbrev most_of_one : ℕ
+most_of_one = 263683
+
 txn_few : (setting : Setting) (txn : Txn) → setting.chunks ≤ 64 → length setting.first ≤ 16 → FitsTxn setting.shapes txn → txn_left setting txn ≤ most_of_one
 txn_few setting txn few tables fits =
-    omega (arith, fits.few, parts_few setting (length setting.first) few tables, statements_few setting 0 txn.statements few fits.fit)
+    omega (arith, fits.few, parts_few setting (length setting.first) few tables, statements_few setting 0 txn.statements few tables fits.fit)
 
-open_few : (setting : Setting) (txn : Txn) (begun : Begun) (phase : Phase) → setting.chunks ≤ 64 → length begun.own ≤ 16 → FitsTxn setting.shapes txn
-    → open_left setting txn begun phase ≤ most_of_one
-open_few setting txn begun (Working visited count) few tables fits =
+open_few : (setting : Setting) (txn : Txn) (begun : Begun) (phase : Phase) → setting.chunks ≤ 64 → length setting.first ≤ 16
+    → length begun.own ≤ 16 → FitsTxn setting.shapes txn → open_left setting txn begun phase ≤ most_of_one
+open_few setting txn begun (Working visited count) few first tables fits =
     let rest = drop (length begun.replies) txn.statements in
     let short : length rest ≤ 256 = omega (arith, fits.few, length-drop (length begun.replies) txn.statements) in
     omega (
       arith,
       short,
       parts_few setting (length begun.own) few tables,
-      statements_few setting visited rest few (All-drop (FitsStatement setting.shapes) (length begun.replies) txn.statements fits.fit),
+      statements_few setting visited rest few first (All-drop (FitsStatement setting.shapes) (length begun.replies) txn.statements fits.fit),
     )
-open_few setting txn begun (Stamping visited) few tables fits = omega (arith, parts_few setting (length begun.own) few tables)
-open_few setting txn begun (Undoing visited cause) few tables fits = omega (arith, parts_few setting (length begun.own) few tables)
+open_few setting txn begun (Stamping visited) few first tables fits = omega (arith, parts_few setting (length begun.own) few tables)
+open_few setting txn begun (Undoing visited cause) few first tables fits = omega (arith, parts_few setting (length begun.own) few tables)
 
 later_few : (setting : Setting) (txns : List Txn) → setting.chunks ≤ 64 → length setting.first ≤ 16 → All (FitsTxn setting.shapes) txns
     → later_left setting txns ≤ most_of_one * length txns
@@ -85,7 +89,7 @@ txns_few : (setting : Setting) (now : Option Open) (txns : List Txn) → setting
 txns_few setting now [] few tables own fits = omega arith
 txns_few setting None (txn ∷ txns) few tables own fits = later_few setting (txn ∷ txns) few tables fits
 txns_few setting (Some current) (txn ∷ txns) few tables own fits =
-    let first = open_few setting txn current.begun current.phase few (own current refl) (All-head (FitsTxn setting.shapes) txn txns fits) in
+    let first = open_few setting txn current.begun current.phase few tables (own current refl) (All-head (FitsTxn setting.shapes) txn txns fits) in
     let rest = later_few setting txns few tables (All-tail (FitsTxn setting.shapes) txn txns fits) in
     omega (arith, first, rest)
 
@@ -93,7 +97,7 @@ txns_few setting (Some current) (txn ∷ txns) few tables own fits =
 
 -- of 65,535 transactions
 abbrev most_of_session : ℕ
-most_of_session = 66819 * 65535
+most_of_session = 263683 * 65535
 
 program_few : (setting : Setting) (number : ℕ) → IsRunnable setting → length (program_of setting number) ≤ 65535
 program_few setting number runnable = elim (cases_lt number (length setting.programs)) [

@@ -5,6 +5,7 @@ use Rattle.std.specs.List.{AllZip}
 use Rattle.std.proofs.lemmas.Option.{same_Some}
 use Rattle.hy_value.specs.declared.Kind.{Kind}
 use Rattle.hy_bound.specs.declared.Bound.{Bound}
+use Rattle.hy_bound.specs.declared.Bound.TheVariants.{RollbackTo}
 use Rattle.hy_bound.specs.declared.Shape.{Shape}
 use Rattle.hy_bound.specs.Fits.{FitsStatement}
 use Rattle.hy_bound.specs.Records.{shape_of, no_shape}
@@ -14,13 +15,14 @@ use Rattle.hy_undo.specs.Places.{Place}
 use Rattle.hy_undo.specs.Chunks.{ChunkData}
 use Rattle.hy_journal.specs.declared.CoreData.{CoreData}
 use Rattle.hy_chunk.specs.Views.{Whole}
+use Rattle.hy_visit.specs.Backing.{MayAllGoBack}
 use Rattle.hy_visit.specs.Pruning.{AllFall, AllUnderOwn, UnderOwn}
 use Rattle.hy_event.specs.declared.SessionData.{SessionData}
 use Rattle.hy_event.specs.declared.Open.{Open}
 use Rattle.hy_protocol.specs.declared.Phase.TheVariants as phase
 use Rattle.hy_protocol.specs.Turns.{is_stamping}
 use Rattle.hy_event.specs.declared.Need.TheVariants.{Chunk}
-use Rattle.hy_event.specs.Sessions.{label_of}
+use Rattle.hy_event.specs.Sessions.{label_of, notes_since}
 use Rattle.hy_event.specs.Needs.{need_of}
 use Rattle.hy_event.specs.Events.{Part, ChunkPart}
 use Rattle.hy_machine.specs.declared.Setting.{Setting}
@@ -28,6 +30,9 @@ use Rattle.hy_machine.specs.States.{State}
 use Rattle.hy_machine.specs.Sessions.{session_at}
 use Rattle.hy_machine.specs.Kept.{Kept}
 use Rattle.hy_lawful.specs.Kept.{ReachedAreKept}
+use Rattle.hy_lawful.specs.Rows.{ReachedRowsMeetDemands}
+use Rattle.hy_lawful.specs.Views.{ReachedKeysStay}
+use Rattle.hy_refinement.specs.OwnRecords.{BehindOwnIsTheStart, NotesHaveWhatWasSeen}
 use Rattle.hy_refinement.specs.Transactions.{IsOpen}
 use Rattle.hy_refinement.specs.Sessions.{SessionShows}
 use Rattle.hy_refinement.specs.Places.{PlaceShows}
@@ -39,9 +44,12 @@ use Rattle.hy_stepping.specs.Runnable.{IsShown}
 use Rattle.hy_stepping.specs.Steps.{NeededChunksAreThere, ChunksAreNear}
 use Rattle.hy_stepping.proofs.OpenOnes.{kept_of, one_of_all, txn_fits, OpenOne, open_one}
 use Rattle.hy_stepping.proofs.Clock.{clock_below}
+use Rattle.hy_stepping.proofs.FittedTables.{tables_fit}
 use Rattle.hy_stepping.proofs.StepsShown.{have_labels}
 use Rattle.hy_stepping.proofs.VisitsLeft.{visit_left}
 use Rattle.hy_stepping.proofs.ChunkMarks.{IdsDiffer, all_places, under_own}
+use Rattle.hy_stepping.proofs.RowTypes.{is_typed, begins_typed}
+use Rattle.hy_stepping.proofs.RowsBack.{BackLaws, all_go_back}
 use Rattle.hy_stepping.proofs.ChunkStatements.{at_present, statement_needs, txn_typed, typed_here, visits_fit, left_of}
 
 -- what holds of two lists place by place holds at a place
@@ -62,7 +70,8 @@ module _ (setting : Setting) (kinds : List (List Kind)) (state : State) (parts :
     (differ : IdsDiffer) (shown : IsShown setting state parts sessions) (kept : Kept setting state)
     (typed : AreTyped kinds setting.shapes setting.first setting.programs)
     (found : slice_get sessions number ≡ Some session) (need : need_of session ≡ Chunk table chunk)
-    (is_part : IsChunkPart setting parts table chunk part.shown) (types_are : part.kinds ≡ kinds_of kinds table) where
+    (is_part : IsChunkPart setting parts table chunk part.shown) (types_are : part.kinds ≡ kinds_of kinds table)
+    (back_laws : BackLaws setting kinds state) where
   abbrev core : CoreData
   core = shown.shows.core
 
@@ -145,7 +154,7 @@ module _ (setting : Setting) (kinds : List (List Kind)) (state : State) (parts :
     typed_now visited count statement working present =
         let at = at_present setting state core number session now statement one present in
         let txn = txn_typed kinds setting number (length (session_at state number).done) one.txn typed.statements one.txn_there in
-        typed_here kinds setting.shapes part.kinds part.shown.key session visited table chunk statement types_are chunk_is.key
+        typed_here kinds setting.shapes part.kinds part.shown.key session now visited table chunk statement types_are chunk_is.key
         (sym (statement_needs setting state core number session now statement visited count one here working at) ∙ need)
         (one_of_all (IsTypedIn kinds setting.shapes) one.txn.statements (length now.replies) statement txn at)
 
@@ -160,8 +169,24 @@ module _ (setting : Setting) (kinds : List (List Kind)) (state : State) (parts :
         (visit_left setting statement visited shown.runnable.some_chunk fits
         (visits_fit setting state core number session now statement visited count one working at)))
 
+    back : (visited count : ℕ) (name : List ℕ) → now.phase ≡ phase.Working visited count → present_statement session now ≡ Some (RollbackTo name)
+        → MayAllGoBack part.kinds part.shown.key (id_of (label_of session)) (notes_since now name) part.shown
+    back visited count name working present =
+        subst (λ (types : List Kind). MayAllGoBack types part.shown.key (id_of (label_of session)) (notes_since now name) part.shown) (sym types_are)
+        (all_go_back setting kinds state parts sessions number session now one.current visited count name table chunk part.shown back_laws
+        (record {
+          shown = record {
+            kept = kept;
+            shows = shown.shows;
+            below_ids = let low = clock in omega (arith, low);
+            labels = have_labels setting state parts sessions kept shown;
+          };
+          is_open = is_open;
+        })
+        (sym one.shows.open_shows.phase ∙ working) working chunk_is shown_at)
+
     near_open : NearOpen session now part
-    near_open = record { early = early; under = under; typed = typed_now; visits = visits }
+    near_open = record { early = early; under = under; typed = typed_now; visits = visits; back = back }
 
   near_chunk : NearChunk session part
   near_chunk = record {
@@ -173,8 +198,25 @@ module _ (setting : Setting) (kinds : List (List Kind)) (state : State) (parts :
     opened = near_open;
   }
 
-pub near_chunks : ReachedAreKept → IdsDiffer → NeededChunksAreThere → ChunksAreNear
-near_chunks law differ there setting kinds state parts sessions number session table chunk part shown typed found need part_of =
-    let lies = there setting state parts sessions number session table chunk shown found need in
-    near_chunk setting kinds state parts sessions number session table chunk part differ shown (kept_of law setting state parts sessions shown) typed
-    found need (record { table_below = lies.0; chunk_below = lies.1; found = part_of.found }) part_of.types
+-- what the laws say of the machine's states and of what the engine shows
+pub record Laws : Type 0 where
+  pub kept : ReachedAreKept
+  pub differ : IdsDiffer
+  pub there : NeededChunksAreThere
+  pub rows : ReachedRowsMeetDemands
+  pub keys : ReachedKeysStay
+  pub behind : BehindOwnIsTheStart
+  pub seen : NotesHaveWhatWasSeen
+
+pub near_chunks : Laws → ChunksAreNear
+near_chunks laws setting kinds state parts sessions number session table chunk part shown typed found need part_of =
+    let lies = laws.there setting state parts sessions number session table chunk shown found need in
+    near_chunk setting kinds state parts sessions number session table chunk part laws.differ shown
+    (kept_of laws.kept setting state parts sessions shown) typed found need
+    (record { table_below = lies.0; chunk_below = lies.1; found = part_of.found }) part_of.types
+    (record {
+      rows = laws.rows (is_typed kinds) setting state (begins_typed kinds setting typed) shown.reached;
+      keys = laws.keys setting state (tables_fit setting shown.runnable) shown.reached;
+      behind = laws.behind;
+      seen = laws.seen;
+    })

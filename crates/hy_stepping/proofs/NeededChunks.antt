@@ -7,7 +7,7 @@ use Rattle.std.proofs.Math.Nat.{div-lt_iff_lt-mul, mod-lt, mul_comm}
 use Rattle.std.proofs.lemmas.Bool.{cond_both, ltb-true, ltb-false}
 use Rattle.std.proofs.lemmas.Option.{same_Some, get_or_from_slice_get, slice_get_within}
 use Rattle.hy_bound.specs.declared.Bound.{Bound}
-use Rattle.hy_bound.specs.declared.Bound.TheVariants.{Select, Group, Insert, Update, Delete}
+use Rattle.hy_bound.specs.declared.Bound.TheVariants.{Select, Group, Insert, Update, Delete, Savepoint, RollbackTo, Release}
 use Rattle.hy_bound.specs.declared.Reply.{Reply}
 use Rattle.hy_bound.specs.declared.Shape.{Shape}
 use Rattle.hy_bound.specs.declared.Txn.{Txn}
@@ -21,7 +21,7 @@ use Rattle.hy_protocol.specs.declared.Phase.{Phase}
 use Rattle.hy_protocol.specs.declared.Phase.TheVariants as phase
 use Rattle.hy_event.specs.declared.Need.{Need}
 use Rattle.hy_event.specs.declared.Need.TheVariants.{Core, Chunk, Done}
-use Rattle.hy_event.specs.Sessions.{txn_at as txn_here, lies_in, chunks_in_table, chunks_from, written, written_chunks}
+use Rattle.hy_event.specs.Sessions.{txn_at as txn_here, lies_in, chunks_in_table, chunks_from, written, place_noted, notes_since}
 use Rattle.hy_event.specs.Needs.{checks_of as checks_here, insert_need, statement_need, chunk_or_core, written_need, working_need, phase_need}
 use Rattle.hy_event.specs.Needs.{session_need}
 use Rattle.hy_machine.specs.declared.Setting.{Setting}
@@ -42,7 +42,7 @@ IsThere setting Core = Unit {0}
 IsThere setting (Chunk table chunk) = (table < length setting.shapes) × (chunk < setting.chunks)
 IsThere setting Done = Unit {0}
 
--- ---- the chunks of a statement
+-- ---- the chunks of statements that read, and of an INSERT
 
 -- a visit of a SELECT is in one of its tables
 select_there : (setting : Setting) (tables : List ℕ) (visited : ℕ) → 0 < setting.chunks → All (λ table. table < length setting.shapes) tables
@@ -70,22 +70,6 @@ same_checks session setting (Some key) e = e
 few_checks : (setting : Setting) (key : Option ℕ) → checks_of setting key ≤ setting.chunks
 few_checks setting None = omega arith
 few_checks setting (Some key) = omega arith
-
-statement_there : (setting : Setting) (session : SessionData) → session.chunks ≡ setting.chunks → session.shapes ≡ setting.shapes → 0 < setting.chunks
-    → (visited : ℕ) (statement : Bound) → FitsStatement setting.shapes statement → visited < visits_in setting statement
-    → IsThere setting (statement_need session visited statement)
-statement_there setting session chunks shapes some visited (Select tables ons pred items) fits left =
-    subst (λ (n : ℕ). IsThere setting (Chunk (slice_index_or tables (visited / n) 0) (visited % n))) (sym chunks)
-    (select_there setting tables visited some fits.there left)
-statement_there setting session chunks shapes some visited (Group table pred key aggregate) fits left = (fits.0, left)
-statement_there setting session chunks shapes some visited (Insert table row) fits left =
-    subst (λ (n : ℕ). IsThere setting (insert_need visited table n))
-    (sym (same_checks session setting (shape_of session.shapes table).key chunks
-    ∙ ap (λ (all : List Shape). checks_of setting (shape_of all table).key) shapes))
-    (insert_there setting table visited (checks_of setting (shape_of setting.shapes table).key) fits.0
-    (few_checks setting (shape_of setting.shapes table).key) left)
-statement_there setting session chunks shapes some visited (Update table sets pred) fits left = (fits.0, left)
-statement_there setting session chunks shapes some visited (Delete table pred) fits left = (fits.0, left)
 
 -- ---- the chunks that were written
 
@@ -121,12 +105,38 @@ one_there setting [] visited all = tt
 one_there setting (one ∷ ones) zero all = all.0
 one_there setting (one ∷ ones) (suc visited) all = one_there setting ones visited all.1
 
+noted_there : (setting : Setting) (session : SessionData) (places : List Place) (visited : ℕ) → session.chunks ≡ setting.chunks
+    → session.shapes ≡ setting.shapes → IsThere setting (chunk_or_core (slice_get (chunks_from session places 0 session.shapes) visited))
+noted_there setting session places visited chunks shapes = one_there setting (chunks_from session places 0 session.shapes) visited
+    (subst (λ (n : ℕ). AllThere (length setting.shapes) n (chunks_from session places 0 session.shapes)) chunks
+    (subst (λ (all : List Shape). AllThere (length all) session.chunks (chunks_from session places 0 session.shapes)) shapes
+    (from_tables session places (length session.shapes) 0 session.shapes (omega arith))))
+
 written_there : (setting : Setting) (session : SessionData) (now : Open) (visited : ℕ) → session.chunks ≡ setting.chunks → session.shapes ≡ setting.shapes
     → IsThere setting (written_need session now visited)
-written_there setting session now visited chunks shapes = one_there setting (written_chunks session now) visited
-    (subst (λ (n : ℕ). AllThere (length setting.shapes) n (written_chunks session now)) chunks
-    (subst (λ (all : List Shape). AllThere (length all) session.chunks (written_chunks session now)) shapes
-    (from_tables session (written now) (length session.shapes) 0 session.shapes (omega arith))))
+written_there setting session now = noted_there setting session (written now)
+
+-- ---- the chunks of a statement
+
+statement_there : (setting : Setting) (session : SessionData) (now : Open) → session.chunks ≡ setting.chunks → session.shapes ≡ setting.shapes
+    → 0 < setting.chunks → (visited : ℕ) (statement : Bound) → FitsStatement setting.shapes statement → visited < visits_in setting statement
+    → IsThere setting (statement_need session now visited statement)
+statement_there setting session now chunks shapes some visited (Select tables ons pred items) fits left =
+    subst (λ (n : ℕ). IsThere setting (Chunk (slice_index_or tables (visited / n) 0) (visited % n))) (sym chunks)
+    (select_there setting tables visited some fits.there left)
+statement_there setting session now chunks shapes some visited (Group table pred key aggregate) fits left = (fits.0, left)
+statement_there setting session now chunks shapes some visited (Insert table row) fits left =
+    subst (λ (n : ℕ). IsThere setting (insert_need visited table n))
+    (sym (same_checks session setting (shape_of session.shapes table).key chunks
+    ∙ ap (λ (all : List Shape). checks_of setting (shape_of all table).key) shapes))
+    (insert_there setting table visited (checks_of setting (shape_of setting.shapes table).key) fits.0
+    (few_checks setting (shape_of setting.shapes table).key) left)
+statement_there setting session now chunks shapes some visited (Update table sets pred) fits left = (fits.0, left)
+statement_there setting session now chunks shapes some visited (Delete table pred) fits left = (fits.0, left)
+statement_there setting session now chunks shapes some visited (Savepoint name) fits left = tt
+statement_there setting session now chunks shapes some visited (RollbackTo name) fits left =
+    noted_there setting session (map place_noted (notes_since now name)) visited chunks shapes
+statement_there setting session now chunks shapes some visited (Release name) fits left = tt
 
 -- ---- the chunks of an open transaction
 
@@ -153,7 +163,7 @@ open_there setting state core number session now runnable shows one =
         let fit = subst (λ (present : Bound). FitsStatement setting.shapes present)
         (get_or_from_slice_get one.txn.statements (length now.replies) statement statement at)
         (fits.fit (length now.replies) statement (slice_get_within one.txn.statements (length now.replies) statement at)) in
-        statement_there setting session chunks shapes runnable.some_chunk visited statement fit
+        statement_there setting session now chunks shapes runnable.some_chunk visited statement fit
         (visit_left setting statement visited runnable.some_chunk fit
         (stands statement (ap (λ (replies : List Reply). slice_get one.txn.statements (length replies)) (sym one.shows.open_shows.replies) ∙ at)))
 

@@ -23,7 +23,8 @@ use Rattle.hy_stepping.specs.Runnable.{IsShown}
 use Rattle.hy_stepping.specs.Texts.{CanBeLogged}
 use Rattle.hy_stepping.specs.Logs.{EntriesStand, EntriesLeaveTables}
 use Rattle.hy_stepping.proofs.EntryPlaces.{kept_rise}
-use Rattle.hy_stepping.proofs.RowKinds.{has_kinds, cell_fits, begins_typed}
+use Rattle.hy_stepping.proofs.RowTypes.{is_typed, begins_typed}
+use Rattle.hy_stepping.proofs.RowTexts.{has_utf8, cell_fits, begins_utf8}
 use Rattle.hy_stepping.proofs.Entries.{AreShaped, AllFollow, history_shaped, cells_held, stand_from, leave_from}
 
 -- ---- the first tables
@@ -59,12 +60,16 @@ all_follow stay stand tell setting kinds state parts sessions shown typed rank e
   few = few;
   fit = stands.positions;
   begin = stands.befores;
-  before = λ table pos. cell_fits kinds table (item_at (snapshot setting state rank) table pos) (stays.tables rank table pos);
-  after = λ table pos pair g. cell_fits kinds table pair.after (stays.entries rank entered e table pos pair g);
+  before = λ table pos. cell_fits kinds table (item_at (snapshot setting state rank) table pos) (of_types.tables rank table pos) (utf8.tables rank table pos);
+  after = λ table pos pair g.
+      cell_fits kinds table pair.after (of_types.entries rank entered e table pos pair g) (utf8.entries rank entered e table pos pair g);
 }
   where
-    stays : RowsMeet (passes (has_kinds kinds)) setting state
-    stays = stay (has_kinds kinds) setting state (begins_typed kinds setting typed) shown.reached
+    of_types : RowsMeet (passes (is_typed kinds)) setting state
+    of_types = stay (is_typed kinds) setting state (begins_typed kinds setting typed.typed) shown.reached
+
+    utf8 : RowsMeet (passes has_utf8) setting state
+    utf8 = stay has_utf8 setting state (begins_utf8 setting typed.texts) shown.reached
 
     stands : StandsOnTables setting state rank entered
     stands = stand setting state shown.reached rank entered e

@@ -2,7 +2,7 @@
 use Rattle.std.proofs.Common.{◌≡◌, ◌⊎◌, ℕ, ◌<◌, length, arith, inl, inr}
 use Rattle.std.proofs.Math.Nat.{mul-pos}
 use Rattle.hy_bound.specs.declared.Bound.{Bound}
-use Rattle.hy_bound.specs.declared.Bound.TheVariants.{Select, Group, Insert, Update, Delete}
+use Rattle.hy_bound.specs.declared.Bound.TheVariants.{Select, Group, Insert, Update, Delete, Savepoint, RollbackTo, Release}
 use Rattle.hy_bound.specs.Fits.{FitsStatement}
 use Rattle.hy_machine.specs.declared.Setting.{Setting}
 use Rattle.hy_machine.specs.Kept.{visits_in}
@@ -15,6 +15,9 @@ some_visits setting (Group table pred key aggregate) some fits = some
 some_visits setting (Insert table row) some fits = omega (arith, some)
 some_visits setting (Update table sets pred) some fits = some
 some_visits setting (Delete table pred) some fits = some
+some_visits setting (Savepoint name) some fits = omega arith
+some_visits setting (RollbackTo name) some fits = omega arith
+some_visits setting (Release name) some fits = omega arith
 
 -- so one is left where none is done, or not all
 pub visit_left : (setting : Setting) (statement : Bound) (visited : ℕ) → 0 < setting.chunks → FitsStatement setting.shapes statement

@@ -7,7 +7,7 @@ use Rattle.hy_value.specs.declared.Value.{Value}
 use Rattle.hy_value.specs.declared.Value.TheVariants as values
 use Rattle.hy_bound.specs.declared.Assign.{Assign}
 use Rattle.hy_bound.specs.declared.Bound.{Bound}
-use Rattle.hy_bound.specs.declared.Bound.TheVariants.{Select, Group, Insert, Update, Delete}
+use Rattle.hy_bound.specs.declared.Bound.TheVariants.{Select, Group, Insert, Update, Delete, Savepoint, RollbackTo, Release}
 use Rattle.hy_bound.specs.declared.Txn.{Txn}
 use Rattle.hy_bound.specs.Expression.{Expression, Literal, Column, Add, Sub, Mul}
 use Rattle.hy_machine.specs.declared.Setting.{Setting}
@@ -37,6 +37,9 @@ WritesUtf8 (Group table pred key aggregate) = Unit {0}
 WritesUtf8 (Insert table row) = IsUtf8Row row
 WritesUtf8 (Update table sets pred) = All (λ (set : Assign). HasUtf8Texts set.value) sets
 WritesUtf8 (Delete table pred) = Unit {0}
+WritesUtf8 (Savepoint name) = Unit {0}
+WritesUtf8 (RollbackTo name) = Unit {0}
+WritesUtf8 (Release name) = Unit {0}
 
 -- so is each of the first rows, and each that the statements of a transaction write
 pub record AreUtf8 (first : List (List (List Value))) (programs : List (List Txn)) : Type 0 where

@@ -4,7 +4,7 @@ use Rattle.std.specs.List.{All, AllZip}
 use Rattle.hy_value.specs.declared.Kind.{Kind}
 use Rattle.hy_value.specs.declared.Value.{Value}
 use Rattle.hy_bound.specs.declared.Bound.{Bound}
-use Rattle.hy_bound.specs.declared.Bound.TheVariants.{Select, Group, Insert, Update, Delete}
+use Rattle.hy_bound.specs.declared.Bound.TheVariants.{Select, Group, Insert, Update, Delete, Savepoint, RollbackTo, Release}
 use Rattle.hy_bound.specs.declared.Shape.{Shape}
 use Rattle.hy_bound.specs.declared.Txn.{Txn}
 use Rattle.hy_bound.specs.Records.{shape_of}
@@ -26,6 +26,9 @@ IsTypedIn kinds shapes (Group table pred key aggregate) = Unit {0}
 IsTypedIn kinds shapes (Insert table row) = IsTypedOf kinds shapes table (Insert table row)
 IsTypedIn kinds shapes (Update table sets pred) = IsTypedOf kinds shapes table (Update table sets pred)
 IsTypedIn kinds shapes (Delete table pred) = Unit {0}
+IsTypedIn kinds shapes (Savepoint name) = Unit {0}
+IsTypedIn kinds shapes (RollbackTo name) = Unit {0}
+IsTypedIn kinds shapes (Release name) = Unit {0}
 
 abbrev pub IsTypedTxn : List (List Kind) → List Shape → Txn → Type 0
 IsTypedTxn kinds shapes txn = All (IsTypedIn kinds shapes) txn.statements

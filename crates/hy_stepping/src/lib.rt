@@ -34,6 +34,9 @@ pub fn chunks_are_near()
 {
     hy_stamp::identifiers_are_apart();
     hy_lawful::reached_states_are_kept();
+    hy_lawful::reached_rows_meet_demands();
+    hy_lawful::reached_keys_stay();
+    hy_refinement::own_records_tell();
     needed_chunks_are_there();
 }
 

@@ -26,7 +26,7 @@ use Rattle.hy_bind.specs.Refusals.{agree}
 use Rattle.hy_bind.specs.Scope.{Scope}
 use Rattle.hy_bind.specs.Expressions.{formula_fault, formula_kind, formula_bound}
 use Rattle.hy_bind.specs.Shapes.{catalog_shapes}
-use Rattle.hy_bind.specs.Statements.{NamesTables, and_number, numbers_or_none, in_scope, columns_in, key_in, is_key, kind_at, set_fault, set_column}
+use Rattle.hy_bind.specs.Statements.{HasNames, and_number, numbers_or_none, in_scope, columns_in, key_in, is_key, kind_at, set_fault, set_column}
 use Rattle.hy_bind.specs.Statements.{sets_fault, set_bound, fault_of_numbered, bound_in, bind_fault, bound_of}
 use Rattle.hy_stepping.specs.Typed.{kinds_of, IsTypedIn}
 use Rattle.hy_top.specs.Typing.{catalog_kinds}
@@ -142,7 +142,7 @@ selection_typed script catalog later (tree.Count table test) = tt
 selection_typed script catalog later (tree.Groups column total table test key) = tt
 
 -- a statement that is not refused is of the types of the tables, more of which may stand behind
-pub statement_typed : (script : List ℕ) (catalog later : List TableDef) (s : Statement) → NamesTables s → bind_fault script catalog s ≡ None
+pub statement_typed : (script : List ℕ) (catalog later : List TableDef) (s : Statement) → HasNames s → bind_fault script catalog s ≡ None
     → IsTypedIn (catalog_kinds (catalog ++ later)) (catalog_shapes (catalog ++ later)) (bound_of script catalog s)
 statement_typed script catalog later (tree.Insert table row) names h =
     insert_typed script catalog later table row (table_number catalog (text_of_span script table)) refl h
@@ -150,4 +150,7 @@ statement_typed script catalog later (tree.Update table sets test) names h =
     update_typed script catalog later table sets test (table_number catalog (text_of_span script table)) refl h
 statement_typed script catalog later (tree.Delete table test) names h = tt
 statement_typed script catalog later (tree.Select selection) names h = selection_typed script catalog later selection
+statement_typed script catalog later (tree.Savepoint name) names h = tt
+statement_typed script catalog later (tree.RollbackTo name) names h = tt
+statement_typed script catalog later (tree.Release name) names h = tt
 statement_typed script catalog later _ names h = absurd names

@@ -169,6 +169,9 @@ bound_utf8 script utf8 catalog (tree.Update table sets test) all =
     (in_parts script (separated grammar.set_clause sets) _ (in_parts script (separated grammar.set_clause sets ++ _) _ all.1.1.1).0).0
 bound_utf8 script utf8 catalog (tree.Delete table test) all = tt
 bound_utf8 script utf8 catalog (tree.Select selection) all = selection_utf8 (scope_of script catalog (tree.Select selection)) selection
+bound_utf8 script utf8 catalog (tree.Savepoint name) all = tt
+bound_utf8 script utf8 catalog (tree.RollbackTo name) all = tt
+bound_utf8 script utf8 catalog (tree.Release name) all = tt
 bound_utf8 script utf8 catalog (tree.Create table columns) all = All-nil IsUtf8Value
 bound_utf8 script utf8 catalog (tree.Session name) all = All-nil IsUtf8Value
 bound_utf8 script utf8 catalog (tree.Begin only) all = All-nil IsUtf8Value
@@ -300,6 +303,9 @@ kept script utf8 sofar (tree.Session name) all so =
 kept script utf8 sofar (tree.Begin only) all so = at_section sofar (begun only sofar.section) (begun_utf8 only sofar.section so.section) so
 kept script utf8 sofar tree.Commit all so = at_section sofar (closed true sofar.section) (closed_utf8 true sofar.section so.section) so
 kept script utf8 sofar tree.Rollback all so = at_section sofar (closed false sofar.section) (closed_utf8 false sofar.section so.section) so
+kept script utf8 sofar (tree.Savepoint name) all so = statement_utf8 script sofar (tree.Savepoint name) tt so
+kept script utf8 sofar (tree.RollbackTo name) all so = statement_utf8 script sofar (tree.RollbackTo name) tt so
+kept script utf8 sofar (tree.Release name) all so = statement_utf8 script sofar (tree.Release name) tt so
 kept script utf8 sofar (tree.Select selection) all so =
     statement_utf8 script sofar (tree.Select selection) (bound_utf8 script utf8 sofar.catalog (tree.Select selection) all) so
 kept script utf8 sofar (tree.Update table sets test) all so =

@@ -4,7 +4,7 @@ use Rattle.hy_value.specs.declared.Kind.{Kind}
 use Rattle.hy_schema.specs.declared.TableDef.{TableDef}
 use Rattle.hy_ast.specs.Trees.{Statement}
 use Rattle.hy_bind.specs.Shapes.{catalog_shapes}
-use Rattle.hy_bind.specs.Statements.{NamesTables, bind_fault, bound_of}
+use Rattle.hy_bind.specs.Statements.{HasNames, bind_fault, bound_of}
 use Rattle.hy_script.specs.declared.Options.{Options}
 use Rattle.hy_script.specs.declared.Script.{Script}
 use Rattle.hy_script.specs.Reading.{Reads}
@@ -17,7 +17,7 @@ catalog_kinds catalog = map (λ table. map (λ column. column.kind) table.column
 
 -- a statement that binding does not refuse is of the types of the tables
 abbrev pub BoundStatementsAreTyped : Type 0
-BoundStatementsAreTyped = (script : List ℕ) (catalog : List TableDef) (statement : Statement) → NamesTables statement
+BoundStatementsAreTyped = (script : List ℕ) (catalog : List TableDef) (statement : Statement) → HasNames statement
     → bind_fault script catalog statement ≡ None → IsTypedIn (catalog_kinds catalog) (catalog_shapes catalog) (bound_of script catalog statement)
 
 -- the first rows and the statements of a script are of the types of its tables

@@ -7,7 +7,7 @@ use Rattle.hy_journal.specs.Core.{core_left, core_closed}
 use Rattle.hy_event.specs.declared.SessionData.{SessionData}
 use Rattle.hy_event.specs.declared.Open.{Open}
 use Rattle.hy_protocol.specs.declared.Progress.{Progress}
-use Rattle.hy_protocol.specs.Turns.{Turn, Done, Waits, Begins, Visits, Answers, Enters, Ends, is_stamping}
+use Rattle.hy_protocol.specs.Turns.{Turn, Done, Waits, Begins, Visits, Answers, Saves, Enters, Ends, is_stamping}
 use Rattle.hy_event.specs.CoreTurns.{core_after, core_turn, ended_by, entered_by, TakesAtCore, CoreEvent}
 use Rattle.hy_world.specs.Logged.{GrowByOne}
 
@@ -33,6 +33,7 @@ turn_grows session core (Waits by) = inl refl
 turn_grows session core Begins = inl refl
 turn_grows session core (Visits changes phase) = inl refl
 turn_grows session core (Answers changes reply took records) = inl refl
+turn_grows session core (Saves statement reply) = inl refl
 turn_grows session core Enters = entered_grows session core session.now
 turn_grows session core (Ends ending) = ended_grows core session.now
 

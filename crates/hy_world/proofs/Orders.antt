@@ -4,7 +4,7 @@ use Rattle.hy_bound.specs.declared.schedule.Item.{Item}
 use Rattle.hy_machine.specs.Writes.{Write}
 use Rattle.hy_machine.specs.declared.Setting.{Setting}
 use Rattle.hy_machine.specs.States.{State, Open}
-use Rattle.hy_protocol.specs.Turns.{Turn, Done, Waits, Begins, Visits, Answers, Enters, Ends}
+use Rattle.hy_protocol.specs.Turns.{Turn, Done, Waits, Begins, Visits, Answers, Saves, Enters, Ends}
 use Rattle.hy_machine.specs.Turns.{turn}
 use Rattle.hy_machine.specs.Sessions.{session_at, entry_of}
 use Rattle.hy_machine.specs.Steps.{step_of, after_turn, order_with}
@@ -27,6 +27,7 @@ turn_grows setting state number (Waits by) = none_behind state.order
 turn_grows setting state number Begins = none_behind state.order
 turn_grows setting state number (Visits writes phase) = none_behind state.order
 turn_grows setting state number (Answers writes reply took records) = none_behind state.order
+turn_grows setting state number (Saves statement reply) = none_behind state.order
 turn_grows setting state number Enters = entry_grows setting state number (session_at state number).now
 turn_grows setting state number (Ends ending) = none_behind state.order
 

@@ -5,7 +5,7 @@ use Rattle.std.specs.Prelude.{slice_get, if◌then◌else◌, MatchBool, nat_lt}
 use Rattle.std.proofs.lemmas.Option.{same_Some}
 use Rattle.hy_bound.specs.declared.Assign.{Assign}
 use Rattle.hy_bound.specs.declared.Bound.{Bound}
-use Rattle.hy_bound.specs.declared.Bound.TheVariants.{Select, Group, Insert, Update, Delete}
+use Rattle.hy_bound.specs.declared.Bound.TheVariants.{Select, Group, Insert, Update, Delete, Savepoint, RollbackTo, Release}
 use Rattle.hy_bound.specs.declared.Reply.{Reply}
 use Rattle.hy_bound.specs.declared.Reply.TheVariants as reply
 use Rattle.hy_bound.specs.declared.Txn.{Txn}
@@ -31,14 +31,16 @@ use Rattle.hy_protocol.specs.declared.Phase.{Phase}
 use Rattle.hy_protocol.specs.declared.Phase.TheVariants as phase
 use Rattle.hy_protocol.specs.declared.Progress.{Progress}
 use Rattle.hy_protocol.specs.declared.Progress.TheVariants.{Moved, Answered, Blocked, Ended}
+use Rattle.hy_event.specs.Backing.{BackVisit, cells_back}
+use Rattle.hy_event.specs.Changing.{changes_from}
 use Rattle.hy_event.specs.CoreTurns.{CoreEvent, TakesAtCore, core_after, core_turn}
 use Rattle.hy_event.specs.Events.{ChunkEvent, ClosingVisit, PhaseVisit, SessionVisit, StatementVisit, WorkingVisit}
 use Rattle.hy_event.specs.Gathering.{ReadPlan, group_read_plan, select_read_plan}
 use Rattle.hy_event.specs.Inserting.{InsertVisit, CheckVisit, PlaceVisit, check_turn, free_position, place_turn, sees_key}
 use Rattle.hy_event.specs.Needs.{checks_of, need_of}
 use Rattle.hy_event.specs.Reading.{PlannedVisit, Reads, gathered_with, read_turn, with_gathered}
-use Rattle.hy_event.specs.Sessions.{label_of, txn_at, viewer_of}
-use Rattle.hy_protocol.specs.Turns.{Turn, Done as Rests, Waits, Begins, Visits, Answers, Enters, Ends, goes_on, refused}
+use Rattle.hy_event.specs.Sessions.{label_of, notes_since, txn_at, viewer_of}
+use Rattle.hy_protocol.specs.Turns.{Turn, Done as Rests, Waits, Begins, Visits, Answers, Saves, Enters, Ends, goes_on, refused}
 use Rattle.hy_event.specs.Turns.{Step, Takes, TakesBy, after_turn, answer_turn}
 use Rattle.hy_event.specs.Undoing.{UndoVisit}
 use Rattle.hy_event.specs.Writing.{WriteVisit, cells_by, changes_by, ending_by, told_by as writing_told, write_turn}
@@ -83,6 +85,7 @@ turn_goes core session (Waits by) free = absurd (free by refl)
 turn_goes core session Begins free = answered_goes
 turn_goes core session (Visits changes next) free = moved_goes
 turn_goes core session (Answers changes reply took records) free = answered_goes
+turn_goes core session (Saves statement reply) free = answered_goes
 turn_goes core session Enters free = moved_goes
 turn_goes core session (Ends ending) free = answered_goes
 
@@ -92,6 +95,7 @@ turn_keeps core session (Waits by) = record { shapes = refl; chunks = refl; prun
 turn_keeps core session Begins = record { shapes = refl; chunks = refl; prunes = refl }
 turn_keeps core session (Visits changes next) = record { shapes = refl; chunks = refl; prunes = refl }
 turn_keeps core session (Answers changes reply took records) = record { shapes = refl; chunks = refl; prunes = refl }
+turn_keeps core session (Saves statement reply) = record { shapes = refl; chunks = refl; prunes = refl }
 turn_keeps core session Enters = record { shapes = refl; chunks = refl; prunes = refl }
 turn_keeps core session (Ends ending) = record { shapes = refl; chunks = refl; prunes = refl }
 
@@ -189,6 +193,12 @@ undo_turned : (session : SessionData) (now : Open) (visited : ℕ) (cause : Endi
 undo_turned session now visited cause old progress after new visit =
     turned session (Visits [] (phase.Undoing (suc visited) cause)) progress after (visits_free [] (phase.Undoing (suc visited) cause)) visit.turn
 
+back_turned : (session : SessionData) (now : Open) (visited : ℕ) (name : List ℕ) (old : ChunkData) (progress : Progress) (after : SessionData)
+    (new : ChunkData) → BackVisit session now visited name old progress after new → IsTurned session progress after
+back_turned session now visited name old progress after new visit =
+    let changes : List Change = changes_from old.table old.first (viewer_of session now) (cells_back (notes_since now name) old) old.places in
+    turned session (Visits changes (phase.Working (suc visited) 0)) progress after (visits_free changes (phase.Working (suc visited) 0)) visit.turn
+
 statement_turned : (session : SessionData) (now : Open) (visited count : ℕ) (statement : Bound) (old : ChunkData) (progress : Progress)
     (after : SessionData) (new : ChunkData) → StatementVisit session now visited count statement old progress after new → IsTurned session progress after
 statement_turned session now visited count (Select tables ons pred items) old progress after new visit =
@@ -204,6 +214,10 @@ statement_turned session now visited count (Update table sets pred) old progress
     write_turned session now visited count (Update table sets pred) table (Some sets) pred old progress after new visit
 statement_turned session now visited count (Delete table pred) old progress after new visit =
     write_turned session now visited count (Delete table pred) table None pred old progress after new visit
+statement_turned session now visited count (Savepoint name) old progress after new visit = absurd visit
+statement_turned session now visited count (RollbackTo name) old progress after new visit =
+    back_turned session now visited name old progress after new visit
+statement_turned session now visited count (Release name) old progress after new visit = absurd visit
 
 closing_turned : (session : SessionData) (now : Open) (commits : Bool) (old : ChunkData) (progress : Progress) (after : SessionData) (new : ChunkData)
     → ClosingVisit session now commits old progress after new → IsTurned session progress after
@@ -283,6 +297,8 @@ came_by session core (Visits changes next) progress after new found takes is =
     came_free session core (Visits changes next) progress after new found (visits_free changes next) takes
 came_by session core (Answers changes reply took records) progress after new found takes is =
     came_free session core (Answers changes reply took records) progress after new found (λ by e. cc e) takes
+came_by session core (Saves statement reply) progress after new found takes is =
+    came_free session core (Saves statement reply) progress after new found (λ by e. cc e) takes
 came_by session core Enters progress after new found takes is = came_free session core Enters progress after new found (λ by e. cc e) takes
 came_by session core (Ends ending) progress after new found takes is =
     came_free session core (Ends ending) progress after new found (λ by e. cc e) takes

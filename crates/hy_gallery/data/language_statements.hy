@@ -25,7 +25,10 @@ SELECT who, SUM(aid) FROM own GROUP BY who;
 SELECT who, COUNT(*) FROM own WHERE aid < 3 GROUP BY who;
 COMMIT;
 BEGIN;
+SAVEPOINT s;
 DELETE FROM acc;
+ROLLBACK TO s;
+RELEASE s;
 ROLLBACK;
 
 SCHEDULE a! a! a! a! a! a! a! a! a! a!;

@@ -124,6 +124,18 @@ fn statements_of_a_transaction(rt: HostRuntime) -> Result<(), Fail> {
 }
 
 #[test]
+fn open_savepoints(rt: HostRuntime) -> Result<(), Fail> {
+    let script = (
+        "CREATE TABLE t (n INT); SESSION a; BEGIN;\n",
+        "SAVEPOINT s; ",
+        "\nCOMMIT; END;",
+    );
+    let lines = (ONE_OF_EACH, "line 2: E09\n");
+    assert!(rt; is_most(&rt, script, 16, lines)?);
+    Ok(())
+}
+
+#[test]
 fn bytes_of_texts_and_words(rt: HostRuntime) -> Result<(), Fail> {
     let head = "CREATE TABLE t (s TEXT);\nINSERT INTO t VALUES ('";
     let lines = (

@@ -76,6 +76,12 @@ fn names(rt: HostRuntime) {
         ),
         ("SELECT id FROM acc JOIN acc ON id = id", "line 5: E08\n"),
         ("UPDATE acc SET bal = 1, bal = 2", "line 5: E08\n"),
+        ("SAVEPOINT s; RELEASE s; ROLLBACK TO s", "line 5: E21\n"),
+        ("SAVEPOINT s;\nRELEASE t", "line 6: E21\n"),
+        (
+            "SAVEPOINT s; ROLLBACK TO s; RELEASE s",
+            "ok tables 2 rows 0 sessions 1 transactions 1 items 0\n",
+        ),
     ] {
         refuses(&rt, statement, line);
     }
@@ -143,7 +149,8 @@ fn tokens_and_grammar(rt: HostRuntime) {
             "SELECT COUNT(*) FROM acc\nJOIN own ON id = aid",
             "line 6: E04\n",
         ),
-        ("SAVEPOINT x", "line 5: E04\n"),
+        ("SAVEPOINT 1", "line 5: E04\n"),
+        ("ROLLBACK TO 1", "line 5: E04\n"),
         (
             "DELETE FROM acc WHERE bal IS NOT NULL AND NOT bal = 3 OR id < 2",
             "ok tables 2 rows 0 sessions 1 transactions 1 items 0\n",
@@ -154,11 +161,12 @@ fn tokens_and_grammar(rt: HostRuntime) {
 }
 
 /// Scripts that are refused, and what `check` writes for each.
-const SCRIPTS: [(&str, &str); 18] = [
+const SCRIPTS: [(&str, &str); 19] = [
     ("CREATE TABLE t (n INT);\n", "line 2: E10\n"),
     ("END;\nx", "line 2: E10\n"),
     ("END", "line 1: E04\n"),
     ("BEGIN; COMMIT; END;", "line 1: E04\n"),
+    ("SESSION a;\nROLLBACK TO s; END;", "line 2: E04\n"),
     ("SESSION a;\nCREATE TABLE t (n INT); END;", "line 2: E04\n"),
     ("SESSION a; BEGIN;\nBEGIN; COMMIT; END;", "line 2: E04\n"),
     ("SESSION a; BEGIN;\nEND;", "line 2: E04\n"),

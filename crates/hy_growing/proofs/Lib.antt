@@ -1,0 +1,13 @@
+mod Agreement
+mod Turning
+mod Stands
+mod Reaching
+mod Answering
+mod Reply
+mod Next
+mod Lines
+mod Between
+mod Rolling
+mod Dropping
+mod Rounds
+mod Awaited

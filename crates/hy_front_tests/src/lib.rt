@@ -1,9 +1,11 @@
-//! The tests of what leads from bytes to statements: sources and sinks, texts, tokens, the parser, the catalog,
+//! The tests of what leads from bytes to statements: sources and sinks, lines, texts, tokens, the parser, the catalog,
 //! savepoints.
 #![tactic(auto)]
 
 #[cfg(test)]
 mod bytes;
+#[cfg(test)]
+mod lines;
 #[cfg(test)]
 mod savepoints;
 #[cfg(test)]

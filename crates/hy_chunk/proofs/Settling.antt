@@ -1,10 +1,10 @@
 -- Positions that needn't be looked at, when chains or bits change.
-use Rattle.std.proofs.Common.{◌≡◌, ℕ, ◌+◌, ◌<◌, ◌≤◌, Bool, true, false, List, [], ◌∷◌, length, get_or, refl, sym, ap, ◌∙◌, cond, subst, arith, inl, inr}
+use Rattle.std.proofs.Common.{◌≡◌, ℕ, ◌+◌, ◌<◌, ◌≤◌, Bool, true, false, List, [], ◌∷◌, length, get_or, refl, ap, ◌∙◌, cond, arith, inl, inr}
 use Rattle.std.proofs.Common.{None}
 use Rattle.std.specs.Prelude.{count_by, nat_lt}
 use Rattle.std.proofs.Math.ListN.{set}
-use Rattle.std.proofs.lemmas.Bool.{cases_eq, both_ways, lt-ltb, ne_eqb}
-use Rattle.std.proofs.lemmas.List.{length-set, get_or-set_same, get_or-set_other}
+use Rattle.std.proofs.lemmas.Bool.{cases_eq, ltb-true, lt-ltb, ne_eqb}
+use Rattle.std.proofs.lemmas.List.{get_or-set_same, get_or-set_other}
 use Rattle.std.proofs.lemmas.List.Sums.{sum_by-cons}
 use Rattle.hy_chain.specs.Chains.{Undo, newest}
 use Rattle.hy_chain.specs.Pruning.{pruned, by_fate}
@@ -16,19 +16,18 @@ use Rattle.hy_undo.specs.Images.{Image, both}
 use Rattle.hy_undo.specs.Places.{Place}
 use Rattle.hy_undo.specs.Chunks.{is_own}
 use Rattle.hy_undo.specs.Steps.{pruned_place}
-use Rattle.hy_chunk.specs.declared.settled.Settled.{Settled}
-use Rattle.hy_chunk.specs.Fields.{blank_with}
-use Rattle.hy_chunk.specs.Settled.{AllSetIn, IsAtRest, Settles}
+use Rattle.hy_chunk.specs.Settled.{AllSetIn, IsAtRest, IsReleased}
+
+-- ---- a chain that is released
+
+-- its newest record has none of the identifiers from the time on
+pub not_own : (before id : ℕ) (chain : List (Undo Image)) → before ≤ id → IsReleased before chain → is_own id (newest chain) ≡ false
+not_own before id [] late released = refl
+not_own before id (undo ∷ chain) late released =
+    let below = ltb-true undo.stamp.mark before released in
+    ne_eqb undo.stamp.mark id (λ e. absurd (omega (arith, late, below, e)))
 
 -- ---- a chain at rest
-
--- its newest record has none of the identifiers from the later time on
-pub not_own : (after before id : ℕ) (chain : List (Undo Image)) → before ≤ id → IsAtRest after before chain → is_own id (newest chain) ≡ false
-not_own after before id [] late rest = refl
-not_own after before id (undo ∷ []) late rest =
-    let below = rest.1 in
-    ne_eqb undo.stamp.mark id (λ e. absurd (omega (arith, late, below, e)))
-not_own after before id (undo ∷ older ∷ chain) late rest = absurd rest
 
 -- a start is below a time that is after the watermark
 some_below : (starts : List ℕ) (next time : ℕ) → get_or starts 0 next < time → time < next
@@ -48,29 +47,16 @@ alone_stays cover undo low =
       | inr (inr dropped) ↦ absurd (some_below cover.starts cover.next undo.stamp.mark low dropped.old dropped.free)
     ]
 
-chain_stays : (cover : Cover) (after before : ℕ) (chain : List (Undo Image)) → watermark_of cover ≤ after → IsAtRest after before chain
-    → pruned both cover chain ≡ chain
-chain_stays cover after before [] late rest = refl
-chain_stays cover after before (undo ∷ []) late rest = alone_stays cover undo (let low = rest.0 in omega (arith, late, low))
-chain_stays cover after before (undo ∷ older ∷ chain) late rest = absurd rest
+chain_stays : (cover : Cover) (after : ℕ) (chain : List (Undo Image)) → watermark_of cover ≤ after → IsAtRest after chain → pruned both cover chain ≡ chain
+chain_stays cover after [] late rest = refl
+chain_stays cover after (undo ∷ []) late rest = alone_stays cover undo (omega (arith, late, rest))
+chain_stays cover after (undo ∷ older ∷ chain) late rest = absurd rest
 
 -- pruning leaves a position at rest as it is
-pub rest_unpruned : (cover : Cover) (after before : ℕ) (p : Place) → watermark_of cover ≤ after → IsAtRest after before p.chain → pruned_place cover p ≡ p
-rest_unpruned cover after before p late rest = λ i. record p { chain = chain_stays cover after before p.chain late rest i }
+pub rest_unpruned : (cover : Cover) (after : ℕ) (p : Place) → watermark_of cover ≤ after → IsAtRest after p.chain → pruned_place cover p ≡ p
+rest_unpruned cover after p late rest = λ i. record p { chain = chain_stays cover after p.chain late rest i }
 
 -- ---- bits
-
--- a position whose bit is set may change
-pub settles_set : (settled : Settled) (places : List Place) (place : ℕ) (new : Place) → get_or settled.fresh place false ≡ true → Settles settled places
-    → Settles settled (set places place new)
-settles_set settled places place new on was = record {
-  size = was.size ∙ sym (length-set places place new);
-  at_rest = λ k l off. elim (cases_eq k place) [
-    | inl same ↦ absurd (both_ways (get_or settled.fresh k false) off (ap (λ (j : ℕ). get_or settled.fresh j false) same ∙ on))
-    | inr other ↦ subst (λ (p : Place). IsAtRest settled.after settled.before p.chain) (sym (get_or-set_other places place k new (blank_with []) other))
-        (was.at_rest k (omega (arith, l, length-set places place new)) off)
-  ];
-}
 
 -- the bits of a part are set one by one
 pub one_more_set : (first count : ℕ) (bits now : List Bool) → count < length bits → AllSetIn first count bits → now ≡ set bits count true

@@ -11,7 +11,7 @@ ghost use Rattle.hy_chain.specs.Chains.{Falls};
 ghost use Rattle.hy_notes.specs.Notes.{with_note};
 ghost use Rattle.hy_prune.specs.Fates.{watermark_of};
 ghost use Rattle.hy_undo.specs.Places.{cell_of, in_place, sees};
-ghost use Rattle.hy_undo.specs.Chunks.{rows_seen, Placed, Written, Everywhere, AtOwn, StampedPlace, Undone, Pruned};
+ghost use Rattle.hy_undo.specs.Chunks.{rows_seen, Placed, Written, Everywhere, AtOwn, StampedPlace, Undone, Pruned, is_own};
 ghost use Rattle.hy_chunk.specs.Fields.{blank_place, nth};
 ghost use Rattle.hy_plan.specs.Reads.{by_key_of};
 ghost use Rattle.hy_chunk.specs.Backing.{MayGoBack, change_back};
@@ -26,7 +26,7 @@ ghost use Rattle.hy_chunk.specs.Sound.{FitsRow, most_texts};
 ghost use Rattle.hy_chunk.specs.Steps.{loaded_place, least_free, IsPut};
 ghost use Rattle.hy_chunk.specs.Views.{with_places};
 ghost use Rattle.hy_chunk.specs.Writes.{FitsWrite, IsDone, notes_with, refusal_in, sets_of};
-ghost use Rattle.hy_undo.specs.Steps.{pruned_place};
+ghost use Rattle.hy_undo.specs.Steps.{pruned_place, stamped_place, undone_place};
 ghost use Rattle.hy_undo.specs.Sweeps.{swept};
 ghost use Rattle.hy_stamp.specs.declared.Viewer.{Viewer};
 ghost use Rattle.hy_value.specs.declared.Value.{Value};
@@ -45,7 +45,7 @@ use hy_kernel::Mask;
 use hy_notes::Changes;
 use hy_plan::Gathered;
 use hy_prune::{Cover, watermark};
-use hy_stamp::{Label, Viewer};
+use hy_stamp::{Label, Stamp, Viewer};
 use hy_undo::{Refusal, Version};
 use hy_value::{Change, ColMask, Kind, Row, Seq, Value};
 use std::alloc::{AllocError, Global};
@@ -153,11 +153,66 @@ fn find_in(
     false
 }
 
-/// Prunes the chain of a position that has to be looked at, and answers whether it is empty then.
+/// Whether a stamp, if there is one, is of this identifier.
+fn has_mark(stamp: Option<Stamp>, id: u64) -> bool
+    ensures { result ≡ is_own id stamp }
+{
+    match stamp {
+        None => false,
+        Some(stamp) => stamp.mark == id,
+    }
+}
+
+/// Gives the newest record of a position its commit time, where it is of this identifier, and a row that is gone its
+/// death time.
+fn stamp_at(positions: &mut Positions, settled: &mut Settled, place: usize, id: u64, time: u64)
+    requires within { place < length positions.old.places }
+    requires settles { Settles settled.old positions.old.places }
+    ensures kinds { positions.new.kinds ≡ positions.old.kinds }
+    ensures key { positions.new.key ≡ positions.old.key }
+    ensures places { positions.new.places ≡ slice_set positions.old.places place (stamped_place id time (nth positions.old.places place)) }
+    ensures room { positions.old.room ≤ positions.new.room }
+    ensures settles { Settles settled.new positions.new.places }
+    ensures before { settled.new.before ≡ settled.old.before }
+{
+    hy_undo::places_step();
+    if has_mark(positions.newest(place), id) {
+        positions.stamp_at(place, id, time);
+        settled.release(place, positions.newest(place));
+    }
+}
+
+/// Puts the newest before-image of a position back, where it is of this identifier. `version` is a scratch one of as many
+/// columns.
+fn undo_at(
+    positions: &mut Positions,
+    settled: &mut Settled,
+    place: usize,
+    id: u64,
+    version: &mut Version,
+)
+    requires within { place < length positions.old.places }
+    requires width { length version.old.row ≡ length positions.old.kinds }
+    requires settles { Settles settled.old positions.old.places }
+    ensures kinds { positions.new.kinds ≡ positions.old.kinds }
+    ensures key { positions.new.key ≡ positions.old.key }
+    ensures places { positions.new.places ≡ slice_set positions.old.places place (undone_place id (nth positions.old.places place)) }
+    ensures room { positions.old.room ≤ positions.new.room }
+    ensures width { length version.new.row ≡ length positions.old.kinds }
+    ensures settles { Settles settled.new positions.new.places }
+    ensures before { settled.new.before ≡ settled.old.before }
+{
+    hy_undo::places_step();
+    if has_mark(positions.newest(place), id) {
+        positions.undo_at(place, id, version);
+        settled.release(place, positions.newest(place));
+    }
+}
+
+/// Prunes the chain of a position, and answers whether it is empty then.
 fn prune_at(positions: &mut Positions, settled: &mut Settled, place: usize, cover: &Cover) -> bool
     requires within { place < length positions.old.places }
     requires settles { Settles settled.old positions.old.places }
-    requires fresh { slice_index_or settled.old.fresh place false ≡ true }
     ensures kinds { positions.new.kinds ≡ positions.old.kinds }
     ensures key { positions.new.key ≡ positions.old.key }
     ensures places { positions.new.places ≡ slice_set positions.old.places place (pruned_place cover.now (nth positions.old.places place)) }
@@ -256,12 +311,13 @@ impl Chunk {
     {
         hy_undo::places_step();
         let part = self.positions.versioned_part();
+        self.settled.reach(time);
         self.settled.look_for(id, part);
         let end = self.positions.len();
-        let mut place = self.settled.next(0);
+        let mut place = self.settled.next_uncommitted(0);
         while place < end {
-            self.positions.stamp_at(place, id, time);
-            place = self.settled.next(place + 1);
+            stamp_at(&mut self.positions, &mut self.settled, place, id, time);
+            place = self.settled.next_uncommitted(place + 1);
         }
     }
 
@@ -275,10 +331,16 @@ impl Chunk {
         let part = self.positions.versioned_part();
         self.settled.look_for(id, part);
         let end = self.positions.len();
-        let mut place = self.settled.next(0);
+        let mut place = self.settled.next_uncommitted(0);
         while place < end {
-            self.positions.undo_at(place, id, &mut self.seen);
-            place = self.settled.next(place + 1);
+            undo_at(
+                &mut self.positions,
+                &mut self.settled,
+                place,
+                id,
+                &mut self.seen,
+            );
+            place = self.settled.next_uncommitted(place + 1);
         }
     }
 
@@ -294,10 +356,10 @@ impl Chunk {
         self.settled.look_below(watermark(cover), part);
         let end = self.positions.len();
         let mut emptied = false;
-        let mut place = self.settled.next(0);
+        let mut place = self.settled.next_unpruned(0);
         while place < end {
             emptied |= prune_at(&mut self.positions, &mut self.settled, place, cover);
-            place = self.settled.next(place + 1);
+            place = self.settled.next_unpruned(place + 1);
         }
         narrow_where(&mut self.positions, emptied);
     }

@@ -784,7 +784,7 @@ impl Positions {
 }
 
 /// Whether a stamp, if there is one, is older than a time.
-fn is_before(newest: Option<Stamp>, time: u64) -> bool
+pub fn is_before(newest: Option<Stamp>, time: u64) -> bool
     ensures { result ≡ is_older time newest }
 {
     match newest {

@@ -21,6 +21,6 @@ returns c = λ below.
     subst (λ (all : List Place). Everywhere (Pruned cover) all all) was
     (everywhere (Pruned cover) places places refl
     (λ k l. subst (Pruned cover (nth places k))
-    (rest_unpruned cover settled.after settled.before (nth places k) (omega (arith, c.watermark.ensures, c.is_below.ensures.late below))
-    (settles.at_rest k l (c.is_below.ensures.blank below k (omega (arith, l, settles.size)))))
+    (rest_unpruned cover settled.after (nth places k) (omega (arith, c.watermark.ensures, c.is_below.ensures.late below))
+    (settles.at_rest.unset k l (c.is_below.ensures.blank below k (omega (arith, l, settles.at_rest.size)))))
     (c.places_step.ensures.prunes cover (nth places k) (all_at (λ (p : Place). Falls p.chain) places k falls l))))

@@ -1,7 +1,8 @@
 use Rattle.std.proofs.Common.{◌≡◌, ◌-◌, ◌≤◌, length}
 use Rattle.hy_prune.specs.Fates.{watermark_of}
 use Rattle.hy_undo.specs.Steps.{pruned_place}
-use Rattle.hy_chunk.proofs.Walking.{WalkedTo}
+use Rattle.hy_chunk.specs.Settled.{Settles}
+use Rattle.hy_chunk.proofs.Mapped.{DoneUpTo}
 use Rattle.hy_chunk.proofs.chunk.Chunk.prune.Given as goal
 
 -- the positions so far are done
@@ -13,7 +14,8 @@ invariant-loop-place l = record {
   kinds : l.self-inside.positions.kinds ≡ l.initial.self-inside.positions.kinds;
   next : length l.self-inside.next.row ≡ length l.initial.self-inside.positions.kinds;
   wide : length l.self-inside.seen.row ≡ length l.initial.self-inside.positions.kinds;
-  walked : WalkedTo (pruned_place l.cover) l.self-inside.settled l.initial.self-inside.positions.places l.self-inside.positions.places l.place;
+  walked : DoneUpTo (pruned_place l.cover) l.initial.self-inside.positions.places l.self-inside.positions.places l.place;
+  settles : Settles l.self-inside.settled l.self-inside.positions.places;
   after : watermark_of l.cover ≤ l.self-inside.settled.after;
   room : l.initial.self-inside.positions.room ≤ l.self-inside.positions.room;
 }

@@ -1,6 +1,7 @@
 use Rattle.std.proofs.Common.{◌≡◌, ◌-◌, ◌≤◌, length}
 use Rattle.hy_undo.specs.Steps.{stamped_place}
-use Rattle.hy_chunk.proofs.Walking.{WalkedTo}
+use Rattle.hy_chunk.specs.Settled.{Settles}
+use Rattle.hy_chunk.proofs.Mapped.{DoneUpTo}
 use Rattle.hy_chunk.proofs.chunk.Chunk.stamp.Given as goal
 
 -- the positions so far are done
@@ -12,7 +13,8 @@ invariant-loop-place l = record {
   kinds : l.self-inside.positions.kinds ≡ l.initial.self-inside.positions.kinds;
   next : length l.self-inside.next.row ≡ length l.initial.self-inside.positions.kinds;
   wide : length l.self-inside.seen.row ≡ length l.initial.self-inside.positions.kinds;
-  walked : WalkedTo (stamped_place l.id l.time) l.self-inside.settled l.initial.self-inside.positions.places l.self-inside.positions.places l.place;
+  walked : DoneUpTo (stamped_place l.id l.time) l.initial.self-inside.positions.places l.self-inside.positions.places l.place;
+  settles : Settles l.self-inside.settled l.self-inside.positions.places;
   before : l.self-inside.settled.before ≤ l.id;
   room : l.initial.self-inside.positions.room ≤ l.self-inside.positions.room;
 }

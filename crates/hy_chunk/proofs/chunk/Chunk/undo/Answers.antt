@@ -1,25 +1,27 @@
 use Rattle.std.proofs.Common.{◌≤◌, ℕ, List, length, refl, ap, ◌∙◌, subst, arith}
+use Rattle.std.proofs.lemmas.List.{length-set}
 use Rattle.hy_undo.specs.Places.{Place}
 use Rattle.hy_undo.specs.Chunks.{Everywhere, AtOwn, Undone}
 use Rattle.hy_undo.specs.Steps.{PlacesStep, undone_place}
 use Rattle.hy_value.specs.declared.Kind.{Kind}
-use Rattle.hy_chunk.specs.declared.settled.Settled.{Settled}
 use Rattle.hy_chunk.specs.Fields.{nth}
+use Rattle.hy_chunk.specs.Settled.{IsReleased}
 use Rattle.hy_chunk.specs.Views.{Whole, with_places}
 use Rattle.hy_chunk.proofs.Settling.{not_own}
-use Rattle.hy_chunk.proofs.Walking.{LeavesAtRest, walk_begins, walk_steps, walk_ends}
+use Rattle.hy_chunk.proofs.Walking.{Leaves, walk_begins, walk_goes_on, walk_ends}
 use Rattle.hy_chunk.proofs.Wholes.{whole_of, still_whole}
 use Rattle.hy_chunk.proofs.chunk.Chunk.undo.Goals as goal
 
--- what is at rest has no record of the transaction
-leaves : (steps : PlacesStep) (id : ℕ) (settled : Settled) → settled.before ≤ id → LeavesAtRest (undone_place id) settled
-leaves steps id settled late p rest = (steps.undoes id p).others (not_own settled.after settled.before id p.chain late rest)
+-- what is released has no record of the transaction
+leaves : (steps : PlacesStep) (id before : ℕ) → before ≤ id → Leaves (undone_place id) (IsReleased before)
+leaves steps id before late p released = (steps.undoes id p).others (not_own before id p.chain late released)
 
 pub loop-place-init : goal.loop-place-init
 loop-place-init c =
     let old = c.self.inside.positions.places in
     let settled = c.look_for.new.self in
     let found = c.look_for.ensures in
+    let settles = found.settles old c.versioned_part-part.ensures.others c.self.invariant.settles in
     record {
       table = refl;
       first = refl;
@@ -27,23 +29,27 @@ loop-place-init c =
       kinds = refl;
       next = c.self.invariant.next_wide;
       wide = c.self.invariant.wide;
-      walked = walk_begins (undone_place c.args.id) settled old c.next-place.result
-          (leaves c.places_step.ensures c.args.id settled found.before)
-          (found.settles old c.versioned_part-part.ensures.others c.self.invariant.settles) c.next-place.ensures;
+      walked = walk_begins (undone_place c.args.id) (IsReleased settled.before) settled.uncommitted old c.next_uncommitted-place.result
+          (leaves c.places_step.ensures c.args.id settled.before found.before) settles.released c.next_uncommitted-place.ensures;
+      settles = settles;
       before = found.before;
       room = omega arith;
     }
 
-pub next-place-requires-in-loop-place : goal.next-place-requires-in-loop-place
-next-place-requires-in-loop-place c =
-    let v = c.loop-place.invariant in
-    omega (arith, v.walked.settles.size, v.walked.done.size, c.loop-place-test.true, c.len-end.ensures)
+pub next_uncommitted-place-requires-in-loop-place : goal.next_uncommitted-place-requires-in-loop-place
+next_uncommitted-place-requires-in-loop-place c =
+    let done = c.undo_at.ensures in
+    let now = c.loop-place.self-inside.positions.places in
+    let place = c.loop-place.place in
+    let size = ap (λ (ps : List Place). length ps) done.places ∙ length-set now place (undone_place c.args.id (nth now place)) in
+    omega (arith, done.settles.released.size, size, c.loop-place.invariant.walked.size, c.loop-place-test.true, c.len-end.ensures)
 
 pub loop-place-preserved : goal.loop-place-preserved
 loop-place-preserved c =
     let v = c.loop-place.invariant in
-    let settled = c.loop-place.self-inside.settled in
+    let settled = c.undo_at.new.settled in
     let done = c.undo_at.ensures in
+    let late : settled.before ≤ c.args.id = omega (arith, done.before, v.before) in
     record {
       table = v.table;
       first = v.first;
@@ -51,10 +57,13 @@ loop-place-preserved c =
       kinds = done.kinds ∙ v.kinds;
       next = v.next;
       wide = done.width ∙ ap (λ (kinds : List Kind). length kinds) v.kinds;
-      walked = walk_steps (undone_place c.args.id) settled c.self.inside.positions.places c.loop-place.self-inside.positions.places
-          c.undo_at.new.self.places c.loop-place.place c.next-place-in-loop-place.result (leaves c.places_step.ensures c.args.id settled v.before) v.walked
-          (omega (arith, v.walked.done.size, c.loop-place-test.true, c.len-end.ensures)) done.places c.next-place-in-loop-place.ensures;
-      before = v.before;
+      walked = walk_goes_on (undone_place c.args.id) (IsReleased settled.before) settled.uncommitted c.self.inside.positions.places
+          c.loop-place.self-inside.positions.places c.undo_at.new.positions.places c.loop-place.place c.next_uncommitted-place-in-loop-place.result
+          (leaves c.places_step.ensures c.args.id settled.before late) v.walked
+          (omega (arith, v.walked.size, c.loop-place-test.true, c.len-end.ensures)) done.places done.settles.released
+          c.next_uncommitted-place-in-loop-place.ensures;
+      settles = done.settles;
+      before = late;
       room = omega (arith, v.room, done.room);
     }
 
@@ -65,7 +74,7 @@ invariant_of-self c =
     (length c.self.inside.next.row)
     c.loop-place.self-inside.first (length c.loop-place.self-inside.positions.places) (length c.loop-place.self-inside.positions.kinds)
     (length c.loop-place.self-inside.seen.row) (length c.loop-place.self-inside.next.row)
-    c.self.invariant v.first v.walked.done.size (ap (λ (kinds : List Kind). length kinds) v.kinds) v.wide v.next v.walked.settles
+    c.self.invariant v.first v.walked.size (ap (λ (kinds : List Kind). length kinds) v.kinds) v.wide v.next v.settles
 
 pub returns-clause-all : goal.returns-clause-all
 returns-clause-all c =
@@ -80,5 +89,5 @@ returns-clause-places c =
     subst (λ (places : List Place). Everywhere (AtOwn c.args.id (Undone c.args.id)) places new)
     (ap (λ (w : Whole). w.shown.places) c.self.view_is)
     (walk_ends (AtOwn c.args.id (Undone c.args.id)) (undone_place c.args.id)
-    c.loop-place.self-inside.settled old new c.loop-place.place c.loop-place.invariant.walked (omega (arith, c.loop-place-test.false, c.len-end.ensures))
+    old new c.loop-place.place c.loop-place.invariant.walked (omega (arith, c.loop-place-test.false, c.len-end.ensures))
     (λ k l. c.places_step.ensures.undoes c.args.id (nth old k)))

@@ -399,8 +399,8 @@ loop-i-preserved c =
       notes_texts = c.note.ensures.texts ∙ v.notes_texts;
     }
 
-pub touch-requires : goal.touch-requires
-touch-requires c =
+pub touch-requires-clause-uncommitted : goal.touch-requires-clause-uncommitted
+touch-requires-clause-uncommitted c =
     let sets = sets_of c.args.sweep.now.kind.now in
     let pred = c.args.sweep.now.pred.now in
     let viewer = c.args.sweep.now.viewer.now in
@@ -416,7 +416,26 @@ touch-requires c =
     let k = c.number_at-number.result in
     let is_k : k ≡ reach found olds i = at_reach pred key olds found candidates i k inside c.number_at-number.ensures in
     let l : k < length olds = inside_at pred key olds found candidates i k inside c.number_at-number.ensures in
-    omega (arith, l, v.settles.size, v.sweep.size)
+    omega (arith, l, v.settles.released.size, v.sweep.size)
+
+pub touch-requires-clause-unpruned : goal.touch-requires-clause-unpruned
+touch-requires-clause-unpruned c =
+    let sets = sets_of c.args.sweep.now.kind.now in
+    let pred = c.args.sweep.now.pred.now in
+    let viewer = c.args.sweep.now.viewer.now in
+    let olds = c.self.inside.positions.places in
+    let first : ℕ = c.self.inside.first in
+    let key = c.self.inside.positions.key in
+    let found = c.args.sweep.now.places.now in
+    let candidates : AreCandidates pred key olds found =
+    subst (λ (w : Whole). AreCandidates pred w.shown.key w.shown.places found) (sym c.self.view_is) c.requires.candidates in
+    let v = c.loop-i.invariant in
+    let i = c.loop-i.i in
+    let inside : i < length found = omega (arith, c.loop-i-test.true) in
+    let k = c.number_at-number.result in
+    let is_k : k ≡ reach found olds i = at_reach pred key olds found candidates i k inside c.number_at-number.ensures in
+    let l : k < length olds = inside_at pred key olds found candidates i k inside c.number_at-number.ensures in
+    omega (arith, l, v.settles.at_rest.size, v.sweep.size)
 
 pub returns-clause-done : goal.returns-clause-done
 returns-clause-done c =

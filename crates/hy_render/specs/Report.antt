@@ -133,10 +133,13 @@ table_lines names table (rows ∷ tables) =
 abbrev pub tables_text : Names → List (List (List Value)) → List ℕ
 tables_text names tables = table_lines names 0 tables ++ line (codes "end")
 
--- what `run` writes of an outcome
-abbrev pub text : Names → Outcome → List ℕ
-text names outcome =
-    flat_map (txn_text names) outcome.txns
-    ++ line (codes "order " ++ decimal (length outcome.order))
+-- the commit order and the final tables of an outcome
+abbrev pub final_text : Names → Outcome → List ℕ
+final_text names outcome =
+    line (codes "order " ++ decimal (length outcome.order))
     ++ order_lines names 0 outcome.order
     ++ tables_text names outcome.tables
+
+-- what `run` writes of an outcome
+abbrev pub text : Names → Outcome → List ℕ
+text names outcome = flat_map (txn_text names) outcome.txns ++ final_text names outcome

@@ -8,7 +8,7 @@ ghost use Rattle.std.specs.Fmt.{decimal, signed_decimal};
 ghost use Rattle.hy_value.specs.Print.{BeginsWith};
 ghost use Rattle.hy_render.specs.Report.{line, word, table_name, label_name, place_name, row_line, group_line, reply_text, ending_text, wrote_line};
 ghost use Rattle.hy_render.specs.Report.{placed_line, placed_lines, start_line, txn_text, row_or_none, versions, change_line, entry_line};
-ghost use Rattle.hy_render.specs.Report.{order_lines, table_line, table_lines, tables_text, text};
+ghost use Rattle.hy_render.specs.Report.{order_lines, table_line, table_lines, tables_text, final_text, text};
 
 mod laws;
 mod summary;
@@ -102,6 +102,14 @@ fn print_outcome(names: &Names, outcome: &Outcome, out: &mut Vec<u8>) -> Result<
     ensures begun { BeginsWith out.old.items out.new.items }
 {
     print_txns(names, outcome.txns.as_slice(), out)?;
+    print_final(names, outcome, out)
+}
+
+/// Appends what stands behind the transactions in the text of an outcome: the commit order and the final tables.
+pub fn print_final(names: &Names, outcome: &Outcome, out: &mut Vec<u8>) -> Result<(), AllocError>
+    ensures ok { OnOk result (out.new.items ≡ out.old.items ++ final_text names.now outcome.now) }
+    ensures begun { BeginsWith out.old.items out.new.items }
+{
     print_count(b"order ", outcome.order.len(), out)?;
     print_order(names, outcome.order.as_slice(), out)?;
     print_last(names, outcome.tables.as_slice(), out)
@@ -256,7 +264,7 @@ fn print_rows(rows: &[StoredRow], out: &mut Vec<u8>) -> Result<(), AllocError>
 }
 
 /// Appends a reply.
-fn print_reply(reply: &Reply, out: &mut Vec<u8>) -> Result<(), AllocError>
+pub fn print_reply(reply: &Reply, out: &mut Vec<u8>) -> Result<(), AllocError>
     ensures ok { OnOk result (out.new.items ≡ out.old.items ++ reply_text reply.now) }
     ensures begun { BeginsWith out.old.items out.new.items }
 {
@@ -381,7 +389,7 @@ fn print_ending(names: &Names, ending: &Ending, out: &mut Vec<u8>) -> Result<(),
 }
 
 /// Appends the line of how a transaction ended.
-fn print_end(names: &Names, ending: &Ending, out: &mut Vec<u8>) -> Result<(), AllocError>
+pub fn print_end(names: &Names, ending: &Ending, out: &mut Vec<u8>) -> Result<(), AllocError>
     ensures ok { OnOk result (out.new.items
         ≡ out.old.items ++ line (ending_text names.now ending.now)) }
     ensures begun { BeginsWith out.old.items out.new.items }

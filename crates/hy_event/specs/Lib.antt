@@ -1,4 +1,5 @@
 pub mod Sessions
+pub mod Lines
 pub mod Ended
 pub mod Turns
 pub mod Needs

@@ -6,6 +6,7 @@
 #![tactic(auto)]
 
 mod examples;
+mod lines;
 
 pub use examples::{
     a_begin_waits, a_commit_enters_the_journal, a_commit_of_nothing_written_ends,
@@ -22,6 +23,7 @@ use hy_protocol::Phase;
 use hy_prune::Cover;
 use hy_render::{Places, TxnOutcome};
 use hy_value::{Changes, Seq, Text};
+pub use lines::SessionLine;
 
 /// A savepoint of an open transaction.
 #[derive(Drop)]

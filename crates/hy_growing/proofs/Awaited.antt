@@ -8,14 +8,16 @@ use Rattle.hy_machine.specs.Sessions.{session_at}
 use Rattle.hy_machine.specs.Steps.{step_of}
 use Rattle.hy_machine.specs.Begun.{count_open}
 use Rattle.hy_machine.specs.Runs.{opening_of, after_steps, items_of, moves}
-use Rattle.hy_growing.specs.Growing.{Opens, Commits, opened, pushed, whole_item, AnyLineIsReached, AnyItemsGoOn}
+use Rattle.hy_event.specs.declared.lines.SessionLine.TheVariants.{Begin, Commit}
+use Rattle.hy_event.specs.Lines.{opened}
+use Rattle.hy_growing.specs.Growing.{pushed, whole_item, AnyLineIsReached, AnyItemsGoOn}
 
 -- no tables, and a session with a transaction that says nothing
 abbrev short : Setting
 short = record { chunks = 0; rows = 0; shapes = []; first = []; programs = (opened false ∷ []) ∷ [] }
 
 abbrev long : Setting
-long = pushed short 0 Commits
+long = pushed short 0 Commit
 
 -- the transaction begins and ends
 abbrev rolled : State
@@ -64,7 +66,7 @@ not_committed e =
 
 pub any_line_fails : AnyLineIsReached → ⊥
 any_line_fails any =
-    let reached = any short rolled 0 Commits ((0 ∷ 0 ∷ []), refl) (inl (record { closed = refl; all = refl })) in
+    let reached = any short rolled 0 Commit ((0 ∷ 0 ∷ []), refl) (inl (record { closed = refl; all = refl })) in
     elim (from_opening reached.0) [
       | inl e ↦ not_opening (reached.1 ∙ e)
       | inr (inl e) ↦ not_began (reached.1 ∙ e)
@@ -78,7 +80,7 @@ abbrev idle : Setting
 idle = record { chunks = 0; rows = 0; shapes = []; first = []; programs = [] ∷ [] }
 
 abbrev begins : Setting
-begins = pushed idle 0 (Opens false)
+begins = pushed idle 0 (Begin false)
 
 -- how many transactions the session has open
 abbrev open_count : State → ℕ
@@ -94,6 +96,6 @@ has_begun = refl
 
 pub any_items_fail : AnyItemsGoOn → ⊥
 any_items_fail any =
-    let same = any idle (opening_of idle) (0 ∷ []) 0 (Opens false) idles (record { closed = refl; all = refl }) in
+    let same = any idle (opening_of idle) (0 ∷ []) 0 (Begin false) idles (record { closed = refl; all = refl }) in
     let none : 1 ≡ 0 = sym has_begun ∙ ap open_count same in
     absurd (cc none)

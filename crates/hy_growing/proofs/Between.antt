@@ -9,7 +9,10 @@ use Rattle.hy_machine.specs.declared.Setting.{Setting}
 use Rattle.hy_machine.specs.States.{State, Session}
 use Rattle.hy_machine.specs.Sessions.{fresh, session_at, program_of, txn_at}
 use Rattle.hy_machine.specs.Runs.{opening_of, StepsFall}
-use Rattle.hy_growing.specs.Growing.{Line, Opens, Says, Commits, RollsBack, grown, pushed, IsAtEnd, IsWaiting, IsReady, IsUncommitted, IsResting, IsAnswered, BetweenLines, SessionsStayBetween, EmptyScriptsAreBetween}
+use Rattle.hy_event.specs.declared.lines.SessionLine.{SessionLine}
+use Rattle.hy_event.specs.declared.lines.SessionLine.TheVariants.{Begin, Statement, Commit, Rollback}
+use Rattle.hy_event.specs.Lines.{grown}
+use Rattle.hy_growing.specs.Growing.{pushed, IsAtEnd, IsWaiting, IsReady, IsUncommitted, IsResting, IsAnswered, BetweenLines, SessionsStayBetween, EmptyScriptsAreBetween}
 use Rattle.hy_growing.proofs.Answering.{answered_whole}
 use Rattle.hy_growing.proofs.Reply.{turns_then}
 use Rattle.hy_growing.proofs.Lines.{IsTaken, IsLeftAt, ready_next, opened_rolls, said_commits, answers_left, closings_end, others_stay, line_taken}
@@ -57,19 +60,19 @@ left_resting : (setting : Setting) (state : State) (number : ℕ) (txn : Txn) �
 left_resting setting state number txn rolls (inl waits) = inr (waits.0, ap (λ (one : Txn). one.commits) waits.1 ∙ rolls)
 left_resting setting state number txn rolls (inr ends) = inl ends
 
-own_rests : (setting : Setting) (state next : State) (number : ℕ) (line : Line) → IsResting setting state number → IsReady setting state number line
+own_rests : (setting : Setting) (state next : State) (number : ℕ) (line : SessionLine) → IsResting setting state number → IsReady setting state number line
     → number < length setting.programs → number < length state.sessions → IsAnswered (pushed setting number line) number state next
     → IsResting (pushed setting number line) next number
-own_rests setting state next number (Opens read_only) rests ready l within answered =
-    left_resting (pushed setting number (Opens read_only)) next number (ready_next setting state number (Opens read_only) ready).txn
+own_rests setting state next number (Begin read_only) rests ready l within answered =
+    left_resting (pushed setting number (Begin read_only)) next number (ready_next setting state number (Begin read_only) ready).txn
     (opened_rolls setting state number read_only ready)
-    (answers_left setting state next number (Opens read_only) ready l within answered)
-own_rests setting state next number (Says statement) rests ready l within answered =
-    left_resting (pushed setting number (Says statement)) next number (ready_next setting state number (Says statement) ready).txn
+    (answers_left setting state next number (Begin read_only) ready l within answered)
+own_rests setting state next number (Statement statement) rests ready l within answered =
+    left_resting (pushed setting number (Statement statement)) next number (ready_next setting state number (Statement statement) ready).txn
     (said_commits setting state number statement ready ∙ uncommitted setting state number rests ready)
-    (answers_left setting state next number (Says statement) ready l within answered)
-own_rests setting state next number Commits rests ready l within answered = inl (closings_end setting state next number Commits tt ready l within answered)
-own_rests setting state next number RollsBack rests ready l within answered = inl (closings_end setting state next number RollsBack tt ready l within answered)
+    (answers_left setting state next number (Statement statement) ready l within answered)
+own_rests setting state next number Commit rests ready l within answered = inl (closings_end setting state next number Commit tt ready l within answered)
+own_rests setting state next number Rollback rests ready l within answered = inl (closings_end setting state next number Rollback tt ready l within answered)
 
 -- ---- all sessions
 

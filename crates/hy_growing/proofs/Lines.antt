@@ -11,7 +11,10 @@ use Rattle.hy_machine.specs.States.{State, Session}
 use Rattle.hy_machine.specs.Sessions.{fresh, session_at, program_of, txn_at}
 use Rattle.hy_machine.specs.Runs.{opening_of, after_steps, IsReached, StepsFall}
 use Rattle.hy_machine.specs.Turns.{turn}
-use Rattle.hy_growing.specs.Growing.{Line, Opens, Says, Commits, RollsBack, with_last, opened, with_statement, committing, grown, with_programs, pushed, IsAtEnd, IsWaiting, IsReady, AreAnswered, LinesAreReached, LinesGoOn, AnswersAreReached, LinesAreAnswered, AnswersLeaveReady, IsClosingLine, ClosingsEnd, OthersStay, IsAnswered, at_once, later}
+use Rattle.hy_event.specs.declared.lines.SessionLine.{SessionLine}
+use Rattle.hy_event.specs.declared.lines.SessionLine.TheVariants.{Begin, Statement, Commit, Rollback}
+use Rattle.hy_event.specs.Lines.{with_last, opened, with_statement, committing, grown}
+use Rattle.hy_growing.specs.Growing.{with_programs, pushed, IsAtEnd, IsWaiting, IsReady, AreAnswered, LinesAreReached, LinesGoOn, AnswersAreReached, LinesAreAnswered, AnswersLeaveReady, IsClosingLine, ClosingsEnd, OthersStay, IsAnswered, at_once, later}
 use Rattle.hy_growing.proofs.Stands.{Stands, SameTo, IsWithinNow, none_past}
 use Rattle.hy_growing.proofs.Reaching.{Grows, other_after, steps_back, turns_many, turns_back, turns_steps}
 use Rattle.hy_growing.proofs.Next.{IsNear, IsOver, closed_after, IsLeft, left_after}
@@ -52,19 +55,19 @@ same_opening (one ∷ programs) (suc i) program = ap (λ sessions. fresh ∷ ses
 -- ---- a line
 
 -- the setting is the same where there is no such session
-pushed_past : (setting : Setting) (number : ℕ) (line : Line) → length setting.programs ≤ number → pushed setting number line ≡ setting
+pushed_past : (setting : Setting) (number : ℕ) (line : SessionLine) → length setting.programs ≤ number → pushed setting number line ≡ setting
 pushed_past setting number line h = ap (with_programs setting) (set_past setting.programs number (grown line (program_of setting number)) h)
 
-pushed_opening : (setting : Setting) (number : ℕ) (line : Line) → opening_of (pushed setting number line) ≡ opening_of setting
+pushed_opening : (setting : Setting) (number : ℕ) (line : SessionLine) → opening_of (pushed setting number line) ≡ opening_of setting
 pushed_opening setting number line =
     ap (λ (sessions : List Session). let at : State = record { order = []; mark = None; sessions = sessions } in at)
     (same_opening setting.programs number (grown line (program_of setting number)))
 
-pushed_own : (setting : Setting) (number : ℕ) (line : Line) → number < length setting.programs → program_of (pushed setting number line) number ≡ grown line (program_of setting number)
+pushed_own : (setting : Setting) (number : ℕ) (line : SessionLine) → number < length setting.programs → program_of (pushed setting number line) number ≡ grown line (program_of setting number)
 pushed_own setting number line l = get_or-set_same setting.programs number (grown line (program_of setting number)) [] l
 
 -- a script that grows so
-grows_by : (setting : Setting) (number ended most : ℕ) (line : Line) → number < length setting.programs
+grows_by : (setting : Setting) (number ended most : ℕ) (line : SessionLine) → number < length setting.programs
     → ((i : ℕ) → i < ended → slice_get (grown line (program_of setting number)) i ≡ slice_get (program_of setting number) i)
     → SameTo most (slice_get (program_of setting number) ended) (slice_get (grown line (program_of setting number)) ended)
     → Grows setting (set setting.programs number (grown line (program_of setting number))) number ended most
@@ -78,18 +81,18 @@ grows_by setting number ended most line l before here = record {
     own = pushed_own setting number line l
 
 -- where a session is ready for a line it stands so that its script grows so
-pub record IsGrowing (setting : Setting) (state : State) (number : ℕ) (line : Line) : Type 0 where
+pub record IsGrowing (setting : Setting) (state : State) (number : ℕ) (line : SessionLine) : Type 0 where
   pub ended : ℕ
   pub most : ℕ
   pub grows : Grows setting (set setting.programs number (grown line (program_of setting number))) number ended most
   pub stands : Stands ended most (session_at state number)
 
 at_end : (setting : Setting) (state : State) (number : ℕ) (read_only : Bool) → number < length setting.programs → IsAtEnd setting state number
-    → IsGrowing setting state number (Opens read_only)
+    → IsGrowing setting state number (Begin read_only)
 at_end setting state number read_only l r = record {
   ended = length (program_of setting number);
   most = 0;
-  grows = grows_by setting number (length (program_of setting number)) 0 (Opens read_only) l
+  grows = grows_by setting number (length (program_of setting number)) 0 (Begin read_only) l
       (λ i h. append_before (program_of setting number) (opened read_only ∷ []) i h)
       (subst (λ (old : Option Txn). SameTo 0 old (slice_get (program_of setting number ++ opened read_only ∷ []) (length (program_of setting number)))) (sym none) tt);
   stands = inr (r.all, subst (IsWithinNow 0) (sym r.closed) tt);
@@ -102,7 +105,7 @@ waiting_stands : (setting : Setting) (state : State) (number : ℕ) → (w : IsW
 waiting_stands setting state number w = inr (refl, subst (IsWithinNow (length w.begun.replies)) (sym w.open_now) (omega arith))
 
 -- a line that changes the last transaction, and no statement that is answered
-waiting : (setting : Setting) (state : State) (number : ℕ) (line : Line) (change : Txn → Txn) → number < length setting.programs → (w : IsWaiting setting state number)
+waiting : (setting : Setting) (state : State) (number : ℕ) (line : SessionLine) (change : Txn → Txn) → number < length setting.programs → (w : IsWaiting setting state number)
     → grown line (program_of setting number) ≡ with_last change (program_of setting number)
     → ((txn : Txn) (i : ℕ) → i < length txn.statements → slice_get (change txn).statements i ≡ slice_get txn.statements i)
     → IsGrowing setting state number line
@@ -123,21 +126,21 @@ waiting setting state number line change l w e keeps = record {
     new = ap (λ (program : List Txn). slice_get program ended) e ∙ last_here change (program_of setting number) ended w.txn w.last w.here
 
 -- a line that adds nothing
-nothing : (setting : Setting) (state : State) (number : ℕ) → number < length setting.programs → (w : IsWaiting setting state number) → IsGrowing setting state number RollsBack
+nothing : (setting : Setting) (state : State) (number : ℕ) → number < length setting.programs → (w : IsWaiting setting state number) → IsGrowing setting state number Rollback
 nothing setting state number l w = record {
   ended = length (session_at state number).done;
   most = length w.begun.replies;
-  grows = grows_by setting number (length (session_at state number).done) (length w.begun.replies) RollsBack l (λ i h. refl)
+  grows = grows_by setting number (length (session_at state number).done) (length w.begun.replies) Rollback l (λ i h. refl)
       (subst (λ (old : Option Txn). SameTo (length w.begun.replies) old old) (sym w.here) ((λ i h. refl), w.answered));
   stands = waiting_stands setting state number w;
 }
 
-growing : (setting : Setting) (state : State) (number : ℕ) (line : Line) → number < length setting.programs → IsReady setting state number line → IsGrowing setting state number line
-growing setting state number (Opens read_only) l r = at_end setting state number read_only l r
-growing setting state number (Says statement) l r =
-    waiting setting state number (Says statement) (with_statement statement) l r refl (λ txn i h. append_before txn.statements (statement ∷ []) i h)
-growing setting state number Commits l r = waiting setting state number Commits committing l r refl (λ txn i h. refl)
-growing setting state number RollsBack l r = nothing setting state number l r
+growing : (setting : Setting) (state : State) (number : ℕ) (line : SessionLine) → number < length setting.programs → IsReady setting state number line → IsGrowing setting state number line
+growing setting state number (Begin read_only) l r = at_end setting state number read_only l r
+growing setting state number (Statement statement) l r =
+    waiting setting state number (Statement statement) (with_statement statement) l r refl (λ txn i h. append_before txn.statements (statement ∷ []) i h)
+growing setting state number Commit l r = waiting setting state number Commit committing l r refl (λ txn i h. refl)
+growing setting state number Rollback l r = nothing setting state number l r
 
 -- ---- the laws
 
@@ -180,13 +183,13 @@ waiting_here : (setting : Setting) (state : State) (number : ℕ) (change : Txn 
 waiting_here setting state number change w = (change w.txn, last_here change (program_of setting number) (length (session_at state number).done) w.txn w.last w.here)
 
 -- after a line its session has a transaction before it
-ready_here : (setting : Setting) (state : State) (number : ℕ) (line : Line) → IsReady setting state number line
+ready_here : (setting : Setting) (state : State) (number : ℕ) (line : SessionLine) → IsReady setting state number line
     → (txn : Txn) × (slice_get (grown line (program_of setting number)) (length (session_at state number).done) ≡ Some txn)
-ready_here setting state number (Opens read_only) r =
+ready_here setting state number (Begin read_only) r =
     (opened read_only, ap (slice_get (program_of setting number ++ opened read_only ∷ [])) r.all ∙ appended_here (program_of setting number) (opened read_only))
-ready_here setting state number (Says statement) r = waiting_here setting state number (with_statement statement) r
-ready_here setting state number Commits r = waiting_here setting state number committing r
-ready_here setting state number RollsBack r = (r.txn, r.here)
+ready_here setting state number (Statement statement) r = waiting_here setting state number (with_statement statement) r
+ready_here setting state number Commit r = waiting_here setting state number committing r
+ready_here setting state number Rollback r = (r.txn, r.here)
 
 pub answers_reached : AnswersAreReached
 answers_reached setting state turns answered = (
@@ -201,7 +204,7 @@ pub record IsTaken (setting : Setting) (state : State) (turns : List ℕ) (numbe
   pub answered : IsAnswered setting number state next
   pub unmarked : next.mark ≡ None
 
-pub line_taken : StepsFall → (setting : Setting) (state : State) (turns : List ℕ) (number : ℕ) (line : Line) → AreAnswered setting (opening_of setting) turns state
+pub line_taken : StepsFall → (setting : Setting) (state : State) (turns : List ℕ) (number : ℕ) (line : SessionLine) → AreAnswered setting (opening_of setting) turns state
     → IsReady setting state number line → number < length setting.programs → (next : State) × IsTaken (pushed setting number line) state turns number next
 line_taken falls setting state turns number line answered ready l =
     let longer : Setting = pushed setting number line in
@@ -258,17 +261,17 @@ waiting_next setting state number change w few = record {
   near = subst (IsNear (change w.txn)) (sym w.open_now) (omega (arith, few, w.answered));
 }
 
-pub ready_next : (setting : Setting) (state : State) (number : ℕ) (line : Line) → IsReady setting state number line → IsNext setting state number (grown line (program_of setting number))
-ready_next setting state number (Opens read_only) r = record {
+pub ready_next : (setting : Setting) (state : State) (number : ℕ) (line : SessionLine) → IsReady setting state number line → IsNext setting state number (grown line (program_of setting number))
+ready_next setting state number (Begin read_only) r = record {
   txn = opened read_only;
   here = ap (slice_get (program_of setting number ++ opened read_only ∷ [])) r.all ∙ appended_here (program_of setting number) (opened read_only);
   last = omega (arith, r.all, length-append (program_of setting number) (opened read_only ∷ []));
   near = subst (IsNear (opened read_only)) (sym r.closed) refl;
 }
-ready_next setting state number (Says statement) r =
+ready_next setting state number (Statement statement) r =
     waiting_next setting state number (with_statement statement) r (omega (arith, length-append r.txn.statements (statement ∷ [])))
-ready_next setting state number Commits r = waiting_next setting state number committing r (omega arith)
-ready_next setting state number RollsBack r = record {
+ready_next setting state number Commit r = waiting_next setting state number committing r (omega arith)
+ready_next setting state number Rollback r = record {
   txn = r.txn;
   here = r.here;
   last = r.last;
@@ -277,12 +280,12 @@ ready_next setting state number RollsBack r = record {
 
 -- whether that transaction commits
 pub opened_rolls : (setting : Setting) (state : State) (number : ℕ) (read_only : Bool) → (ready : IsAtEnd setting state number)
-    → (ready_next setting state number (Opens read_only) ready).txn.commits ≡ false
+    → (ready_next setting state number (Begin read_only) ready).txn.commits ≡ false
 unfolding ready_next
 opened_rolls setting state number read_only ready = refl
 
 pub said_commits : (setting : Setting) (state : State) (number : ℕ) (statement : Bound) → (ready : IsWaiting setting state number)
-    → (ready_next setting state number (Says statement) ready).txn.commits ≡ ready.txn.commits
+    → (ready_next setting state number (Statement statement) ready).txn.commits ≡ ready.txn.commits
 unfolding ready_next waiting_next
 said_commits setting state number statement ready = refl
 
@@ -309,7 +312,7 @@ left_ready setting state number txn t (inr left) =
       refl,
     )
 
-pub answers_left : (setting : Setting) (state next : State) (number : ℕ) (line : Line) → (ready : IsReady setting state number line) → number < length setting.programs
+pub answers_left : (setting : Setting) (state next : State) (number : ℕ) (line : SessionLine) → (ready : IsReady setting state number line) → number < length setting.programs
     → number < length state.sessions → IsAnswered (pushed setting number line) number state next
     → IsLeftAt (pushed setting number line) next number (ready_next setting state number line ready).txn
 answers_left setting state next number line ready l within answered =
@@ -351,17 +354,17 @@ pub record IsDue (setting : Setting) (state : State) (number : ℕ) (program : L
   pub last : suc (length (session_at state number).done) ≡ length program
   pub over : IsOver txn (session_at state number).now
 
-closing_due : (setting : Setting) (state : State) (number : ℕ) (line : Line) → IsClosingLine line → IsReady setting state number line
+closing_due : (setting : Setting) (state : State) (number : ℕ) (line : SessionLine) → IsClosingLine line → IsReady setting state number line
     → IsDue setting state number (grown line (program_of setting number))
-closing_due setting state number (Opens read_only) c r = absurd c
-closing_due setting state number (Says statement) c r = absurd c
-closing_due setting state number Commits c r = record {
+closing_due setting state number (Begin read_only) c r = absurd c
+closing_due setting state number (Statement statement) c r = absurd c
+closing_due setting state number Commit c r = record {
   txn = committing r.txn;
   here = last_here committing (program_of setting number) (length (session_at state number).done) r.txn r.last r.here;
   last = r.last ∙ sym (last_length committing (program_of setting number));
   over = subst (IsOver (committing r.txn)) (sym r.open_now) (omega (arith, r.answered));
 }
-closing_due setting state number RollsBack c r = record {
+closing_due setting state number Rollback c r = record {
   txn = r.txn;
   here = r.here;
   last = r.last;

@@ -1,11 +1,13 @@
 -- Scripts grow by lines of their sessions: what a line makes of the setting, when a session is ready for it, what its answer
 -- leaves, and how transactions that are open at the end are dropped.
-use Rattle.std.specs.Prelude.{◌≡◌, ◌≢◌, ◌⊎◌, ℕ, zero, suc, ◌<◌, ◌≤◌, List, [], ◌∷◌, ◌++◌, Bool, true, false, if◌then◌else◌}
+use Rattle.std.specs.Prelude.{◌≡◌, ◌≢◌, ◌⊎◌, ℕ, zero, suc, ◌<◌, ◌≤◌, List, [], ◌∷◌, ◌++◌, true, false, if◌then◌else◌}
 use Rattle.std.specs.Prelude.{None, Some, is_some, length, map, slice_set}
-use Rattle.hy_bound.specs.declared.Bound.{Bound}
 use Rattle.hy_bound.specs.declared.Ending.TheVariants.{RolledBack}
 use Rattle.hy_bound.specs.declared.Txn.{Txn}
 use Rattle.hy_bound.specs.declared.schedule.Item.{Item}
+use Rattle.hy_event.specs.declared.lines.SessionLine.{SessionLine}
+use Rattle.hy_event.specs.declared.lines.SessionLine.TheVariants.{Begin, Statement, Commit, Rollback}
+use Rattle.hy_event.specs.Lines.{grown}
 use Rattle.hy_protocol.specs.declared.Phase.TheVariants.{Working}
 use Rattle.hy_protocol.specs.declared.Progress.TheVariants.{Moved, Answered}
 use Rattle.hy_machine.specs.declared.Setting.{Setting}
@@ -16,46 +18,12 @@ use Rattle.hy_machine.specs.Runs.{opening_of, IsReached, whole_of, items_of, all
 
 -- ---- lines
 
--- a line of a session
-pub data Line : Type 0 where
-  -- BEGIN, READ ONLY or not
-  Opens : Bool → Line
-  -- a statement of the open transaction
-  Says : Bound → Line
-  Commits : Line
-  RollsBack : Line
-
--- a list whose last element is changed
-abbrev pub with_last : {A : Type 0} → (A → A) → List A → List A
-with_last change [] = []
-with_last change (x ∷ []) = change x ∷ []
-with_last change (x ∷ y ∷ xs) = x ∷ with_last change (y ∷ xs)
-
--- a transaction that has said nothing yet, and rolls back
-abbrev pub opened : Bool → Txn
-opened read_only = record { read_only = read_only; statements = []; commits = false }
-
--- a transaction with a statement more
-abbrev pub with_statement : Bound → Txn → Txn
-with_statement statement txn = record txn { statements = txn.statements ++ statement ∷ [] }
-
--- a transaction that commits
-abbrev pub committing : Txn → Txn
-committing txn = record txn { commits = true }
-
--- a session's transactions after a line
-abbrev pub grown : Line → List Txn → List Txn
-grown (Opens read_only) txns = txns ++ opened read_only ∷ []
-grown (Says statement) txns = with_last (with_statement statement) txns
-grown Commits txns = with_last committing txns
-grown RollsBack txns = txns
-
 -- the setting with other scripts
 abbrev pub with_programs : Setting → List (List Txn) → Setting
 with_programs setting programs = record setting { programs = programs }
 
 -- the setting after a line of a session
-abbrev pub pushed : Setting → ℕ → Line → Setting
+abbrev pub pushed : Setting → ℕ → SessionLine → Setting
 pushed setting number line = with_programs setting (slice_set setting.programs number (grown line (program_of setting number)))
 
 -- ---- a session between two lines
@@ -77,11 +45,11 @@ pub record IsWaiting (setting : Setting) (state : State) (number : ℕ) : Type 0
   pub answered : length begun.replies ≡ length txn.statements
 
 -- BEGIN comes between two transactions, any other line while one is open
-abbrev pub IsReady : Setting → State → ℕ → Line → Type 0
-IsReady setting state number (Opens read_only) = IsAtEnd setting state number
-IsReady setting state number (Says statement) = IsWaiting setting state number
-IsReady setting state number Commits = IsWaiting setting state number
-IsReady setting state number RollsBack = IsWaiting setting state number
+abbrev pub IsReady : Setting → State → ℕ → SessionLine → Type 0
+IsReady setting state number (Begin read_only) = IsAtEnd setting state number
+IsReady setting state number (Statement statement) = IsWaiting setting state number
+IsReady setting state number Commit = IsWaiting setting state number
+IsReady setting state number Rollback = IsWaiting setting state number
 
 -- it waits in a transaction that its script rolls back, as scripts do up to the line COMMIT
 abbrev pub IsUncommitted : Setting → State → ℕ → Type 0
@@ -119,12 +87,12 @@ pub record BetweenLines (setting : Setting) (turns : List ℕ) (state : State) :
 
 -- a reached state is reached in the setting with a line more
 abbrev pub LinesAreReached : Type 0
-LinesAreReached = (setting : Setting) (state : State) (number : ℕ) (line : Line) → IsReached setting state → IsReady setting state number line
+LinesAreReached = (setting : Setting) (state : State) (number : ℕ) (line : SessionLine) → IsReached setting state → IsReady setting state number line
     → IsReached (pushed setting number line) state
 
 -- answered turns are answered in the setting with a line more, and come to the same state
 abbrev pub LinesGoOn : Type 0
-LinesGoOn = (setting : Setting) (state : State) (turns : List ℕ) (number : ℕ) (line : Line) → AreAnswered setting (opening_of setting) turns state
+LinesGoOn = (setting : Setting) (state : State) (turns : List ℕ) (number : ℕ) (line : SessionLine) → AreAnswered setting (opening_of setting) turns state
     → IsReady setting state number line
     → AreAnswered (pushed setting number line) (opening_of (pushed setting number line)) turns state
 
@@ -140,38 +108,38 @@ AnswersAreReached = (setting : Setting) (state : State) (turns : List ℕ) → A
 
 -- a line is answered where each turn before it was, and no session is marked then
 abbrev pub LinesAreAnswered : Type 0
-LinesAreAnswered = (setting : Setting) (state : State) (turns : List ℕ) (number : ℕ) (line : Line) → AreAnswered setting (opening_of setting) turns state
+LinesAreAnswered = (setting : Setting) (state : State) (turns : List ℕ) (number : ℕ) (line : SessionLine) → AreAnswered setting (opening_of setting) turns state
     → IsReady setting state number line → number < length setting.programs
     → (next : State) × (AreAnswered (pushed setting number line) (opening_of (pushed setting number line)) (turns ++ number ∷ []) next) × (next.mark ≡ None)
 
 -- after the answer to a line its session waits for the next one, or is between two transactions
 abbrev pub AnswersLeaveReady : Type 0
-AnswersLeaveReady = (setting : Setting) (state next : State) (number : ℕ) (line : Line) → IsReady setting state number line
+AnswersLeaveReady = (setting : Setting) (state next : State) (number : ℕ) (line : SessionLine) → IsReady setting state number line
     → number < length setting.programs → number < length state.sessions → IsAnswered (pushed setting number line) number state next
     → IsWaiting (pushed setting number line) next number ⊎ IsAtEnd (pushed setting number line) next number
 
 -- a line that closes a transaction
-abbrev pub IsClosingLine : Line → Type 0
-IsClosingLine (Opens read_only) = ⊥
-IsClosingLine (Says statement) = ⊥
-IsClosingLine Commits = Unit {0}
-IsClosingLine RollsBack = Unit {0}
+abbrev pub IsClosingLine : SessionLine → Type 0
+IsClosingLine (Begin read_only) = ⊥
+IsClosingLine (Statement statement) = ⊥
+IsClosingLine Commit = Unit {0}
+IsClosingLine Rollback = Unit {0}
 
 -- after the answer to COMMIT or ROLLBACK its session is between two transactions
 abbrev pub ClosingsEnd : Type 0
-ClosingsEnd = (setting : Setting) (state next : State) (number : ℕ) (line : Line) → IsClosingLine line → IsReady setting state number line
+ClosingsEnd = (setting : Setting) (state next : State) (number : ℕ) (line : SessionLine) → IsClosingLine line → IsReady setting state number line
     → number < length setting.programs → number < length state.sessions → IsAnswered (pushed setting number line) number state next
     → IsAtEnd (pushed setting number line) next number
 
 -- a line and its answer leave the other sessions and their scripts as they are
 abbrev pub OthersStay : Type 0
-OthersStay = (setting : Setting) (state next : State) (number other : ℕ) (line : Line) → other ≢ number
+OthersStay = (setting : Setting) (state next : State) (number other : ℕ) (line : SessionLine) → other ≢ number
     → IsAnswered (pushed setting number line) number state next
     → (session_at next other ≡ session_at state other) × (program_of (pushed setting number line) other ≡ program_of setting other)
 
 -- where each session is between two lines, each is so after the answer to a line
 abbrev pub SessionsStayBetween : Type 0
-SessionsStayBetween = (setting : Setting) (state : State) (turns : List ℕ) (number : ℕ) (line : Line) → BetweenLines setting turns state
+SessionsStayBetween = (setting : Setting) (state : State) (turns : List ℕ) (number : ℕ) (line : SessionLine) → BetweenLines setting turns state
     → IsReady setting state number line → number < length setting.programs
     → BetweenLines (pushed setting number line) (turns ++ number ∷ []) (whole_of (pushed setting number line) state number)
 
@@ -241,11 +209,11 @@ DropsAreRuns = (setting : Setting) (state next : State) (turns : List ℕ) → B
 
 -- whole items that need not have been answered come to the same state in the setting with a line more
 abbrev pub AnyItemsGoOn : Type 0
-AnyItemsGoOn = (setting : Setting) (state : State) (turns : List ℕ) (number : ℕ) (line : Line)
+AnyItemsGoOn = (setting : Setting) (state : State) (turns : List ℕ) (number : ℕ) (line : SessionLine)
     → items_of setting (opening_of setting) (map whole_item turns) ≡ state → IsReady setting state number line
     → items_of (pushed setting number line) (opening_of (pushed setting number line)) (map whole_item turns) ≡ state
 
 -- a reached state is reached in the setting with a line more, whatever the line
 abbrev pub AnyLineIsReached : Type 0
-AnyLineIsReached = (setting : Setting) (state : State) (number : ℕ) (line : Line) → IsReached setting state
+AnyLineIsReached = (setting : Setting) (state : State) (number : ℕ) (line : SessionLine) → IsReached setting state
     → IsAtEnd setting state number ⊎ IsWaiting setting state number → IsReached (pushed setting number line) state

@@ -7,12 +7,9 @@ use Rattle.std.proofs.Math.ListN.{set}
 use Rattle.std.proofs.lemmas.Bool.{cases_eq, cases_lt}
 use Rattle.std.proofs.lemmas.List.Elements.{Contains-push_cases}
 use Rattle.std.proofs.lemmas.Option.{same_Some, slice_get_within, get_or_from_slice_get}
-use Rattle.hy_bound.specs.declared.Bound.{Bound}
-use Rattle.hy_bound.specs.declared.Bound.TheVariants.{Select, Group, Insert, Update, Delete, Savepoint, RollbackTo, Release}
 use Rattle.hy_prune.specs.declared.Cover.{Cover}
 use Rattle.hy_prune.specs.Fates.{watermark_of}
 use Rattle.hy_prune.specs.OpenStarts.{Rise}
-use Rattle.hy_plan.specs.declared.PlanPart.{PlanPart}
 use Rattle.hy_journal.specs.declared.CoreData.{CoreData}
 use Rattle.hy_journal.specs.declared.Entry.{Entry}
 use Rattle.hy_journal.specs.Core.{core_begun}
@@ -20,17 +17,16 @@ use Rattle.hy_event.specs.declared.SessionData.{SessionData}
 use Rattle.hy_event.specs.declared.Open.{Open}
 use Rattle.hy_protocol.specs.declared.Phase.{Phase}
 use Rattle.hy_protocol.specs.declared.Phase.TheVariants as phase
-use Rattle.hy_event.specs.Gathering.{select_read_plan}
 use Rattle.hy_event.specs.Turns.{beginning}
 use Rattle.hy_machine.specs.declared.Setting.{Setting}
 use Rattle.hy_machine.specs.States.{State, Session, Finished, Open as MachineOpen}
 use Rattle.hy_machine.specs.Positions.{item_at}
-use Rattle.hy_machine.specs.Tables.{Tables}
 use Rattle.hy_machine.specs.Sessions.{session_at, fresh, program_of, snapshot, view, pair_of, least_with, least_prefix, txn_at}
 use Rattle.hy_machine.specs.Outcomes.{outcomes_from}
 use Rattle.hy_machine.specs.Kept.{Fits, Starts}
 use Rattle.hy_refinement.specs.Numbers.{noted}
-use Rattle.hy_refinement.specs.Sessions.{CountsBelow, IsHeld, GatheredBy, tables_taken, statement_at, NowShows, OpenShows, SessionShows}
+use Rattle.hy_refinement.specs.Sessions.{CountsBelow, IsHeld, GatheredBy, statement_at, NowShows, OpenShows, SessionShows}
+use Rattle.hy_refinement.specs.Gathered.{gathered_first}
 use Rattle.hy_refinement.specs.Frames.{went_on, sessions_on}
 use Rattle.hy_refinement.specs.Shows.{SessionsShow}
 use Rattle.hy_refinement.proofs.Holders.{is_there, opened}
@@ -196,21 +192,6 @@ module _ (setting : Setting) (state : State) (core : CoreData) (sessions : List 
 
   -- ---- the one that begins
 
-  gathers_nothing : (tables : Tables) (statement : Option Bound) → GatheredBy setting tables 0 [] statement
-  gathers_nothing tables None = tt
-  gathers_nothing tables (Some (Select froms ons pred items)) = by_parts (select_read_plan setting.shapes froms ons pred items).parts
-    where
-      by_parts : (parts : List PlanPart) → [] ≡ tables_taken setting tables parts 0 [] parts
-      by_parts [] = refl
-      by_parts (part ∷ parts) = refl
-  gathers_nothing tables (Some (Group table pred key aggregate)) = refl
-  gathers_nothing tables (Some (Insert table row)) = refl
-  gathers_nothing tables (Some (Update table sets pred)) = refl
-  gathers_nothing tables (Some (Delete table pred)) = refl
-  gathers_nothing tables (Some (Savepoint name)) = refl
-  gathers_nothing tables (Some (RollbackTo name)) = refl
-  gathers_nothing tables (Some (Release name)) = refl
-
   abbrev visited_in : Phase → ℕ
   visited_in (phase.Working visited count) = visited
   visited_in (phase.Stamping visited) = visited
@@ -238,7 +219,7 @@ module _ (setting : Setting) (state : State) (core : CoreData) (sessions : List 
     gathered_shows = λ visited count e.
         subst (λ (n : ℕ). GatheredBy setting (view setting after (begun_there setting state).begun) n []
         (statement_at (txn_at setting number (session_at after number)) 0)) (ap visited_in e)
-        (gathers_nothing (view setting after (begun_there setting state).begun) (statement_at (txn_at setting number (session_at after number)) 0));
+        (gathered_first setting (view setting after (begun_there setting state).begun) (statement_at (txn_at setting number (session_at after number)) 0));
   }
 
   -- ---- the others

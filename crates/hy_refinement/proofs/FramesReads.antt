@@ -1,12 +1,10 @@
 -- A visit that reads leaves all as it is: the transaction goes on to the next visit or answers.
 use Rattle.std.proofs.Common.{◌≡◌, ℕ, suc, ◌+◌, ◌*◌, List, [], ◌∷◌, ◌++◌, length, Option, None, Some, refl, sym, ap, ◌∙◌, subst, set}
 use Rattle.hy_bound.specs.declared.Bound.{Bound}
-use Rattle.hy_bound.specs.declared.Bound.TheVariants.{Select, Group, Insert, Update, Delete, Savepoint, RollbackTo, Release}
 use Rattle.hy_bound.specs.declared.Record.{Record}
 use Rattle.hy_bound.specs.declared.Reply.{Reply}
 use Rattle.hy_bound.specs.declared.Shape.{Shape}
 use Rattle.hy_meaning.specs.Statement.{Table}
-use Rattle.hy_plan.specs.declared.PlanPart.{PlanPart}
 use Rattle.hy_plan.specs.Reads.{records_of}
 use Rattle.hy_undo.specs.Chunks.{ChunkData}
 use Rattle.hy_journal.specs.declared.CoreData.{CoreData}
@@ -17,15 +15,14 @@ use Rattle.hy_protocol.specs.declared.Phase.TheVariants as phase
 use Rattle.hy_protocol.specs.declared.Progress.{Progress}
 use Rattle.hy_protocol.specs.declared.Progress.TheVariants as came
 use Rattle.hy_event.specs.Events.{Part, ChunkPart}
-use Rattle.hy_event.specs.Gathering.{select_read_plan, group_read_plan}
 use Rattle.hy_event.specs.Turns.{Step, after_turn, answer_turn, with_changed, after_visit as visited_by, after_answer as answered_by}
 use Rattle.hy_machine.specs.declared.Setting.{Setting}
 use Rattle.hy_machine.specs.States.{State, Open as MachineOpen}
 use Rattle.hy_protocol.specs.Turns.{Visits, Answers, goes_on}
-use Rattle.hy_machine.specs.Tables.{Tables}
 use Rattle.hy_machine.specs.Sessions.{session_at, txn_at, view}
 use Rattle.hy_machine.specs.Steps.{after_visit, after_answer}
-use Rattle.hy_refinement.specs.Sessions.{OpenShows, GatheredBy, tables_taken, statement_at}
+use Rattle.hy_refinement.specs.Sessions.{OpenShows, GatheredBy, statement_at}
+use Rattle.hy_refinement.specs.Gathered.{gathered_first}
 use Rattle.hy_refinement.specs.Shows.{Shows}
 use Rattle.hy_refinement.specs.Taken.{AtChunk, IsTaken, chunk_number}
 use Rattle.hy_refinement.specs.Frames.{gone_on, went_on, sessions_on, KeepsStart, WentOn, OwnStepsShow}
@@ -35,24 +32,6 @@ use Rattle.hy_refinement.proofs.FramesStill.{IsStill, stands_still, works}
 use Rattle.hy_refinement.proofs.FramesSeen.{was_shown}
 
 -- ---- where it goes on to
-
--- before the first visit of a statement nothing is gathered
-pub none_taken : (setting : Setting) (tables : Tables) (all others : List PlanPart) → [] ≡ tables_taken setting tables all 0 [] others
-none_taken setting tables all [] = refl
-none_taken setting tables all (part ∷ others) = refl
-
-pub none_gathered : (setting : Setting) (tables : Tables) (statement : Option Bound) → GatheredBy setting tables 0 [] statement
-none_gathered setting tables None = tt
-none_gathered setting tables (Some (Select froms ons pred items)) =
-    let parts : List PlanPart = (select_read_plan setting.shapes froms ons pred items).parts in none_taken setting tables parts parts
-none_gathered setting tables (Some (Group table pred key aggregate)) =
-    let parts : List PlanPart = (group_read_plan setting.shapes table pred key aggregate).parts in none_taken setting tables parts parts
-none_gathered setting tables (Some (Insert table row)) = refl
-none_gathered setting tables (Some (Update table sets pred)) = refl
-none_gathered setting tables (Some (Delete table pred)) = refl
-none_gathered setting tables (Some (Savepoint name)) = refl
-none_gathered setting tables (Some (RollbackTo name)) = refl
-none_gathered setting tables (Some (Release name)) = refl
 
 -- what is recorded in the machine is what is recorded here
 pub same_records : (setting : Setting) (session : SessionData) (now : Open) (current : MachineOpen) (statement : Bound) (gathered : List Table)
@@ -129,7 +108,7 @@ answers_to setting state core number now current reply took here there was same 
   gathered_shows = λ other count e.
       subst (λ (n : ℕ). GatheredBy setting (view setting state current.begun) n []
       (statement_at (txn_at setting number (session_at state number)) (length (now.replies ++ reply ∷ [])))) (sym (next_of 0 0 other count e))
-      (none_gathered setting (view setting state current.begun)
+      (gathered_first setting (view setting state current.begun)
       (statement_at (txn_at setting number (session_at state number)) (length (now.replies ++ reply ∷ []))));
   stamping = λ other e. absurd cc;
 }

@@ -44,6 +44,7 @@ use Rattle.hy_machine.specs.Visits.{free_position}
 use Rattle.hy_machine.specs.Steps.{after_visit, after_answer}
 use Rattle.hy_refinement.specs.Transactions.{IsOpen}
 use Rattle.hy_refinement.specs.Sessions.{NotesShow, GatheredBy, OpenShows, statement_at}
+use Rattle.hy_refinement.specs.Gathered.{gathered_first}
 use Rattle.hy_refinement.specs.Parts.{ChunkIs}
 use Rattle.hy_refinement.specs.Free.{FreeIsTheMachines}
 use Rattle.hy_refinement.specs.Taken.{AtChunk, AtStatement, IsTaken, chunk_number}
@@ -57,7 +58,7 @@ use Rattle.hy_refinement.proofs.PlacesShown.{view_empty}
 use Rattle.hy_refinement.proofs.PlacesFirst.{same_first, first_passes}
 use Rattle.hy_refinement.proofs.FramesTurns.{chunk_still}
 use Rattle.hy_refinement.proofs.PlacesChunk.{within, placed_elsewhere, chunk_placed}
-use Rattle.hy_refinement.proofs.PlacesWork.{at_work_in, gathered_first}
+use Rattle.hy_refinement.proofs.PlacesWork.{at_work_in}
 
 -- the laws by which a visit is the machine's
 pub record Laws : Type 0 where

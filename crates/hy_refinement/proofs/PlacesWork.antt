@@ -1,52 +1,23 @@
--- An open transaction at work in a chunk that it visits, and what it has gathered before its next statement.
-use Rattle.std.proofs.Common.{◌≡◌, ℕ, List, [], ◌∷◌, Option, None, Some, true, false, refl, sym, ap, ◌∙◌, arith}
+-- An open transaction at work in a chunk that it visits.
+use Rattle.std.proofs.Common.{◌≡◌, ℕ, List, Some, true, false, sym, ap, ◌∙◌, arith}
 use Rattle.std.proofs.lemmas.Option.{same_Some}
 use Rattle.hy_stamp.specs.declared.Label.{Label}
 use Rattle.hy_stamp.specs.Times.{IsLabel, id_of}
-use Rattle.hy_bound.specs.declared.Bound.{Bound}
-use Rattle.hy_bound.specs.declared.Bound.TheVariants.{Select, Group, Insert, Update, Delete, Savepoint, RollbackTo, Release}
-use Rattle.hy_plan.specs.declared.PlanPart.{PlanPart}
 use Rattle.hy_undo.specs.Chunks.{ChunkData}
 use Rattle.hy_journal.specs.declared.CoreData.{CoreData}
 use Rattle.hy_event.specs.declared.SessionData.{SessionData}
 use Rattle.hy_event.specs.declared.Open.{Open}
 use Rattle.hy_protocol.specs.declared.Phase.TheVariants as phase
 use Rattle.hy_protocol.specs.Turns.{is_stamping}
-use Rattle.hy_event.specs.Gathering.{select_read_plan, group_read_plan}
 use Rattle.hy_event.specs.Sessions.{label_of}
 use Rattle.hy_event.specs.Events.{Part}
 use Rattle.hy_machine.specs.declared.Setting.{Setting}
 use Rattle.hy_machine.specs.States.{State, Open as MachineOpen}
-use Rattle.hy_machine.specs.Tables.{Tables}
 use Rattle.hy_machine.specs.Holding.{undone}
 use Rattle.hy_refinement.specs.Transactions.{IsOpen}
-use Rattle.hy_refinement.specs.Sessions.{GatheredBy, tables_taken}
 use Rattle.hy_refinement.specs.Taken.{AtChunk}
 use Rattle.hy_refinement.proofs.RivalTops.{open_shown}
 use Rattle.hy_refinement.proofs.WritesChunk.{AtWork}
-
--- ---- what is gathered
-
-none_gathered : (setting : Setting) (tables : Tables) (all parts : List PlanPart) → tables_taken setting tables all 0 [] parts ≡ []
-none_gathered setting tables all [] = refl
-none_gathered setting tables all (part ∷ parts) = refl
-
--- before the first visit nothing is
-pub gathered_first : (setting : Setting) (tables : Tables) (statement : Option Bound) → GatheredBy setting tables 0 [] statement
-gathered_first setting tables None = tt
-gathered_first setting tables (Some (Select froms ons pred items)) =
-    sym (none_gathered setting tables (select_read_plan setting.shapes froms ons pred items).parts (select_read_plan setting.shapes froms ons pred items).parts)
-gathered_first setting tables (Some (Group table pred key aggregate)) =
-    sym (none_gathered setting tables (group_read_plan setting.shapes table pred key aggregate).parts
-    (group_read_plan setting.shapes table pred key aggregate).parts)
-gathered_first setting tables (Some (Insert table row)) = refl
-gathered_first setting tables (Some (Update table sets pred)) = refl
-gathered_first setting tables (Some (Delete table pred)) = refl
-gathered_first setting tables (Some (Savepoint name)) = refl
-gathered_first setting tables (Some (RollbackTo name)) = refl
-gathered_first setting tables (Some (Release name)) = refl
-
--- ---- at work
 
 module _ (one_id : (a b : Label) → IsLabel a → IsLabel b → id_of a ≡ id_of b → a ≡ b) (setting : Setting) (state : State) (parts : List Part)
     (sessions : List SessionData) (number : ℕ) (session : SessionData) (now : Open) (current : MachineOpen) (table chunk : ℕ) (old : ChunkData)

@@ -1,5 +1,5 @@
 -- A statement that opens or closes savepoints is answered: the savepoints are those after it.
-use Rattle.std.proofs.Common.{◌≡◌, ℕ, ◌+◌, ◌*◌, List, [], ◌∷◌, ◌++◌, length, map, Option, None, Some, refl, sym, ap, ◌∙◌, subst}
+use Rattle.std.proofs.Common.{◌≡◌, ℕ, ◌+◌, ◌*◌, List, [], ◌∷◌, ◌++◌, length, map, Option, None, refl, sym, ap, ◌∙◌, subst}
 use Rattle.std.specs.Prelude.{slice_set}
 use Rattle.std.specs.Option.{option_map}
 use Rattle.hy_value.specs.declared.change.Change.{Change}
@@ -9,7 +9,6 @@ use Rattle.hy_bound.specs.declared.Reply.{Reply}
 use Rattle.hy_bound.specs.Savepoints.{Saved, saved_after}
 use Rattle.hy_bound.specs.SavedRelations.{AreAlike, saved_after_alike}
 use Rattle.hy_journal.specs.declared.CoreData.{CoreData}
-use Rattle.hy_event.specs.declared.SessionData.{SessionData}
 use Rattle.hy_event.specs.declared.Open.{Open}
 use Rattle.hy_event.specs.Sessions.{savepoint_of}
 use Rattle.hy_event.specs.Events.{Part, CorePart}
@@ -19,10 +18,11 @@ use Rattle.hy_protocol.specs.declared.Progress.TheVariants as came_to
 use Rattle.hy_protocol.specs.Turns.{Saves}
 use Rattle.hy_machine.specs.declared.Setting.{Setting}
 use Rattle.hy_machine.specs.States.{State, Open as MachineOpen}
-use Rattle.hy_machine.specs.Steps.{after_turn, after_saving, with_session}
+use Rattle.hy_machine.specs.Steps.{after_saving, with_session}
 use Rattle.hy_machine.specs.Tables.{Tables}
 use Rattle.hy_machine.specs.Sessions.{session_at, snapshot, txn_at, view}
 use Rattle.hy_refinement.specs.Sessions.{SinceHave, GatheredBy, OpenShows, statement_at}
+use Rattle.hy_refinement.specs.Gathered.{gathered_first}
 use Rattle.hy_refinement.specs.Shows.{Shows}
 use Rattle.hy_refinement.specs.Taken.{core_number}
 use Rattle.hy_refinement.specs.CoreVisits.{SavesAreTaken}
@@ -31,7 +31,6 @@ use Rattle.hy_refinement.proofs.RivalTops.{open_shown}
 use Rattle.hy_refinement.proofs.CoreTaken.{core_taken}
 use Rattle.hy_refinement.proofs.FramesLists.{set_same}
 use Rattle.hy_refinement.proofs.FramesStill.{IsStill, stands_still, works}
-use Rattle.hy_refinement.proofs.PlacesWork.{gathered_first}
 use Rattle.hy_refinement.proofs.Since.{fresh_since}
 
 -- what is kept of savepoints as others tell it is what they keep

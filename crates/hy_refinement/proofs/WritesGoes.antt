@@ -2,9 +2,7 @@
 use Rattle.std.proofs.Common.{◌≡◌, ℕ, suc, ◌+◌, ◌*◌, List, [], ◌∷◌, ◌++◌, length, Option, None, Some, Ok, Bool, true, false}
 use Rattle.std.proofs.Common.{refl, sym, ap, ◌∙◌, subst, cond}
 use Rattle.std.specs.Prelude.{slice_set, nat_lt}
-use Rattle.hy_stamp.specs.declared.Label.{Label}
 use Rattle.hy_stamp.specs.declared.Viewer.{Viewer}
-use Rattle.hy_stamp.specs.Times.{IsLabel, id_of}
 use Rattle.hy_bound.specs.declared.Assign.{Assign}
 use Rattle.hy_bound.specs.declared.Record.{Record}
 use Rattle.hy_bound.specs.declared.Reply.{Reply}
@@ -24,31 +22,28 @@ use Rattle.hy_event.specs.Sessions.{label_of, viewer_of}
 use Rattle.hy_event.specs.Changing.{OnlyPlaces, changes_from}
 use Rattle.hy_event.specs.Events.{Part, ChunkPart}
 use Rattle.hy_protocol.specs.Turns.{Visits as Visits_here}
-use Rattle.hy_event.specs.Turns.{Takes, with_notes, after_visit as visited_by, after_answer as answered_by, answer_turn}
+use Rattle.hy_event.specs.Turns.{Takes, after_answer as answered_by, answer_turn}
 use Rattle.hy_event.specs.Writing.{write_turn as write_turn_here, told_by as told_here}
 use Rattle.hy_machine.specs.declared.Setting.{Setting}
 use Rattle.hy_machine.specs.States.{State, Open as MachineOpen}
 use Rattle.hy_protocol.specs.Turns.{Visits, Answers}
 use Rattle.hy_protocol.specs.Statements.{told_by}
 use Rattle.hy_machine.specs.Turns.{write_turn, answers}
-use Rattle.hy_machine.specs.Writes.{Write, with_writes}
+use Rattle.hy_machine.specs.Writes.{Write}
 use Rattle.hy_machine.specs.Tables.{Tables}
 use Rattle.hy_machine.specs.Sessions.{session_at, view, txn_at}
 use Rattle.hy_protocol.specs.Statements.{kind_of}
-use Rattle.hy_machine.specs.Steps.{after_visit, after_answer}
+use Rattle.hy_machine.specs.Steps.{after_answer}
 use Rattle.hy_refinement.specs.Sessions.{NotesShow, GatheredBy, OpenShows, statement_at, SessionIs}
+use Rattle.hy_refinement.specs.Gathered.{gathered_first}
 use Rattle.hy_refinement.specs.Parts.{ChunkIs}
-use Rattle.hy_refinement.specs.Rivals.{RivalsAreOpponents}
 use Rattle.hy_refinement.specs.Shows.{Shows}
 use Rattle.hy_refinement.specs.Taken.{AtChunk, AtStatement, IsTaken, chunk_number}
 use Rattle.hy_refinement.specs.Frames.{gone_on, sessions_on, WentOn, ChunkShows}
-use Rattle.hy_refinement.specs.Frames.{UnmovedPlacesShow, ChunkVisitsShow, PrunedChunksShow, VisitedChunksShow, GoingOnIsTaken, NotesFollowWrites}
 use Rattle.hy_refinement.specs.Visits.{statement_by}
 use Rattle.hy_refinement.proofs.RivalTops.{open_shown}
-use Rattle.hy_refinement.proofs.FramesTurns.{chunk_still}
-use Rattle.hy_refinement.proofs.PlacesWork.{gathered_first}
 use Rattle.hy_refinement.proofs.WritesOwn.{writes_from}
-use Rattle.hy_refinement.proofs.WritesSweep.{swept_long, same_count, written_long}
+use Rattle.hy_refinement.proofs.WritesSweep.{swept_long, same_count}
 use Rattle.hy_refinement.proofs.WritesNotes.{noting, writing}
 use Rattle.hy_refinement.proofs.WritesChunk.{AtWork, WritesOn, AreQuiet, swept_quiet}
 use Rattle.hy_refinement.proofs.WritesShown.{Laws, written_notes, written_shown, visit_taken}

@@ -1,20 +1,14 @@
 -- What is shown after a visit in which cells are written, and that a visit that isn't the last one is the machine's turn.
-use Rattle.std.proofs.Common.{◌≡◌, ℕ, suc, ◌+◌, ◌*◌, List, [], ◌∷◌, ◌++◌, length, Option, None, Some, Ok, Bool, true, false}
-use Rattle.std.proofs.Common.{refl, sym, ap, ◌∙◌, subst, cond}
-use Rattle.std.specs.Prelude.{slice_set, nat_lt}
+use Rattle.std.proofs.Common.{◌≡◌, ℕ, ◌+◌, ◌*◌, List, length, Option}
+use Rattle.std.proofs.Common.{refl, ap, ◌∙◌}
+use Rattle.std.specs.Prelude.{slice_set}
 use Rattle.hy_stamp.specs.declared.Label.{Label}
 use Rattle.hy_stamp.specs.declared.Viewer.{Viewer}
 use Rattle.hy_stamp.specs.Times.{IsLabel, id_of}
-use Rattle.hy_bound.specs.declared.Assign.{Assign}
-use Rattle.hy_bound.specs.declared.Record.{Record}
-use Rattle.hy_bound.specs.declared.Reply.{Reply}
-use Rattle.hy_bound.specs.Condition.{Condition}
 use Rattle.hy_value.specs.declared.change.Change.{Change}
-use Rattle.hy_plan.specs.Reads.{records_of}
-use Rattle.hy_meaning.specs.Statement.{Table}
 use Rattle.hy_undo.specs.Places.{Cell}
 use Rattle.hy_undo.specs.Chunks.{ChunkData}
-use Rattle.hy_undo.specs.Sweeps.{swept, AllWritten}
+use Rattle.hy_undo.specs.Sweeps.{AllWritten}
 use Rattle.hy_journal.specs.declared.CoreData.{CoreData}
 use Rattle.hy_event.specs.declared.SessionData.{SessionData}
 use Rattle.hy_event.specs.declared.Open.{Open}
@@ -24,31 +18,25 @@ use Rattle.hy_event.specs.Sessions.{label_of, viewer_of}
 use Rattle.hy_event.specs.Changing.{OnlyPlaces, changes_from}
 use Rattle.hy_event.specs.Events.{Part, ChunkPart}
 use Rattle.hy_protocol.specs.Turns.{Visits as Visits_here}
-use Rattle.hy_event.specs.Turns.{Takes, with_notes, after_visit as visited_by, after_answer as answered_by, answer_turn}
-use Rattle.hy_event.specs.Writing.{write_turn as write_turn_here, told_by as told_here}
+use Rattle.hy_event.specs.Turns.{Takes, after_visit as visited_by}
 use Rattle.hy_machine.specs.declared.Setting.{Setting}
 use Rattle.hy_machine.specs.States.{State, Open as MachineOpen}
-use Rattle.hy_protocol.specs.Turns.{Visits, Answers}
-use Rattle.hy_protocol.specs.Statements.{told_by}
-use Rattle.hy_machine.specs.Turns.{write_turn, answers}
-use Rattle.hy_machine.specs.Writes.{Write, with_writes}
+use Rattle.hy_protocol.specs.Turns.{Visits}
+use Rattle.hy_machine.specs.Writes.{Write}
 use Rattle.hy_machine.specs.Tables.{Tables}
 use Rattle.hy_machine.specs.Sessions.{session_at, view, txn_at}
-use Rattle.hy_protocol.specs.Statements.{kind_of}
-use Rattle.hy_machine.specs.Steps.{after_visit, after_answer}
+use Rattle.hy_machine.specs.Steps.{after_visit}
 use Rattle.hy_refinement.specs.Sessions.{NotesShow, GatheredBy, OpenShows, statement_at, SessionIs}
 use Rattle.hy_refinement.specs.Parts.{ChunkIs}
 use Rattle.hy_refinement.specs.Rivals.{RivalsAreOpponents}
 use Rattle.hy_refinement.specs.Shows.{Shows}
-use Rattle.hy_refinement.specs.Taken.{AtChunk, AtStatement, IsTaken, chunk_number}
+use Rattle.hy_refinement.specs.Taken.{AtChunk, IsTaken, chunk_number}
 use Rattle.hy_refinement.specs.Frames.{gone_on, sessions_on, WentOn, ChunkShows}
 use Rattle.hy_refinement.specs.Frames.{UnmovedPlacesShow, ChunkVisitsShow, PrunedChunksShow, VisitedChunksShow, GoingOnIsTaken, NotesFollowWrites}
-use Rattle.hy_refinement.specs.Visits.{statement_by}
 use Rattle.hy_refinement.proofs.RivalTops.{open_shown}
 use Rattle.hy_refinement.proofs.FramesTurns.{chunk_still}
-use Rattle.hy_refinement.proofs.PlacesWork.{gathered_first}
 use Rattle.hy_refinement.proofs.WritesOwn.{writes_from}
-use Rattle.hy_refinement.proofs.WritesSweep.{swept_long, same_count, written_long}
+use Rattle.hy_refinement.proofs.WritesSweep.{same_count, written_long}
 use Rattle.hy_refinement.proofs.WritesNotes.{notes_written, noting, writing}
 use Rattle.hy_refinement.proofs.WritesChunk.{AtWork, WritesOn, AreQuiet, chunk_room, fits, trail_fits, sees_view, stands_elsewhere, chunk_written}
 

@@ -2,6 +2,7 @@ pub mod Stamped
 pub mod Transactions
 pub mod Numbers
 pub mod Sessions
+pub mod Gathered
 pub mod Places
 pub mod Parts
 pub mod Shows

@@ -105,9 +105,9 @@ tables_taken setting tables parts left before (part ∷ others) =
 abbrev pub gathered_after : Setting → Tables → ReadPlan → ℕ → List Table
 gathered_after setting tables plan visited = tables_taken setting tables plan.parts visited [] plan.parts
 
--- the gathered rows are those of the visited chunks
+-- the gathered rows are those of the visited chunks; none are where no statement is left
 abbrev pub GatheredBy : Setting → Tables → ℕ → List Table → Option Bound → Type 0
-GatheredBy setting tables visited gathered None = Unit {0}
+GatheredBy setting tables visited gathered None = gathered ≡ []
 GatheredBy setting tables visited gathered (Some (Select froms ons pred items)) =
     gathered ≡ gathered_after setting tables (select_read_plan setting.shapes froms ons pred items) visited
 GatheredBy setting tables visited gathered (Some (Group table pred key aggregate)) =

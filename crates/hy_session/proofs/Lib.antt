@@ -17,7 +17,9 @@ mod Results
 mod Dispatch
 mod ShortChains
 mod OpenVisits
+mod PassedChunks
 mod OrderedPlaces
 mod NotedSeeks
 mod OrderedNotes
 mod NextChunks
+mod GrownScripts

@@ -10,3 +10,5 @@ pub mod Reading
 pub mod Visitors
 pub mod Written
 pub mod Standing
+pub mod Passing
+pub mod Latest

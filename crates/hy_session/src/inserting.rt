@@ -1,6 +1,7 @@
 //! Visits of an INSERT.
 
-ghost use Rattle.std.specs.Prelude.{length, ◌≡◌, ◌<◌, ◌≤◌, suc, true, false, nat_lt, if◌then◌else◌, Some, IfOk, OnErr, OnOk};
+ghost use Rattle.std.specs.Prelude.{length, take, ◌≡◌, ◌<◌, ◌≤◌, ◌+◌, ◌^◌, suc, true, nat_lt, if◌then◌else◌, Some, IfOk, OnErr, OnOk};
+ghost use Rattle.std.specs.List.{All, AllByRecursion};
 ghost use Rattle.hy_protocol.specs.declared.Phase.{Phase};
 ghost use Rattle.hy_protocol.specs.declared.Progress.{Progress};
 ghost use Rattle.hy_bound.specs.declared.Ending.{Ending};
@@ -8,6 +9,7 @@ ghost use Rattle.hy_bound.specs.declared.Bound.{Bound};
 ghost use Rattle.hy_bound.specs.Records.{shape_of};
 ghost use Rattle.hy_event.specs.Inserting.{CheckVisit, PlaceVisit, InsertVisit};
 ghost use Rattle.hy_visit.specs.Pruning.{AllShort};
+ghost use Rattle.hy_session.specs.Passing.{AreAlike, GoesPast, GoneTo, MayBePassed};
 ghost use Rattle.hy_session.specs.Visitors.{ForVisitor, ShortAt};
 ghost use Rattle.hy_session.specs.Written.{CanInsert, HasCome};
 
@@ -19,6 +21,7 @@ use hy_chunk::Chunk;
 use hy_notes::Changes;
 use hy_protocol::{Phase, Progress};
 use hy_prune::Cover;
+use hy_stamp::Viewer;
 use hy_value::Row;
 use hy_visit::{Writer, check_visit, is_passed, place_visit};
 use std::alloc::{AllocError, Global};
@@ -179,89 +182,99 @@ fn place(
     }
 }
 
-/// Goes past a chunk in which the key of the row is not seen, and answers whether it does.
-fn pass_check(
-    visitor: &Visitor,
-    insertion: &Insertion,
-    key: u32,
-    now: &mut OpenTransaction,
-    chunk: &mut Chunk,
-) -> bool
-    requires { insertion.now.present.visited < visitor.now.chunks }
-    ensures event { result ≡ true → ForVisitor visitor.now now.old now.new (λ session after.
-        CheckVisit session now.old insertion.now.present.visited insertion.now.present.statement.now insertion.now.row.now
-        (Some key) chunk.old.shown Progress.Moved after chunk.new.shown) }
-    ensures kept { result ≡ false → now.new ≡ now.old }
-    ensures all { chunk.new ≡ chunk.old }
-{
-    let viewer = visitor.viewer(now.start);
-    if check_visit(chunk, &viewer, insertion.row, key) {
-        return false;
-    }
-    now.phase = Phase::Working {
-        visited: insertion.present.visited + 1,
-        count: 0,
-    };
-    true
+/// What visits of an INSERT look for: the key of its row, or else a free position.
+#[derive(Clone, Copy)]
+struct Sought<'a> {
+    /// As whom they look.
+    viewer: Viewer,
+    /// The row.
+    row: &'a Row,
+    /// The column of the key, if they look for it.
+    key: Option<u32>,
+    /// The starts that pruning covers.
+    cover: &'a Cover,
+    /// Whether they prune.
+    prunes: bool,
 }
 
-/// Goes past the chunk of this number, where it is seen without a look at its positions that none is free and that there
-/// is nothing to prune, and answers whether it does.
-fn pass_place(
-    visitor: &Visitor,
-    insertion: &Insertion,
-    number: u32,
-    now: &mut OpenTransaction,
-    chunk: &Chunk,
-) -> bool
-    requires can { CanInsert visitor.now insertion.now now.old.cover chunk.now }
-    requires within { number ≤ insertion.now.present.visited }
-    ensures event { result ≡ true → ForVisitor visitor.now now.old now.new (λ session after.
-        PlaceVisit session now.old insertion.now.present.visited number insertion.now.present.statement.now insertion.now.table insertion.now.row.now
-        chunk.now.shown Progress.Moved after chunk.now.shown) }
-    ensures short { result ≡ true → visitor.now.prunes ≡ true → AllShort now.old.cover chunk.now.shown.places }
-    ensures kept { result ≡ false → now.new ≡ now.old }
-{
-    let Some(visited) = insertion.present.visited.checked_add(1) else {
-        return false;
-    };
-    if !is_passed(chunk, &now.cover, visitor.prunes) {
-        return false;
+impl Sought<'_> {
+    /// Whether a visit goes past a chunk and leaves it as it is, where that is seen at once.
+    fn goes_past(&self, chunk: &mut Chunk) -> bool
+        requires { MayBePassed chunk.old }
+        ensures past { result ≡ true → GoesPast self.now.key self.now.viewer self.now.row.now self.now.prunes self.now.cover.now chunk.old.shown }
+        ensures all { chunk.new ≡ chunk.old }
+    {
+        match self.key {
+            Some(key) => !check_visit(chunk, &self.viewer, self.row, key),
+            None => is_passed(chunk, self.cover, self.prunes),
+        }
     }
-    now.phase = next_phase(visitor, insertion, visited, number);
-    true
+
+    /// How many chunks visits go past, of the first ones of these.
+    fn count_passed(&self, chunks: &mut [Chunk], most: usize) -> usize
+        requires within { most ≤ length chunks.old }
+        requires may { All MayBePassed chunks.old }
+        ensures few { result ≤ most }
+        ensures past { AllByRecursion
+            (λ chunk. GoesPast self.now.key self.now.viewer self.now.row.now self.now.prunes self.now.cover.now chunk.shown)
+            (take result chunks.old) }
+        ensures all { chunks.new ≡ chunks.old }
+    {
+        for number in 0..most {
+            if !self.goes_past(&mut chunks[number]) {
+                return number;
+            }
+        }
+        most
+    }
 }
 
-/// Goes past a chunk in which an INSERT neither ends nor changes anything, where that is seen at once, and answers whether it
-/// does. It takes no memory.
+/// The column of the key that the next visits of an INSERT look for, none where they look for a position, and how many look
+/// for the same. The one that looks for a position in the last chunk is none of them.
+fn alike(visitor: &Visitor, insertion: &Insertion) -> (Option<u32>, u32)
+    ensures alike { AreAlike visitor.now.chunks (shape_of visitor.now.shapes.now insertion.now.table).key insertion.now.present.visited result.0 result.1 }
+    ensures few { insertion.now.present.visited + result.1 < 2 ^ 32 }
+{
+    let visited = insertion.present.visited;
+    let chunks = visitor.chunks;
+    let others = chunks.saturating_sub(1);
+    match table_shape(visitor.shapes, insertion.table).key {
+        Some(key) if visited < chunks => (Some(key), chunks - visited),
+        Some(_) => (None, chunks.saturating_add(others).saturating_sub(visited)),
+        None => (None, others.saturating_sub(visited)),
+    }
+}
+
+/// Goes past the first ones of these chunks for as long as an INSERT neither ends in them nor changes anything, where that is
+/// seen at once, and answers how many they are. It takes no memory.
 pub fn pass(
     visitor: &Visitor,
     insertion: &Insertion,
     now: &mut OpenTransaction,
-    chunk: &mut Chunk,
-) -> bool
-    requires { CanInsert visitor.now insertion.now now.old.cover chunk.old }
-    ensures event { result ≡ true → ForVisitor visitor.now now.old now.new (λ session after.
-        InsertVisit session now.old insertion.now.present.visited insertion.now.present.statement.now insertion.now.table insertion.now.row.now
-        (shape_of session.shapes insertion.now.table).key chunk.old.shown Progress.Moved after chunk.new.shown) }
-    ensures short { result ≡ true → ShortAt visitor.now insertion.now.present.visited
-        (Bound.Insert insertion.now.table insertion.now.row.now) now.old.cover chunk.new.shown }
-    ensures kept { result ≡ false → now.new ≡ now.old }
-    ensures all { chunk.new ≡ chunk.old }
+    chunks: &mut [Chunk],
+) -> usize
+    requires { All MayBePassed chunks.old }
+    ensures few { result ≤ length chunks.old }
+    ensures gone { GoneTo visitor.now insertion.now.table insertion.now.row.now insertion.now.present.visited now.old (take result chunks.old) now.new }
+    ensures all { chunks.new ≡ chunks.old }
 {
-    match table_shape(visitor.shapes, insertion.table).key {
-        Some(key) if insertion.present.visited < visitor.chunks => {
-            pass_check(visitor, insertion, key, now, chunk)
-        }
-        Some(_) => {
-            let number = insertion.present.visited - visitor.chunks;
-            pass_place(visitor, insertion, number, now, chunk)
-        }
-        None => {
-            let number = insertion.present.visited;
-            pass_place(visitor, insertion, number, now, chunk)
-        }
+    let (key, left) = alike(visitor, insertion);
+    let sought = Sought {
+        viewer: visitor.viewer(now.start),
+        row: insertion.row,
+        key,
+        cover: &now.cover,
+        prunes: visitor.prunes,
+    };
+    let most = chunks.len().min(left as usize);
+    let passed = sought.count_passed(chunks, most);
+    if passed > 0 {
+        now.phase = Phase::Working {
+            visited: insertion.present.visited + passed as u32,
+            count: 0,
+        };
     }
+    passed
 }
 
 /// A visit of an INSERT. Err is for want of memory, and changes nothing.

@@ -1,15 +1,19 @@
 //! Visits of chunks.
 
-ghost use Rattle.std.specs.Prelude.{◌≡◌, ℕ, List, None, true, false, IfOk, OnErr, OnOk};
+ghost use Rattle.std.specs.Prelude.{◌≡◌, ◌≤◌, ℕ, List, None, true, false, IfOk, OnErr, OnOk, length, take};
+ghost use Rattle.std.specs.List.{All};
 ghost use Rattle.std.specs.Option.{option_copied};
 ghost use Rattle.hy_bound.specs.declared.Bound.{Bound};
 ghost use Rattle.hy_event.specs.Events.{ChunkEvent, StatementVisit};
+ghost use Rattle.hy_event.specs.Needs.{need_of};
 ghost use Rattle.hy_event.specs.Sessions.{notes_since};
+ghost use Rattle.hy_event.specs.declared.Need.{Need};
 ghost use Rattle.hy_visit.specs.Backing.{MayAllGoBack};
 ghost use Rattle.hy_protocol.specs.declared.Progress.{Progress};
 ghost use Rattle.hy_session.specs.Entered.{has_entry};
 ghost use Rattle.hy_session.specs.Limits.{IsSavedInOrder};
 ghost use Rattle.hy_session.specs.Near.{NearChunk};
+ghost use Rattle.hy_session.specs.Passing.{MayBePassed, Passes};
 ghost use Rattle.hy_session.specs.Preparing.{kind_in, kind_of};
 ghost use Rattle.hy_session.specs.Short.{LeavesShort};
 ghost use Rattle.hy_session.specs.Visitors.{CanWork, ForVisitor, ShortAt, gathers, is_reading};
@@ -28,6 +32,7 @@ use hy_protocol::{Phase, Progress};
 use hy_render::TxnOutcome;
 use hy_value::Seq;
 use std::alloc::{AllocError, Global};
+use std::slice;
 
 /// Whether a statement is a SELECT.
 fn gathers(statement: &Bound) -> bool
@@ -100,35 +105,6 @@ fn visit_statement(
             };
             write_rows(alloc, visitor, &delete, now, chunk)
         }
-    }
-}
-
-/// Goes past a chunk in which the present statement, if it is an INSERT, neither ends nor changes anything, where that is
-/// seen at once, and answers whether it does. It takes no memory.
-fn pass_statement(
-    visitor: &Visitor,
-    present: &Present,
-    now: &mut OpenTransaction,
-    chunk: &mut Chunk,
-) -> bool
-    requires { gathers present.now.statement.now ≡ false → CanWork visitor.now now.old.cover present.now.statement.now chunk.old }
-    ensures event { result ≡ true → ForVisitor visitor.now now.old now.new (λ session after.
-        StatementVisit session now.old present.now.visited present.now.count present.now.statement.now
-        chunk.old.shown Progress.Moved after chunk.new.shown) }
-    ensures short { result ≡ true → ShortAt visitor.now present.now.visited present.now.statement.now now.old.cover chunk.new.shown }
-    ensures kept { result ≡ false → now.new ≡ now.old }
-    ensures all { chunk.new ≡ chunk.old }
-{
-    match present.statement {
-        Bound::Insert { table, row } => {
-            let insertion = Insertion {
-                present: *present,
-                table: *table,
-                row,
-            };
-            pass(visitor, &insertion, now, chunk)
-        }
-        _ => false,
     }
 }
 
@@ -226,45 +202,63 @@ impl Session {
         Ok(progress)
     }
 
-    /// Goes past a chunk, which it needs, where an INSERT neither ends in it nor changes anything and that is seen at once: by the
-    /// index of the keys, or by what is known of the chunk as a whole. It answers whether it did; else nothing changes. It
-    /// takes no memory.
-    pub fn pass(&mut self, chunk: &mut Chunk) -> bool
-        requires { NearChunk self.old chunk.old }
-        ensures event { result ≡ true → ChunkEvent self.old chunk.old.shown Progress.Moved self.new chunk.new.shown }
-        ensures short { result ≡ true → LeavesShort self.old self.old.now chunk.new.shown }
-        ensures kept { result ≡ false → self.new ≡ self.old }
-        ensures all { chunk.new ≡ chunk.old }
+    /// Goes past the first ones of these chunks, which it needs one after another, for as long as an INSERT neither ends in them
+    /// nor changes anything and that is seen at once: by the index of the keys, or by what is known of a chunk as a whole. It
+    /// answers how many they are, takes no memory, and stops before the last chunk that may have a position.
+    pub fn pass(&mut self, chunks: &mut [Chunk]) -> usize
+        requires { All MayBePassed chunks.old }
+        ensures passes { (table number : ℕ) → need_of self.old ≡ Need.Chunk table number → Passes self.old table number (take result chunks.old) self.new }
+        ensures few { result ≤ length chunks.old }
+        ensures all { chunks.new ≡ chunks.old }
     {
+        if self.done.len() >= self.program.as_slice().len() {
+            return 0;
+        }
         let label = self.label();
-        let prunes = self.prunes;
         let Some(txn) = self.program.as_slice().get(self.done.len()) else {
-            return false;
+            return 0;
         };
         let visitor = Visitor {
             label,
             id: label.id(),
             shapes: self.shapes.as_slice(),
             chunks: self.chunks,
-            prunes,
+            prunes: self.prunes,
         };
         let Some(now) = &mut self.now else {
-            return false;
+            return 0;
         };
-        // Notes stay in order where more are made.
-        notes_tell();
         let Phase::Working { visited, count } = now.phase else {
-            return false;
+            return 0;
         };
         let Some(statement) = txn.statements.as_slice().get(now.replies.len()) else {
-            return false;
+            return 0;
+        };
+        let Bound::Insert { table, row } = statement else {
+            return 0;
         };
         let present = Present {
             statement,
             visited,
             count,
         };
-        pass_statement(&visitor, &present, now, chunk)
+        let insertion = Insertion {
+            present,
+            table: *table,
+            row,
+        };
+        pass(&visitor, &insertion, now, chunks)
+    }
+
+    /// Goes past a chunk, which it needs, as `pass` does, and answers whether it did; else nothing changes.
+    fn pass_one(&mut self, chunk: &mut Chunk) -> bool
+        requires { NearChunk self.old chunk.old }
+        ensures event { result ≡ true → ChunkEvent self.old chunk.old.shown Progress.Moved self.new chunk.new.shown }
+        ensures short { result ≡ true → LeavesShort self.old self.old.now chunk.new.shown }
+        ensures kept { result ≡ false → self.new ≡ self.old }
+        ensures all { chunk.new ≡ chunk.old }
+    {
+        self.pass(slice::from_mut(chunk)) > 0
     }
 
     /// Visits a chunk, which it needs: it reads or writes there for the present statement, or stamps or undoes what its
@@ -280,7 +274,7 @@ impl Session {
     {
         if self.is_reading() {
             self.read(alloc, chunk)
-        } else if self.pass(chunk) {
+        } else if self.pass_one(chunk) {
             Ok(Progress::Moved)
         } else {
             self.change(alloc, chunk)

@@ -1,4 +1,5 @@
--- More steps than a session has left, and more rounds than end it all, change nothing.
+-- More steps than a session has left, and more rounds than end it all, change nothing; and a session's steps until it answers
+-- may be taken one after another.
 use Rattle.std.proofs.Common.{◌≡◌, ℕ, zero, suc, ◌+◌, ◌≤◌, List, [], ◌∷◌, length, drop, map, refl, ap, ◌∙◌, sym, subst, arith, Option, None, Some}
 use Rattle.std.proofs.Common.{true, false, inl, inr}
 use Rattle.std.specs.Prelude.{slice_get}
@@ -15,8 +16,9 @@ use Rattle.hy_machine.specs.Sessions.{session_at, program_of, txn_at}
 use Rattle.hy_machine.specs.Turns.{session_turn}
 use Rattle.hy_machine.specs.Steps.{after_turn, step_of}
 use Rattle.hy_machine.specs.Measures.{open_left, later_left, txns_left, steps_left}
-use Rattle.hy_machine.specs.Runs.{IsReached, StepsFall, RunsEnd, is_moved, moves, round_of, all_ended_from, repeated, rounds_of}
+use Rattle.hy_machine.specs.Runs.{IsReached, StepsFall, RunsEnd, is_moved, moves, whole_of, round_of, all_ended_from, repeated, rounds_of}
 use Rattle.hy_machine.specs.Runs.{opening_of, after_steps, items_of}
+use Rattle.hy_stepping.specs.Bounds.{AreMoves, IsOnItsWay, WholesAreSteps}
 
 -- ---- steps
 
@@ -47,7 +49,7 @@ over setting state number h =
     none_left setting state number (session_at state number).now (program_of setting number) (length (session_at state number).done)
     (txn_at setting number (session_at state number)) refl h
 
-pub moves_same : StepsFall → (a b : ℕ) (setting : Setting) (state : State) (number : ℕ) → steps_left setting number (session_at state number) ≤ a
+moves_same : StepsFall → (a b : ℕ) (setting : Setting) (state : State) (number : ℕ) → steps_left setting number (session_at state number) ≤ a
     → steps_left setting number (session_at state number) ≤ b → moves a setting state number ≡ moves b setting state number
 unfolding moves
 moves_same falls zero zero setting state number h k = refl
@@ -59,6 +61,54 @@ moves_same falls (suc a) (suc b) setting state number h k = elim (cases_Bool (is
       rw t (moves_same falls a b setting (step_of setting state number).0 number (omega arith) (omega arith))
   | inr f ↦ rw f refl
 ]
+
+-- one more step, where it goes on or not
+one_more : (most : ℕ) (setting : Setting) (state : State) (number : ℕ) → is_moved (step_of setting state number).1 ≡ true
+    → moves (suc most) setting state number ≡ moves most setting (step_of setting state number).0 number
+unfolding moves
+one_more most setting state number t = rw t refl
+
+one_last : (most : ℕ) (setting : Setting) (state : State) (number : ℕ) → is_moved (step_of setting state number).1 ≡ false
+    → moves (suc most) setting state number ≡ (step_of setting state number).0
+unfolding moves
+one_last most setting state number f = rw f refl
+
+-- a step more than are left changes nothing
+whole_more : StepsFall → (setting : Setting) (state : State) (number : ℕ)
+    → moves (suc (steps_left setting number (session_at state number))) setting state number ≡ whole_of setting state number
+whole_more falls setting state number =
+    let left : ℕ = steps_left setting number (session_at state number) in
+    moves_same falls (suc left) left setting state number (omega arith) (omega arith)
+
+goes_on : StepsFall → (setting : Setting) (state : State) (number : ℕ) → is_moved (step_of setting state number).1 ≡ true
+    → whole_of setting (step_of setting state number).0 number ≡ whole_of setting state number
+goes_on falls setting state number t =
+    let left : ℕ = steps_left setting number (session_at state number) in
+    let next : State = (step_of setting state number).0 in
+    let less = falls setting state number t in
+    moves_same falls (steps_left setting number (session_at next number)) left setting next number (omega arith) (omega (arith, less))
+    ∙ (sym (one_more left setting state number t) ∙ whole_more falls setting state number)
+
+all_go_on : StepsFall → (setting : Setting) (number count : ℕ) (state last : State) → AreMoves setting number count state last
+    → IsOnItsWay setting number count state last
+all_go_on falls setting number zero state last same = record {
+  whole = ap (λ (s : State). whole_of setting s number) same;
+  fewer = let e = ap (λ (s : State). steps_left setting number (session_at s number)) same in omega (arith, e);
+}
+all_go_on falls setting number (suc count) state last moved =
+    let less = falls setting state number moved.0 in
+    let rest = all_go_on falls setting number count (step_of setting state number).0 last moved.1 in
+    record {
+      whole = rest.whole ∙ goes_on falls setting state number moved.0;
+      fewer = let few = rest.fewer in omega (arith, few, less);
+    }
+
+pub wholes : StepsFall → WholesAreSteps
+wholes falls = record {
+  on = all_go_on falls;
+  over = λ setting state number f.
+      sym (one_last (steps_left setting number (session_at state number)) setting state number f) ∙ whole_more falls setting state number;
+}
 
 -- ---- rounds
 

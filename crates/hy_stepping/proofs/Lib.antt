@@ -5,6 +5,11 @@ pub mod OpenOnes
 pub mod Clock
 pub mod FittedTables
 pub mod StepsShown
+mod PushedScripts
+mod PushedSessions
+pub mod PushedShown
+pub mod Awaited
+pub mod Told
 pub mod CoresNear
 pub mod VisitsLeft
 pub mod NeededChunks
@@ -14,6 +19,7 @@ pub mod ChunkStatements
 mod RowTypes
 mod RowsBack
 pub mod NearChunks
+mod ChunksPassed
 pub mod OutcomesPairs
 pub mod OutcomesEnds
 pub mod OutcomesTables

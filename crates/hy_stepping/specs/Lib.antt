@@ -2,6 +2,8 @@ pub mod Typed
 pub mod Texts
 pub mod Runnable
 pub mod Steps
+pub mod Pushed
+pub mod Told
 pub mod Outcomes
 pub mod Bounds
 pub mod Logs

@@ -6,9 +6,12 @@
 //! leaves the machine's.
 #![tactic(auto)]
 
-ghost use Rattle.hy_stepping.specs.Steps.{CoresAreNear, NeededChunksAreThere, ChunksAreNear, VisitsAreSteps, EndedStayAsTheyAre};
+ghost use Rattle.hy_stepping.specs.Steps.{CoresAreNear, NeededChunksAreThere, ChunksAreNear, ChunksMayBePassed};
+ghost use Rattle.hy_stepping.specs.Steps.{VisitsAreSteps, PassesAreSteps, EndedStayAsTheyAre};
 ghost use Rattle.hy_stepping.specs.Outcomes.{EndsAreTheMachines, OutcomesAreTold};
-ghost use Rattle.hy_stepping.specs.Bounds.{BoundsAreEnough, RunsAreReached};
+ghost use Rattle.hy_stepping.specs.Bounds.{BoundsAreEnough, WholesAreSteps, RunsAreReached};
+ghost use Rattle.hy_stepping.specs.Pushed.{AwaitedIsReady, LinesAreRunnable, LinesAreShown, LinesAreTyped};
+ghost use Rattle.hy_stepping.specs.Told.{SessionsTell};
 
 mod logs;
 
@@ -50,10 +53,44 @@ pub fn visits_are_steps()
     runs_are_reached();
 }
 
+/// A session may go past each chunk.
+pub fn chunks_may_be_passed()
+    ensures { ChunksMayBePassed }
+{}
+
+/// Where a session goes past chunks one after another, each is the machine's step.
+pub fn passes_are_steps()
+    ensures { PassesAreSteps }
+{
+    visits_are_steps();
+}
+
 /// A step of a session that is at its end changes nothing.
 pub fn ended_stay_as_they_are()
     ensures { EndedStayAsTheyAre }
 {}
+
+/// A session awaits a line exactly where the machine's is ready for it.
+pub fn awaited_lines_are_the_machines()
+    ensures { AwaitedIsReady }
+{}
+
+/// A session tells of its latest line what the machine's tells: the commits that its open transaction reads, the latest
+/// reply, and how its latest transaction ended.
+pub fn sessions_tell()
+    ensures { SessionsTell }
+{}
+
+/// What is shown is shown with a line more, where its session is ready for the line and the line fits; the engine runs
+/// the longer script; and where the line's values are of its table's types, so are still those of all that is run.
+pub fn lines_are_shown()
+    ensures shown { LinesAreShown }
+    ensures runnable { LinesAreRunnable }
+    ensures typed { LinesAreTyped }
+{
+    hy_growing::lines_are_reached();
+    hy_lawful::reached_states_are_kept();
+}
 
 /// The sessions are at their end exactly where the machine's have ended.
 pub fn ends_are_the_machines()
@@ -76,6 +113,13 @@ pub fn bounds_are_enough()
 {
     hy_machine::runs_are_steps();
     hy_lawful::reached_states_are_kept();
+}
+
+/// A session's steps until it answers may be taken one after another.
+pub fn wholes_are_steps()
+    ensures { WholesAreSteps }
+{
+    hy_machine::runs_are_steps();
 }
 
 /// What the machine comes to from a state that it comes to, it comes to.

@@ -1,22 +1,21 @@
 use Rattle.std.proofs.Common.{arith}
 use Rattle.hy_machine.specs.declared.Setting.{Setting}
 use Rattle.hy_machine.specs.States.{State}
-use Rattle.hy_machine.specs.Runs.{IsReached, StepsFall, RunsEnd}
-use Rattle.hy_machine.specs.Sessions.{session_at}
-use Rattle.hy_machine.specs.Measures.{steps_left, measure_of}
+use Rattle.hy_machine.specs.Runs.{IsReached, RunsEnd}
+use Rattle.hy_machine.specs.Measures.{measure_of}
 use Rattle.hy_machine.specs.Kept.{Kept}
 use Rattle.hy_lawful.specs.Kept.{ReachedAreKept}
 use Rattle.hy_stepping.specs.Bounds.{BoundsAreEnough, most_turns}
 use Rattle.hy_stepping.specs.Runnable.{IsRunnable}
-use Rattle.hy_stepping.proofs.EnoughSteps.{moves_same, repeated_same, rounds_end}
+use Rattle.hy_stepping.proofs.EnoughSteps.{repeated_same, rounds_end}
 use Rattle.hy_stepping.proofs.Measures.{first_of_shapes, session_few, measure_few}
 use Rattle.hy_stepping.proofs.bounds_are_enough.Goals as goal
 
-enough : StepsFall → RunsEnd → ReachedAreKept → BoundsAreEnough
-enough falls ends are_kept = record {
-  whole = λ setting state number runnable reached.
+enough : RunsEnd → ReachedAreKept → BoundsAreEnough
+enough ends are_kept = record {
+  steps = λ setting state number runnable reached.
       let left = session_few setting state number runnable (kept setting state runnable reached) in
-      moves_same falls most_turns (steps_left setting number (session_at state number)) setting state number (omega (arith, left)) (omega arith);
+      omega (arith, left);
   rounds = λ setting state runnable reached.
       let left = measure_few setting state runnable (kept setting state runnable reached) in
       repeated_same (measure_of setting state) most_turns setting state (omega (arith, left)) (rounds_end ends setting state reached);
@@ -26,4 +25,4 @@ enough falls ends are_kept = record {
     kept setting state runnable reached = are_kept setting state (first_of_shapes setting runnable) reached
 
 pub returns : goal.returns
-returns c = enough c.runs_are_steps.ensures.falls c.runs_are_steps.ensures.ends c.reached_states_are_kept.ensures
+returns c = enough c.runs_are_steps.ensures.ends c.reached_states_are_kept.ensures

@@ -3,7 +3,8 @@ use Rattle.std.proofs.Common.{◌≡◌, ◌⊎◌, ℕ, ◌+◌, ◌*◌, zero,
 use Rattle.std.proofs.Math.ListN.{set}
 use Rattle.std.specs.Prelude.{slice_get, IfOk, OnErr}
 use Rattle.std.proofs.lemmas.List.{map-set}
-use Rattle.std.proofs.lemmas.Option.{same_Some}
+use Rattle.std.specs.Option.{option_map}
+use Rattle.std.proofs.lemmas.Option.{same_Some, slice_get-map}
 use Rattle.hy_value.specs.declared.Kind.{Kind}
 use Rattle.hy_bound.specs.declared.Shape.{Shape}
 use Rattle.hy_journal.specs.declared.CoreData.{CoreData}
@@ -17,7 +18,7 @@ use Rattle.hy_event.specs.Events.{ChunkEvent}
 use Rattle.hy_machine.specs.Steps.{step_of}
 use Rattle.hy_stepping.specs.Steps.{NeededChunksAreThere, VisitsAreSteps}
 use Rattle.hy_world.specs.Follows.{Steps}
-use Rattle.hy_world.specs.Worlds.{WorldData, ShowsState, IsWorld, HaveTypes, plain}
+use Rattle.hy_world.specs.Worlds.{WorldData, ShowsState, IsWorld, HaveTypes, plain, kinds_in, kinds_by_table, seen_world}
 use Rattle.hy_world.proofs.Parts.{set_got}
 use Rattle.hy_world.proofs.Visits.{IsAt, core_step, chunk_step, with_core, with_chunk, plain_at}
 
@@ -32,13 +33,7 @@ pub record Fields : Type 0 where
 
 -- what contracts see of them, and what holds of them at all times
 abbrev pub world_of : Fields → WorldData
-world_of fields = record {
-  tables = fields.tables;
-  per_table = fields.per_table;
-  chunks = plain fields.chunks;
-  core = fields.core;
-  sessions = fields.sessions;
-}
+world_of fields = seen_world fields.tables fields.per_table fields.chunks fields.core fields.sessions
 
 abbrev pub Holds : Fields → Type 0
 Holds fields = IsWorld fields.shapes fields.tables fields.per_table fields.chunks fields.core fields.sessions
@@ -139,24 +134,40 @@ seen_at : (fields : Fields) (number : ℕ) (session : SessionData) (table chunk 
 seen_at fields number session table chunk place part at =
     ap (slice_get (plain fields.chunks)) (sym at.place_is) ∙ plain_at fields.chunks place part at.found
 
+-- a chunk that is put in place of one of its types leaves the types
+pub kinds_stay : (chunks : List Whole) (place : ℕ) (part new : Whole) → slice_get chunks place ≡ Some part → new.kinds ≡ part.kinds
+    → kinds_in (set chunks place new) ≡ kinds_in chunks
+kinds_stay chunks place part new found same =
+    map-set (λ (chunk : Whole). chunk.kinds) chunks place new
+    ∙ (ap (set (kinds_in chunks) place) same
+    ∙ set_got (kinds_in chunks) place part.kinds
+    (slice_get-map (λ (chunk : Whole). chunk.kinds) chunks place ∙ ap (option_map (λ (chunk : Whole). chunk.kinds)) found))
+
 -- and of the fields with it
-put_seen : (fields : Fields) (number : ℕ) (after : SessionData) (place : ℕ) (new : Whole)
-    → with_chunk (world_of fields) number after place new.shown ≡ world_of (chunk_put fields number after place new)
-put_seen fields number after place new =
-    let with_chunks : List ChunkData → WorldData = λ chunks. record (world_of fields) { chunks = chunks; sessions = set fields.sessions number after } in
-    ap with_chunks (sym (map-set (λ (chunk : Whole). chunk.shown) fields.chunks place new))
+put_seen : (fields : Fields) (number : ℕ) (after : SessionData) (place : ℕ) (part new : Whole) → slice_get fields.chunks place ≡ Some part
+    → new.kinds ≡ part.kinds → with_chunk (world_of fields) number after place new.shown ≡ world_of (chunk_put fields number after place new)
+put_seen fields number after place part new found same =
+    let with_parts : List (List Kind) → List ChunkData → WorldData =
+    λ types chunks. record (world_of fields) {
+      kinds = kinds_by_table fields.tables fields.per_table types;
+      chunks = chunks;
+      sessions = set fields.sessions number after;
+    } in
+    ap (with_parts (kinds_in fields.chunks)) (sym (map-set (λ (chunk : Whole). chunk.shown) fields.chunks place new))
+    ∙ ap (λ (types : List (List Kind)). with_parts types (plain (set fields.chunks place new)))
+    (sym (kinds_stay fields.chunks place part new found same))
 
 put_there : (fields : Fields) (number : ℕ) (session after : SessionData) (table chunk place : ℕ) (part new : Whole)
-    → ChunkAt fields number session table chunk place part
+    → ChunkAt fields number session table chunk place part → new.kinds ≡ part.kinds
     → with_chunk (world_of fields) number after (table * fields.per_table + chunk) new.shown ≡ world_of (chunk_put fields number after place new)
-put_there fields number session after table chunk place part new at =
-    ap (λ n. with_chunk (world_of fields) number after n new.shown) (sym at.place_is) ∙ put_seen fields number after place new
+put_there fields number session after table chunk place part new at same =
+    ap (λ n. with_chunk (world_of fields) number after n new.shown) (sym at.place_is) ∙ put_seen fields number after place part new at.found same
 
 pub chunk_steps : {E : Type 0} (r : Result Progress E) → NeededChunksAreThere → VisitsAreSteps → (fields : Fields) (number : ℕ) (session after : SessionData)
     (table chunk place : ℕ) (part new : Whole) → ChunkAt fields number session table chunk place part → ChunkVisited r session part after new
     → IfOk r (λ progress. Steps number progress (world_of fields) (world_of (chunk_put fields number after place new)))
 chunk_steps (Ok progress) there steps fields number session after table chunk place part new at visited =
-    subst (Steps number progress (world_of fields)) (put_there fields number session after table chunk place part new at)
+    subst (Steps number progress (world_of fields)) (put_there fields number session after table chunk place part new at visited.kinds)
     (λ setting state shows. chunk_step there steps setting state (world_of fields) number session after table chunk progress part.shown new.shown shows at.at
     (seen_at fields number session table chunk place part at) visited.event)
 chunk_steps (Err e) there steps fields number session after table chunk place part new at visited = tt
@@ -172,10 +183,10 @@ chunk_same world number session after place old new at found same chunk =
 
 -- an Err leaves what contracts see
 pub stays_seen : (fields : Fields) (number : ℕ) (session after : SessionData) (table chunk place : ℕ) (part new : Whole)
-    → ChunkAt fields number session table chunk place part → after ≡ session → new.shown ≡ part.shown
+    → ChunkAt fields number session table chunk place part → after ≡ session → new.shown ≡ part.shown → new.kinds ≡ part.kinds
     → world_of (chunk_put fields number after place new) ≡ world_of fields
-stays_seen fields number session after table chunk place part new at same shown =
-    sym (put_seen fields number after place new)
+stays_seen fields number session after table chunk place part new at same shown kinds =
+    sym (put_seen fields number after place part new at.found kinds)
     ∙ chunk_same (world_of fields) number session after place part.shown new.shown at.at.found (plain_at fields.chunks place part at.found) same shown
 
 pub chunk_stays : {E : Type 0} (r : Result Progress E) (fields : Fields) (number : ℕ) (session after : SessionData) (table chunk place : ℕ) (part new : Whole)
@@ -183,7 +194,14 @@ pub chunk_stays : {E : Type 0} (r : Result Progress E) (fields : Fields) (number
     → OnErr r (world_of (chunk_put fields number after place new) ≡ world_of fields)
 chunk_stays (Ok progress) fields number session after table chunk place part new at visited = tt
 chunk_stays (Err e) fields number session after table chunk place part new at visited =
-    stays_seen fields number session after table chunk place part new at visited.kept.0 visited.kept.1
+    stays_seen fields number session after table chunk place part new at visited.kept.0 visited.kept.1 visited.kinds
+
+-- the types of the tables stay
+pub types_stay : (fields : Fields) (number : ℕ) (session after : SessionData) (table chunk place : ℕ) (part new : Whole)
+    → ChunkAt fields number session table chunk place part → new.kinds ≡ part.kinds
+    → (world_of (chunk_put fields number after place new)).kinds ≡ (world_of fields).kinds
+types_stay fields number session after table chunk place part new at same =
+    ap (kinds_by_table fields.tables fields.per_table) (kinds_stay fields.chunks place part new at.found same)
 
 pub chunk_kept : {E : Type 0} (r : Result Progress E) → NeededChunksAreThere → VisitsAreSteps → (fields : Fields) (number : ℕ) (session after : SessionData)
     (table chunk place : ℕ) (part new : Whole) → ChunkAt fields number session table chunk place part → ChunkVisited r session part after new
@@ -205,5 +223,5 @@ chunk_kept {E} (Err e) there steps fields number session after table chunk place
   typed = w.typed;
   types = types_kept w.kinds fields.per_table fields.chunks place part new at.found visited.kinds w.types;
   shows = subst (ShowsState w.setting w.state)
-      (sym (stays_seen fields number session after table chunk place part new at visited.kept.0 visited.kept.1)) w.shows;
+      (sym (stays_seen fields number session after table chunk place part new at visited.kept.0 visited.kept.1 visited.kinds)) w.shows;
 }

@@ -8,6 +8,7 @@ mod SentSessions
 mod Parts
 mod Visits
 mod KeptWorlds
+pub mod PassedChunks
 mod WorldFields
 mod RunsLeft
 mod Loops
@@ -18,3 +19,5 @@ mod Orders
 pub mod SharedWorlds
 pub mod VisitsLeave
 mod BlockedSteps
+pub mod TableKinds
+pub mod Pushes

@@ -1,6 +1,7 @@
 -- The loops of a run, turn by turn: what is left of the machine's own after a turn.
 use Rattle.std.proofs.Common.{◌≡◌, ℕ, zero, suc, ◌+◌, ◌-◌, ◌*◌, ◌<◌, ◌≤◌, List, ◌∷◌, length, drop, get_or, refl, ap, ◌∙◌, sym, subst, arith, add-one}
-use Rattle.std.proofs.Common.{Bool, true, false, cond, drop-cons}
+use Rattle.std.proofs.Common.{Bool, true, false, cond, drop-cons, inl, inr}
+use Rattle.std.proofs.lemmas.Bool.{cases_Bool}
 use Rattle.std.proofs.lemmas.List.{drop_all}
 use Rattle.std.proofs.lemmas.Slice.Zip.{AllZip-long}
 use Rattle.hy_bound.specs.Fits.{FitsRows}
@@ -9,16 +10,18 @@ use Rattle.hy_machine.specs.declared.Setting.{Setting}
 use Rattle.hy_machine.specs.States.{State}
 use Rattle.hy_protocol.specs.declared.Progress.{Progress}
 use Rattle.hy_machine.specs.Steps.{step_of}
-use Rattle.hy_machine.specs.Runs.{is_moved, moves, whole_of, item_of, items_of, round_from, round_of, all_ended_from, repeated, rounds_of}
+use Rattle.hy_machine.specs.Measures.{steps_left}
+use Rattle.hy_machine.specs.Sessions.{session_at}
+use Rattle.hy_machine.specs.Runs.{is_moved, whole_of, item_of, items_of, round_from, round_of, all_ended_from, repeated, rounds_of}
 use Rattle.hy_lawful.specs.Kept.{ReachedAreKept}
-use Rattle.hy_stepping.specs.Bounds.{BoundsAreEnough, most_turns}
+use Rattle.hy_stepping.specs.Bounds.{BoundsAreEnough, WholesAreSteps, most_turns}
 use Rattle.hy_stepping.specs.Outcomes.{EndsAreTheMachines, are_done}
-use Rattle.hy_world.specs.Follows.{Follows, Steps}
+use Rattle.hy_world.specs.Follows.{Follows, MovesOn, Steps}
 use Rattle.hy_world.specs.Logged.{Extend, Approaches}
 use Rattle.hy_world.specs.Worlds.{WorldData, ShowsState, parts_of}
 use Rattle.hy_world.proofs.RunsLeft.{Ahead, all_ahead, goes_on, all_done, near_done, near_undone, breaks_early, breaks_off}
-use Rattle.hy_world.proofs.Logs.{none_behind}
-use Rattle.hy_world.proofs.Orders.{step_grows, chosen_grows, moves_grow, items_grow, round_grows, repeated_grows, rounds_grow}
+use Rattle.hy_world.proofs.Logs.{none_behind, extend_then}
+use Rattle.hy_world.proofs.Orders.{step_grows, moves_grow, items_grow, round_grows, repeated_grows, rounds_grow}
 
 -- ---- the steps of a whole statement
 
@@ -28,62 +31,57 @@ stepping number setting state = (step_of setting state number).0
 abbrev pub whole_steps : ℕ → Setting → State → State
 whole_steps number setting state = whole_of setting state number
 
--- so many of the most turns being done
-abbrev pub moves_left : ℕ → ℕ → ℕ → Setting → State → State
-moves_left number most turn setting state = moves (most - turn) setting state number
-
 pub step_follows : (number : ℕ) (stepped : Progress) (now next : WorldData) → Steps number stepped now next → Follows (stepping number) now next
 step_follows number stepped now next steps = λ setting state shows. (steps setting state shows).shows
 
-moved_on : (number most turn : ℕ) (setting : Setting) (state : State) (stepped : Progress) → turn < most → (step_of setting state number).1 ≡ stepped
-    → is_moved stepped ≡ true → moves_left number most (turn + 1) setting (step_of setting state number).0 ≡ moves_left number most turn setting state
-unfolding moves
-moved_on number most turn setting state stepped l answer m =
-    let left : most - turn ≡ suc (most - (turn + 1)) = omega arith in
-    let next : State = (step_of setting state number).0 in
-    let choice : Bool → State = λ b. cond b (moves (most - (turn + 1)) setting next number) next in
-    sym (ap (λ n. moves n setting state number) left ∙ ap choice (ap is_moved answer ∙ m))
+-- a state is shown from which a session's steps lead to the end, and more turns are left than such steps
+pub record IsOnWay (setting : Setting) (number turn : ℕ) (last : State) (now : WorldData) : Type 0 where
+  pub state : State
+  pub shows : ShowsState setting state now
+  pub leads : whole_of setting state number ≡ last
+  pub few : turn + steps_left setting number (session_at state number) < most_turns
 
-stopped_at : (number most turn : ℕ) (setting : Setting) (state : State) (stepped : Progress) → turn < most → (step_of setting state number).1 ≡ stepped
-    → is_moved stepped ≡ false → (step_of setting state number).0 ≡ moves_left number most turn setting state
-unfolding moves
-stopped_at number most turn setting state stepped l answer m =
-    let left : most - turn ≡ suc (most - (turn + 1)) = omega arith in
-    let next : State = (step_of setting state number).0 in
-    let choice : Bool → State = λ b. cond b (moves (most - (turn + 1)) setting next number) next in
-    sym (ap (λ n. moves n setting state number) left ∙ ap choice (ap is_moved answer ∙ m))
+-- of each state that was shown, so many turns being done
+abbrev pub OnWay : ℕ → ℕ → WorldData → WorldData → Type 0
+OnWay number turn from now = (setting : Setting) (state : State) → ShowsState setting state from → IsOnWay setting number turn (whole_of setting state number) now
 
-moves_over : (number most turn : ℕ) (setting : Setting) (state : State) → most ≤ turn → moves_left number most turn setting state ≡ state
-unfolding moves
-moves_over number most turn setting state l =
-    let left : most - turn ≡ 0 = omega arith in
-    ap (λ n. moves n setting state number) left
+pub whole_ahead : (number : ℕ) (now : WorldData) → BoundsAreEnough → OnWay number 0 now now
+whole_ahead number now enough = λ setting state shows.
+    let left = enough.steps setting state number shows.shown.runnable shows.shown.reached in
+    record { state = state; shows = shows; leads = refl; few = omega (arith, left) }
 
-pub whole_ahead : (number : ℕ) (now : WorldData) → BoundsAreEnough → Ahead (moves_left number most_turns 0) (whole_steps number) now now
-whole_ahead number now enough = all_ahead (moves_left number most_turns 0) (whole_steps number) now
-    (λ setting state shows. enough.whole setting state number shows.shown.runnable shows.shown.reached)
+pub whole_moves_on : (number turn : ℕ) (from now next : WorldData) → WholesAreSteps → OnWay number turn from now → MovesOn number now next
+    → OnWay number turn from next
+whole_moves_on number turn from now next are on_way moves = λ setting state shows.
+    let here = on_way setting state shows in
+    let there = moves setting here.state here.shows in
+    let left = are.on setting number there.count here.state there.last there.moves in
+    let few = here.few in
+    let fewer = left.fewer in
+    record { state = there.last; shows = there.shows; leads = left.whole ∙ here.leads; few = omega (arith, few, fewer) }
 
-pub whole_goes_on : (number most turn : ℕ) (stepped : Progress) (from now next : WorldData) → turn < most → is_moved stepped ≡ true
-    → Ahead (moves_left number most turn) (whole_steps number) from now → Steps number stepped now next
-    → Ahead (moves_left number most (turn + 1)) (whole_steps number) from next
-whole_goes_on number most turn stepped from now next l m ahead steps =
-    goes_on (moves_left number most turn) (stepping number) (moves_left number most (turn + 1)) (whole_steps number) from now next ahead
-    (step_follows number stepped now next steps)
-    (λ setting state shows. moved_on number most turn setting state stepped l (steps setting state shows).answer m)
+pub whole_goes_on : (number turn : ℕ) (stepped : Progress) (from now next : WorldData) → WholesAreSteps → is_moved stepped ≡ true
+    → OnWay number turn from now → Steps number stepped now next → OnWay number (turn + 1) from next
+whole_goes_on number turn stepped from now next are m on_way steps = λ setting state shows.
+    let here = on_way setting state shows in
+    let there = steps setting here.state here.shows in
+    let after : State = (step_of setting here.state number).0 in
+    let left = are.on setting number 1 here.state after (ap is_moved there.answer ∙ m, refl) in
+    let few = here.few in
+    let fewer = left.fewer in
+    record { state = after; shows = there.shows; leads = left.whole ∙ here.leads; few = omega (arith, few, fewer) }
 
-pub whole_stops : (number most turn : ℕ) (stepped : Progress) (from now next : WorldData) → turn < most → is_moved stepped ≡ false
-    → Ahead (moves_left number most turn) (whole_steps number) from now → Steps number stepped now next → Follows (whole_steps number) from next
-whole_stops number most turn stepped from now next l m ahead steps =
-    all_done (λ setting state. state) (whole_steps number) from next
-    (goes_on (moves_left number most turn) (stepping number) (λ setting state. state) (whole_steps number) from now next ahead
-    (step_follows number stepped now next steps)
-    (λ setting state shows. stopped_at number most turn setting state stepped l (steps setting state shows).answer m))
-    (λ setting state shows. refl)
+pub whole_stops : (number turn : ℕ) (stepped : Progress) (from now next : WorldData) → WholesAreSteps → is_moved stepped ≡ false
+    → OnWay number turn from now → Steps number stepped now next → Follows (whole_steps number) from next
+whole_stops number turn stepped from now next are m on_way steps = λ setting state shows.
+    let here = on_way setting state shows in
+    let there = steps setting here.state here.shows in
+    subst (λ (last : State). ShowsState setting last next) (are.over setting here.state number (ap is_moved there.answer ∙ m) ∙ here.leads) there.shows
 
-pub whole_over : (number most turn : ℕ) (from now : WorldData) → most ≤ turn → Ahead (moves_left number most turn) (whole_steps number) from now
-    → Follows (whole_steps number) from now
-whole_over number most turn from now l ahead =
-    all_done (moves_left number most turn) (whole_steps number) from now ahead (λ setting state shows. moves_over number most turn setting state l)
+pub whole_over : (number turn : ℕ) (from now : WorldData) → most_turns ≤ turn → OnWay number turn from now → Follows (whole_steps number) from now
+whole_over number turn from now l on_way = λ setting state shows.
+    let few = (on_way setting state shows).few in
+    absurd (omega (arith, few, l))
 
 -- ---- the items of a schedule
 
@@ -212,21 +210,29 @@ step_breaks_off number now next same =
 pub stepped_near : (number : ℕ) (stepped : Progress) (now next : WorldData) → Steps number stepped now next → Approaches (stepping number) now next
 stepped_near number stepped now next steps = near_done (stepping number) now next (step_follows number stepped now next steps)
 
-first_move : (number most turn : ℕ) (setting : Setting) (state : State) → turn < most
-    → Extend (step_of setting state number).0.order (moves_left number most turn setting state).order
-unfolding moves
-first_move number most turn setting state l =
-    let left : most - turn ≡ suc (most - (turn + 1)) = omega arith in
+first_move : WholesAreSteps → (setting : Setting) (state : State) (number : ℕ)
+    → Extend (step_of setting state number).0.order (whole_of setting state number).order
+first_move are setting state number =
     let next : State = (step_of setting state number).0 in
-    subst (λ n. Extend next.order (moves n setting state number).order) (sym left)
-    (chosen_grows next (is_moved (step_of setting state number).1) (moves (most - (turn + 1)) setting next number) next
-    (moves_grow (most - (turn + 1)) setting next number) (none_behind next.order))
+    elim (cases_Bool (is_moved (step_of setting state number).1)) [
+      | inl t ↦
+          subst (λ (last : State). Extend next.order last.order) (are.on setting number 1 state next (t, refl)).whole
+          (moves_grow (steps_left setting number (session_at next number)) setting next number)
+      | inr f ↦ subst (λ (last : State). Extend next.order last.order) (are.over setting state number f) (none_behind next.order)
+    ]
 
-pub whole_breaks_off : (number most turn : ℕ) (from now next : WorldData) → turn < most → Ahead (moves_left number most turn) (whole_steps number) from now
+pub whole_breaks_off : (number turn : ℕ) (from now next : WorldData) → WholesAreSteps → OnWay number turn from now
     → Approaches (stepping number) now next → Approaches (whole_steps number) from next
-whole_breaks_off number most turn from now next l ahead near =
-    breaks_off (moves_left number most turn) (stepping number) (whole_steps number) from now next ahead near
-    (λ setting state shows. first_move number most turn setting state l)
+whole_breaks_off number turn from now next are on_way near = λ setting state shows.
+    let here = on_way setting state shows in
+    let there = near setting here.state here.shows in
+    let whole : State = whole_of setting here.state number in
+    record {
+      state = there.state;
+      shows = there.shows;
+      first = subst (λ (last : State). Extend there.state.order last.order) here.leads
+          (extend_then there.state.order (step_of setting here.state number).0.order whole.order there.first (first_move are setting here.state number));
+    }
 
 pub items_break_off : (items : List Item) (i : ℕ) (other : Item) (from now next : WorldData) → i < length items
     → Ahead (all_items (drop i items)) (all_items items) from now → Approaches (an_item (get_or items i other)) now next

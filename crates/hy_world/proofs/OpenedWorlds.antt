@@ -36,7 +36,7 @@ use Rattle.hy_stepping.specs.Runnable.{IsRunnable}
 use Rattle.hy_stepping.specs.Typed.{AreTyped, kinds_of}
 use Rattle.hy_world.specs.Openings.{places_with, first_rows, rows_in, laid_chunk, IsLaid, AreLaid, new_session, sessions_from, layout_of, IsOpened}
 use Rattle.hy_world.specs.declared.opening.Opened.{Opened}
-use Rattle.hy_world.specs.Worlds.{ShowsState, IsWorld, HaveTypes, parts_of, plain}
+use Rattle.hy_world.specs.Worlds.{ShowsState, IsWorld, HaveTypes, parts_of, plain, seen_world}
 use Rattle.hy_world.proofs.ListsAt.{got, below, in_front, at_end, got_map, got_take, got_drop, as_long, both_at}
 use Rattle.hy_world.proofs.LaidChunks.{places_long, laid_at}
 
@@ -285,7 +285,7 @@ pub opened_shows : OpeningIsShown → (setting : Setting) (kinds : List (List Ki
     → AreLaid setting kinds (length setting.shapes * setting.chunks) chunks → core ≡ blank_core
     → sessions ≡ sessions_from setting.shapes (layout_of setting) prunes 0 setting.programs → tables ≡ length setting.shapes
     → ShowsState setting (opening_of setting)
-    (record { tables = tables; per_table = setting.chunks; chunks = plain chunks; core = core; sessions = sessions })
+    (seen_world tables setting.chunks chunks core sessions)
 opened_shows law setting kinds prunes tables chunks core sessions runnable typed laid blank fresh count =
     let opened : AreOpened setting kinds chunks = record { runnable = runnable; typed = typed; laid = laid } in
     let parts = parts_of (plain chunks) core in
@@ -335,10 +335,10 @@ txns_few setting runnable =
 pub shown_opened : OpeningIsShown → (setting : Setting) (kinds : List (List Kind)) (prunes : Bool) (tables : ℕ) (opened : Opened) → IsRunnable setting
     → AreTyped kinds setting.shapes setting.first setting.programs → IsOpened setting kinds prunes opened → tables ≡ length opened.shapes
     → ShowsState setting (opening_of setting)
-    (record { tables = tables; per_table = opened.per_table; chunks = plain opened.chunks.items; core = opened.core; sessions = opened.sessions.items })
+    (seen_world tables opened.per_table opened.chunks.items opened.core opened.sessions.items)
 shown_opened law setting kinds prunes tables opened runnable typed is count =
     subst (λ (per : ℕ). ShowsState setting (opening_of setting)
-    (record { tables = tables; per_table = per; chunks = plain opened.chunks.items; core = opened.core; sessions = opened.sessions.items }))
+    (seen_world tables per opened.chunks.items opened.core opened.sessions.items))
     (sym is.per_table)
     (opened_shows law setting kinds prunes tables opened.chunks.items opened.core opened.sessions.items runnable typed is.laid is.core is.sessions
     (count ∙ ap length is.shapes))

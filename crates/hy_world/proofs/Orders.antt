@@ -34,7 +34,7 @@ turn_grows setting state number (Ends ending) = none_behind state.order
 pub step_grows : (setting : Setting) (state : State) (number : ℕ) → Grows state (step_of setting state number).0
 step_grows setting state number = turn_grows setting state number (turn setting state number)
 
-pub chosen_grows : (state : State) (b : Bool) (one other : State) → Grows state one → Grows state other → Grows state (cond b one other)
+chosen_grows : (state : State) (b : Bool) (one other : State) → Grows state one → Grows state other → Grows state (cond b one other)
 chosen_grows state true one other h k = h
 chosen_grows state false one other h k = k
 

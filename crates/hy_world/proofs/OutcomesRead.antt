@@ -33,7 +33,7 @@ use Rattle.hy_stepping.specs.Typed.{kinds_of}
 use Rattle.hy_refinement.specs.Parts.{PartsAre}
 use Rattle.hy_world.specs.Finished.{gathered_in, read_back, table_back, tables_back, HaveTheirWidths}
 use Rattle.hy_world.specs.Follows.{Tells}
-use Rattle.hy_world.specs.Worlds.{IsWorld, WorldData, ShowsState, parts_of, plain}
+use Rattle.hy_world.specs.Worlds.{IsWorld, WorldData, ShowsState, parts_of, plain, seen_world}
 use Rattle.hy_world.proofs.ListsAt.{both_at}
 use Rattle.hy_world.proofs.OpenedWorlds.{core_got, parts_long}
 use Rattle.hy_world.proofs.ReadBack.{table_seen, sorted_wide, was_wide, seen_back}
@@ -116,7 +116,7 @@ outcome_is one other txns order tables =
 
 abbrev world_of : ℕ → ℕ → List Whole → CoreData → List SessionData → WorldData
 world_of tables per_table chunks core sessions =
-    record { tables = tables; per_table = per_table; chunks = plain chunks; core = core; sessions = sessions }
+    seen_world tables per_table chunks core sessions
 
 -- how many tables and chunks there are
 pub tables_are : (shapes : List Shape) (tables per_table : ℕ) (chunks : List Whole) (core : CoreData) (sessions : List SessionData)

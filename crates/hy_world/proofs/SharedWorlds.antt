@@ -31,7 +31,7 @@ use Rattle.hy_world.specs.Shared.{part_of, parts_shared}
 use Rattle.hy_refinement.specs.Laws.{OpeningIsShown}
 use Rattle.hy_session.specs.Standing.{needed_number, number_within, width_of}
 use Rattle.hy_world.specs.Points.{visit_at, point_of}
-use Rattle.hy_world.specs.Worlds.{WorldData, ShowsState, IsWorld, HaveTypes, parts_of, plain}
+use Rattle.hy_world.specs.Worlds.{WorldData, ShowsState, IsWorld, HaveTypes, parts_of, plain, seen_world}
 use Rattle.hy_world.specs.Follows.{Tells}
 use Rattle.hy_world.specs.Openings.{IsOpened}
 use Rattle.hy_world.specs.SomeRuns.{IsSomeRun}
@@ -78,7 +78,7 @@ world_types kinds per_table chunks core have = λ table number whole few found.
 -- a world whose chunks have these types may be shared
 pub world_shared : Laws → (setting : Setting) (kinds : List (List Kind)) (state : State) (tables : ℕ) (chunks : List Whole) (core : CoreData)
     (sessions : List SessionData) → AreTyped kinds setting.shapes setting.first setting.programs → HaveTypes kinds setting.chunks chunks
-    → ShowsState setting state (record { tables = tables; per_table = setting.chunks; chunks = plain chunks; core = core; sessions = sessions })
+    → ShowsState setting state (seen_world tables setting.chunks chunks core sessions)
     → AreShared setting kinds (parts_shared chunks core) sessions
 world_shared laws setting kinds state tables chunks core sessions typed types shows = record {
   laws = laws;
@@ -92,7 +92,7 @@ world_shared laws setting kinds state tables chunks core sessions typed types sh
 pub shared_shows : (setting : Setting) (kinds : List (List Kind)) (chunks : List Whole) (core : CoreData) (sessions : List SessionData)
     → (shared : AreShared setting kinds (parts_shared chunks core) sessions)
     → ShowsState setting shared.state
-    (record { tables = length setting.shapes; per_table = setting.chunks; chunks = plain chunks; core = core; sessions = sessions })
+    (seen_world (length setting.shapes) setting.chunks chunks core sessions)
 shared_shows setting kinds chunks core sessions shared = record {
   tables = refl;
   per_table = refl;
@@ -234,14 +234,14 @@ pub shows_back : (setting : Setting) (kinds : List (List Kind)) (parts : List Sh
     (chunks : List Whole) (core : CoreData) → AreShared setting kinds parts sessions → parts_shared chunks core ≡ parts → shapes ≡ setting.shapes
     → per_table ≡ setting.chunks → tables ≡ length shapes
     → (state : State) × ShowsState setting state
-    (record { tables = tables; per_table = per_table; chunks = plain chunks; core = core; sessions = sessions })
+    (seen_world tables per_table chunks core sessions)
 shows_back setting kinds parts sessions shapes tables per_table chunks core shared same are per count =
     let here = here_shared setting kinds parts sessions chunks core shared same in (
       here.state,
       subst (λ (n : ℕ). ShowsState setting here.state
-          (record { tables = tables; per_table = n; chunks = plain chunks; core = core; sessions = sessions })) (sym per)
+          (seen_world tables n chunks core sessions)) (sym per)
           (subst (λ (n : ℕ). ShowsState setting here.state
-          (record { tables = n; per_table = setting.chunks; chunks = plain chunks; core = core; sessions = sessions })) (sym (count ∙ ap length are))
+          (seen_world n setting.chunks chunks core sessions)) (sym (count ∙ ap length are))
           (shared_shows setting kinds chunks core sessions here)),
     )
 
@@ -255,7 +255,7 @@ opened_shared laws law setting kinds prunes opened runnable typed is =
     world_shared laws setting kinds (opening_of setting) (length opened.shapes) opened.chunks.items opened.core opened.sessions.items typed
     (types_opened setting kinds prunes opened is)
     (subst (λ (n : ℕ). ShowsState setting (opening_of setting)
-    (record { tables = length opened.shapes; per_table = n; chunks = plain opened.chunks.items; core = opened.core; sessions = opened.sessions.items }))
+    (seen_world (length opened.shapes) n opened.chunks.items opened.core opened.sessions.items))
     is.per_table (shown_opened law setting kinds prunes (length opened.shapes) opened runnable typed is refl))
 
 -- so may the parts that it comes to, in a setting that is the same

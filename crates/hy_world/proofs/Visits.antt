@@ -60,7 +60,7 @@ session_is : (setting : Setting) (state : State) (world : WorldData) (number : �
 session_is setting state world number session need shows at = (shows.shown.shows.sessions_show.each number session at.found).session_is
 
 -- there is a chunk for each chunk of each table
-count_is : (setting : Setting) (state : State) (world : WorldData) → ShowsState setting state world
+pub count_is : (setting : Setting) (state : State) (world : WorldData) → ShowsState setting state world
     → length setting.shapes * setting.chunks ≡ length world.chunks
 count_is setting state world shows = omega (arith, shows.shown.shows.parts_are.count, how_many world.chunks world.core)
 

@@ -6,6 +6,7 @@ use Rattle.hy_machine.specs.States.{State}
 use Rattle.hy_protocol.specs.declared.Progress.{Progress}
 use Rattle.hy_machine.specs.Outcomes.{outcome_of}
 use Rattle.hy_machine.specs.Steps.{step_of}
+use Rattle.hy_stepping.specs.Bounds.{AreMoves}
 use Rattle.hy_stepping.specs.Outcomes.{are_done}
 use Rattle.hy_world.specs.Worlds.{WorldData, ShowsState}
 
@@ -20,6 +21,16 @@ pub record IsStep (setting : Setting) (state : State) (number : ℕ) (stepped : 
 
 abbrev pub Steps : ℕ → Progress → WorldData → WorldData → Type 0
 Steps number stepped old new = (setting : Setting) (state : State) → ShowsState setting state old → IsStep setting state number stepped new
+
+-- so for steps of a session each of which goes on: they lead to a state that the world shows
+pub record IsMovedOn (setting : Setting) (state : State) (number : ℕ) (new : WorldData) : Type 0 where
+  pub count : ℕ
+  pub last : State
+  pub moves : AreMoves setting number count state last
+  pub shows : ShowsState setting last new
+
+abbrev pub MovesOn : ℕ → WorldData → WorldData → Type 0
+MovesOn number old new = (setting : Setting) (state : State) → ShowsState setting state old → IsMovedOn setting state number new
 
 -- an outcome is the machine's, of each state that the world shows, where all sessions are at their end
 abbrev pub Tells : WorldData → Outcome → Type 0

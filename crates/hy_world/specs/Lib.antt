@@ -9,3 +9,4 @@ pub mod SharedLaws
 pub mod SomeRuns
 pub mod Points
 pub mod Logged
+pub mod Lines

@@ -11,6 +11,7 @@ ghost use Rattle.hy_machine.specs.Runs.{run_of};
 ghost use Rattle.hy_stepping.specs.Runnable.{IsRunnable};
 ghost use Rattle.hy_stepping.specs.Typed.{AreTyped};
 
+mod answering;
 mod finishing;
 mod logging;
 mod opening;

@@ -194,6 +194,7 @@ impl World {
         requires typed { AreTyped kinds.now setting.shapes setting.first setting.programs }
         ensures shows { IfOk result (λ world. ShowsState setting (opening_of setting) world) }
         ensures entries { IfOk result (λ world. world.core.entries ≡ []) }
+        ensures kinds { IfOk result (λ world. world.kinds ≡ kinds.now) }
         ensures prunes { IfOk result (λ world. All (λ session. session.prunes ≡ prunes) world.sessions) }
     {
         hy_refinement::the_opening_is_shown();

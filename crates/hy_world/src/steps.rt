@@ -47,6 +47,7 @@ impl World {
         ensures under_way { OnErr result (Approaches (λ setting state. (step_of setting state number).0) self.old self.new) }
         ensures kept { OnOk result (IsKept D.image self.new.core.entries log.new disk.new) }
         ensures cut { OnErr result (IsKeptButTheLast D.image self.new.core.entries log.new disk.new) }
+        ensures kinds { self.new.kinds ≡ self.old.kinds }
         ensures stays { is_some log.new ≡ is_some log.old }
         ensures logs { Logs D.clock D.image_since self.old.core.entries self.new.core.entries disk.old disk.new }
         ensures fault { IsErrOf result AppendError.DiskFault → Rose (D.faults disk.old) (D.faults disk.new) }
@@ -58,32 +59,9 @@ impl World {
         Ok(stepped)
     }
 
-    /// A step of a session, as `step_logged` takes it: one that goes past a chunk at once is taken before all else.
-    fn advance<D: Disk>(
-        &mut self,
-        alloc: Global,
-        number: u32,
-        log: &mut Option<Log>,
-        disk: &mut D,
-    ) -> Result<Progress, AppendError>
-        requires kept { IsKept D.image self.old.core.entries log.old disk.old }
-        ensures step { IfOk result (λ stepped. Steps number stepped self.old self.new) }
-        ensures under_way { OnErr result (Approaches (λ setting state. (step_of setting state number).0) self.old self.new) }
-        ensures kept { OnOk result (IsKept D.image self.new.core.entries log.new disk.new) }
-        ensures cut { OnErr result (IsKeptButTheLast D.image self.new.core.entries log.new disk.new) }
-        ensures stays { is_some log.new ≡ is_some log.old }
-        ensures logs { Logs D.clock D.image_since self.old.core.entries self.new.core.entries disk.old disk.new }
-        ensures fault { IsErrOf result AppendError.DiskFault → Rose (D.faults disk.old) (D.faults disk.new) }
-        ensures steady { ¬ IsErrOf result AppendError.DiskFault → D.faults disk.new ≡ D.faults disk.old }
-    {
-        if self.pass(number) {
-            return Ok(Progress::Moved);
-        }
-        self.step_logged(alloc, number, log, disk)
-    }
-
-    /// A session's steps until it answers, is blocked or has ended.
-    fn step_whole<D: Disk>(
+    /// A session's steps until it answers, is blocked or has ended. Err is for want of memory, or a fault of the disk, and then
+    /// the log may lack the last entry.
+    pub fn step_whole<D: Disk>(
         &mut self,
         alloc: Global,
         number: u32,
@@ -91,18 +69,24 @@ impl World {
         disk: &mut D,
     ) -> Result<(), AppendError>
         requires kept { IsKept D.image self.old.core.entries log.old disk.old }
+        // The world follows the machine, to the answer or as far as the steps come.
         ensures follows { OnOk result (Follows (λ setting state. whole_of setting state number) self.old self.new) }
         ensures under_way { OnErr result (Approaches (λ setting state. whole_of setting state number) self.old self.new) }
+        ensures kinds { self.new.kinds ≡ self.old.kinds }
+        // The log keeps up with the journal.
         ensures kept { OnOk result (IsKept D.image self.new.core.entries log.new disk.new) }
         ensures cut { OnErr result (IsKeptButTheLast D.image self.new.core.entries log.new disk.new) }
         ensures stays { is_some log.new ≡ is_some log.old }
         ensures logs { Logs D.clock D.image_since self.old.core.entries self.new.core.entries disk.old disk.new }
+        // Faults of the disk.
         ensures fault { IsErrOf result AppendError.DiskFault → Rose (D.faults disk.old) (D.faults disk.new) }
         ensures steady { ¬ IsErrOf result AppendError.DiskFault → D.faults disk.new ≡ D.faults disk.old }
     {
         hy_stepping::bounds_are_enough();
+        hy_stepping::wholes_are_steps();
         for _turn in 0..u64::MAX {
-            let stepped = self.advance(alloc, number, log, disk)?;
+            self.pass(number);
+            let stepped = self.step_logged(alloc, number, log, disk)?;
             if !has_moved(stepped) {
                 return Ok(());
             }

@@ -1,11 +1,11 @@
 //! A step of a session: it visits the part that it needs.
 
-ghost use Rattle.std.specs.Prelude.{◌≡◌, ◌+◌, ◌*◌, ◌^◌, ◌<◌, true, false, IfOk, IfSome, OnErr};
+ghost use Rattle.std.specs.Prelude.{◌≡◌, ◌+◌, ◌*◌, false, IfOk, IfSome, OnErr};
 ghost use Rattle.hy_event.specs.declared.Need.{Need};
 ghost use Rattle.hy_protocol.specs.declared.Progress.{Progress};
 ghost use Rattle.hy_stamp.specs.declared.Label.{Label};
 ghost use Rattle.hy_world.specs.Asks.{has_entry_at, need_at};
-ghost use Rattle.hy_world.specs.Follows.{Steps};
+ghost use Rattle.hy_world.specs.Follows.{MovesOn, Steps};
 ghost use Rattle.hy_world.specs.Logged.{GrowByOne};
 ghost use Rattle.hy_world.specs.Openings.{prunings};
 
@@ -41,6 +41,7 @@ impl World {
         ensures entered { OnErr result (has_entry_at self.old.sessions number ≡ false) }
         ensures blocked { IfOk result (λ progress. (by : Label) → progress ≡ Progress.Blocked by → self.new ≡ self.old) }
         ensures prunes { prunings self.new.sessions ≡ prunings self.old.sessions }
+        ensures kinds { self.new.kinds ≡ self.old.kinds }
     {
         hy_stepping::cores_are_near();
         hy_stepping::visits_are_steps();
@@ -63,6 +64,7 @@ impl World {
         ensures entered { OnErr result (has_entry_at self.old.sessions number ≡ false) }
         ensures blocked { IfOk result (λ progress. (by : Label) → progress ≡ Progress.Blocked by → self.new ≡ self.old) }
         ensures prunes { prunings self.new.sessions ≡ prunings self.old.sessions }
+        ensures kinds { self.new.kinds ≡ self.old.kinds }
     {
         hy_stepping::needed_chunks_are_there();
         hy_stepping::chunks_are_near();
@@ -80,37 +82,36 @@ impl World {
         self.sessions.get(number as usize)?.next_of_insert()
     }
 
-    /// A session goes past a chunk of a table where an INSERT neither ends in it nor changes anything and that is seen at once,
-    /// and answers whether it did; else nothing changes.
-    fn pass_chunk(&mut self, number: u32, table: u32, chunk: u32) -> bool
+    /// A session, which needs this chunk of a table, goes past chunks from there on for as long as an INSERT neither ends in them nor
+    /// changes anything and that is seen at once.
+    fn pass_chunks(&mut self, number: u32, table: u32, chunk: u32)
         requires { need_at self.old.sessions number ≡ Need.Chunk table chunk }
-        ensures step { result ≡ true → Steps number Progress.Moved self.old self.new }
-        ensures kept { result ≡ false → self.new ≡ self.old }
+        ensures moves { MovesOn number self.old self.new }
         ensures entries { self.new.core.entries ≡ self.old.core.entries }
+        ensures kinds { self.new.kinds ≡ self.old.kinds }
     {
         hy_stepping::needed_chunks_are_there();
-        hy_stepping::chunks_are_near();
-        hy_stepping::visits_are_steps();
+        hy_stepping::chunks_may_be_passed();
+        hy_stepping::passes_are_steps();
         let place = place_of(self.per_table, table, chunk);
         let session = &mut self.sessions[number as usize];
-        let part = &mut self.chunks[place];
-        session.pass(part)
+        let _ = session.pass(&mut self.chunks.as_mut_slice()[place..]);
     }
 
-    /// A session takes its step where that is to go past a chunk in which an INSERT neither ends nor changes anything and
-    /// that is seen at once, and answers whether it did; else nothing changes. It takes no memory.
-    pub(crate) fn pass(&mut self, number: u32) -> bool
-        ensures step { result ≡ true → Steps number Progress.Moved self.old self.new }
-        ensures kept { result ≡ false → self.new ≡ self.old }
+    /// A session takes steps for as long as they go past chunks in which an INSERT neither ends nor changes anything and that is
+    /// seen at once. It takes no memory.
+    #[tactic(auto, using(crate::proofs::PassedChunks::stays_there))]
+    pub(crate) fn pass(&mut self, number: u32)
+        ensures moves { MovesOn number self.old self.new }
         ensures entries { self.new.core.entries ≡ self.old.core.entries }
+        ensures kinds { self.new.kinds ≡ self.old.kinds }
     {
-        match self.insert_need(number) {
-            Some(Need::Chunk { table, chunk }) => self.pass_chunk(number, table, chunk),
-            _ => false,
+        if let Some(Need::Chunk { table, chunk }) = self.insert_need(number) {
+            self.pass_chunks(number, table, chunk);
         }
     }
 
-    /// A step of a session. One that is blocked changes nothing, and none changes who prunes. Err is for want of memory, and
+    /// A step of a session. One that is blocked changes nothing, and none changes who prunes or what types columns have. Err is for want of memory, and
     /// changes nothing that contracts see; it never comes where the session's open transaction has its entry, so that the
     /// steps from an entry to its end take none.
     pub fn step(&mut self, alloc: Global, number: u32) -> Result<Progress, AllocError>
@@ -120,6 +121,7 @@ impl World {
         ensures entered { OnErr result (has_entry_at self.old.sessions number ≡ false) }
         ensures blocked { IfOk result (λ stepped. (by : Label) → stepped ≡ Progress.Blocked by → self.new ≡ self.old) }
         ensures prunes { prunings self.new.sessions ≡ prunings self.old.sessions }
+        ensures kinds { self.new.kinds ≡ self.old.kinds }
     {
         hy_stepping::ended_stay_as_they_are();
         match self.next_need(number) {

@@ -18,19 +18,13 @@ pub struct World {
 }
 
 impl Model for World {
-    ghost use Rattle.hy_world.specs.Worlds.{WorldData, world_code, plain, IsWorld};
+    ghost use Rattle.hy_world.specs.Worlds.{WorldData, world_code, seen_world, IsWorld};
 
     ghost Value = { WorldData };
 
     ghost coded = { world_code };
 
-    ghost view = { λ a. record {
-      tables = a.tables;
-      per_table = a.per_table;
-      chunks = plain a.chunks.items;
-      core = a.core;
-      sessions = a.sessions.items;
-    } };
+    ghost view = { λ a. seen_world a.tables a.per_table a.chunks.items a.core a.sessions.items };
 
     ghost invariant = { λ a. IsWorld a.shapes a.tables a.per_table a.chunks.items a.core a.sessions.items };
 }

@@ -3,6 +3,7 @@ use Rattle.hy_event.specs.declared.SessionData.{SessionData}
 use Rattle.hy_journal.specs.declared.CoreData.{CoreData}
 use Rattle.hy_world.specs.Openings.{layout_of}
 use Rattle.hy_world.proofs.OpenedWorlds.{world_opened, shown_opened}
+use Rattle.hy_world.proofs.TableKinds.{kinds_opened}
 use Rattle.hy_world.proofs.BlockedSteps.{new_prune}
 use Rattle.hy_world.proofs.world.World.open.Goals as goal
 
@@ -18,6 +19,10 @@ returns-clause-shows c =
 
 pub returns-clause-entries : goal.returns-clause-entries
 returns-clause-entries c = ap (λ (core : CoreData). core.entries) c.in_ok-shapes.ensures.core
+
+pub returns-clause-kinds : goal.returns-clause-kinds
+returns-clause-kinds c =
+    kinds_opened c.args.setting c.args.kinds.now _ _ c.len-tables.result c.requires.runnable c.requires.typed c.in_ok-shapes.ensures c.len-tables.ensures
 
 pub returns-clause-prunes : goal.returns-clause-prunes
 returns-clause-prunes c =

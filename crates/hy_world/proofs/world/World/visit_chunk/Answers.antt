@@ -1,4 +1,4 @@
-use Rattle.std.proofs.Common.{◌≡◌, arith, false, subst, refl, inl}
+use Rattle.std.proofs.Common.{◌≡◌, ◌∙◌, arith, false, ap, subst, refl, inl}
 use Rattle.std.specs.Prelude.{IfOk, OnErr}
 use Rattle.hy_event.specs.declared.Need.TheVariants.{Chunk}
 use Rattle.hy_protocol.specs.declared.Progress.TheVariants.{Blocked}
@@ -9,7 +9,7 @@ use Rattle.hy_world.specs.Follows.{Steps}
 use Rattle.hy_world.specs.Worlds.{WorldData}
 use Rattle.hy_world.specs.Logged.{GrowByOne}
 use Rattle.hy_world.proofs.Visits.{not_chunk}
-use Rattle.hy_world.proofs.KeptWorlds.{Fields, world_of, chunk_put, chunk_steps, chunk_kept, chunk_stays}
+use Rattle.hy_world.proofs.KeptWorlds.{Fields, world_of, chunk_put, chunk_steps, chunk_kept, chunk_stays, types_stay}
 use Rattle.hy_world.proofs.WorldFields.{session_within, chunk_within, chunk_read, chunk_visited}
 use Rattle.hy_world.proofs.BlockedSteps.{chunk_blocked, chunk_prunes, entered_at}
 use Rattle.hy_world.proofs.world.World.visit_chunk.Goals as goal
@@ -130,3 +130,15 @@ returns-clause-prunes c =
     subst (λ (world : WorldData). prunings new.sessions ≡ prunings world.sessions) c.self.view_is
     (chunk_prunes c.visit_chunk.result fields.sessions c.args.number c.index_mut-session.result.now c.visit_chunk.new.self c.index_mut-part.result.now
     c.visit_chunk.new.chunk at.at.found (record { event = c.visit_chunk.ensures.event; kept = c.visit_chunk.ensures.kept; kinds = c.visit_chunk.ensures.kinds }))
+
+pub returns-clause-kinds : goal.returns-clause-kinds
+returns-clause-kinds c =
+    let s = c.self.inside in
+    let fields : Fields =
+    record { shapes = s.shapes; tables = s.tables; per_table = s.per_table; chunks = s.chunks.items; core = s.core; sessions = s.sessions.items } in
+    let at = chunk_read c.needed_chunks_are_there.ensures fields c.args.self.now c.args.number c.index_mut-session.result.now c.args.table c.args.chunk
+    c.place_of-place.result c.index_mut-part.result.now c.self.view_is c.requires c.index_mut-session.ensures.value c.place_of-place.ensures
+    c.index_mut-part.ensures.value c.self.invariant in
+    types_stay fields c.args.number c.index_mut-session.result.now c.visit_chunk.new.self c.args.table c.args.chunk c.place_of-place.result
+    c.index_mut-part.result.now c.visit_chunk.new.chunk at c.visit_chunk.ensures.kinds
+    ∙ ap (λ (world : WorldData). world.kinds) c.self.view_is

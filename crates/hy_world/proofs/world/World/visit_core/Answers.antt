@@ -1,4 +1,4 @@
-use Rattle.std.proofs.Common.{◌≡◌, arith, false, subst}
+use Rattle.std.proofs.Common.{◌≡◌, arith, false, ap, subst}
 use Rattle.std.specs.Prelude.{IfOk, OnErr}
 use Rattle.hy_event.specs.declared.Need.TheVariants.{Core}
 use Rattle.hy_protocol.specs.declared.Progress.TheVariants.{Blocked}
@@ -102,3 +102,6 @@ returns-clause-prunes c =
     subst (λ (world : WorldData). prunings new.sessions ≡ prunings world.sessions) c.self.view_is
     (core_prunes c.visit_core.result fields.sessions c.args.number c.index_mut-session.result.now c.visit_core.new.self fields.core c.visit_core.new.core at.found
     (c.visit_core.ensures.event, c.visit_core.ensures.kept))
+
+pub returns-clause-kinds : goal.returns-clause-kinds
+returns-clause-kinds c = ap (λ (world : WorldData). world.kinds) c.self.view_is

@@ -9,15 +9,17 @@ use Rattle.hy_ast.specs.declared.ColumnDef.{ColumnDef}
 use Rattle.hy_ast.specs.declared.Literal.{Literal}
 use Rattle.hy_ast.specs.declared.Turn.{Turn}
 use Rattle.hy_ast.specs.Trees.{Statement}
+use Rattle.hy_schema.specs.declared.TableDef.{TableDef}
 use Rattle.hy_bind.specs.Literals.{literal_value}
 use Rattle.hy_bind.specs.Statements.{bind_fault}
 use Rattle.hy_script.specs.declared.Options.{Options}
 use Rattle.hy_script.specs.declared.NamedTxns.{NamedTxns}
 use Rattle.hy_script.specs.declared.codes.Code.{Code}
-use Rattle.hy_script.specs.declared.sofar.OpenTxn.{OpenTxn}
+use Rattle.hy_script.specs.declared.codes.Code.TheVariants as code
 use Rattle.hy_script.specs.declared.sofar.SoFar.{SoFar}
+use Rattle.hy_script.specs.declared.judging.Standing.{Standing}
 use Rattle.hy_script.specs.Codes.{rank, first_of_two, code_if_so, code_of}
-use Rattle.hy_script.specs.Refusals.{create_code, first_row_code, session_code, begin_code, savepoint_code, statement_code, schedule_code, any_unknown_in, stock_of, writes_in, groups_in}
+use Rattle.hy_script.specs.Refusals.{create_code, first_row_code, session_code, begin_code, savepoint_code, txn_code, statement_code, schedule_code, any_unknown_in, stock_of, writes_in, groups_in}
 use Rattle.hy_script.specs.Stocks.{key_there}
 use Rattle.hy_limits.specs.declared.TheConstants.{MOST_ITEMS, MOST_SESSIONS, MOST_STATEMENTS, MOST_TXNS}
 
@@ -72,26 +74,56 @@ session_taken script sofar name h = leb-false MOST_SESSIONS (length sofar.names)
 pub begin_taken : (session : NamedTxns) → begin_code session ≡ None → length session.txns < MOST_TXNS
 begin_taken session h = leb-false MOST_TXNS (length session.txns) (not_so _ _ h)
 
--- a statement of a transaction more
-pub record IsTaken (script : List ℕ) (sofar : SoFar) (txn : OpenTxn) (s : Statement) : Type 0 where
-  pub bound : bind_fault script sofar.catalog s ≡ None
-  pub saved_there : savepoint_code script txn.savepoints s ≡ None
-  pub writes_there : (txn.read_only && writes_in s) ≡ false
-  pub groups_there : (not txn.read_only && groups_in s) ≡ false
-  pub room : length txn.statements < MOST_STATEMENTS
+-- where none of four causes is there, each of them isn't
+none_of_four : (first second third fourth : Option Code) → first_of_two first (first_of_two second (first_of_two third fourth)) ≡ None
+    → (first ≡ None) × ((second ≡ None) × ((third ≡ None) × (fourth ≡ None)))
+none_of_four first second third fourth h =
+    let others = neither first (first_of_two second (first_of_two third fourth)) h in
+    let last = neither second (first_of_two third fourth) others.1 in
+    (others.0, (last.0, neither third fourth last.1))
 
-pub statement_taken : (script : List ℕ) (sofar : SoFar) (txn : OpenTxn) (s : Statement) → statement_code script sofar txn s ≡ None → IsTaken script sofar txn s
-statement_taken script sofar txn s h =
-    let parts = neither _ _ h in
-    let opened = neither _ _ parts.1 in
-    let others = neither _ _ opened.1 in
-    let last = neither _ _ others.1 in
+-- a statement that may stand in a transaction, whatever its tables are
+pub record IsPlaced (script : List ℕ) (standing : Standing) (s : Statement) : Type 0 where
+  pub saved_there : savepoint_code script standing.savepoints s ≡ None
+  pub writes_there : (standing.read_only && writes_in s) ≡ false
+  pub groups_there : (not standing.read_only && groups_in s) ≡ false
+  pub room : standing.statements < MOST_STATEMENTS
+
+pub txn_taken : (script : List ℕ) (standing : Standing) (s : Statement) → txn_code script standing s ≡ None → IsPlaced script standing s
+txn_taken script standing s h =
+    let writes = standing.read_only && writes_in s in
+    let groups = not standing.read_only && groups_in s in
+    let full = nat_le MOST_STATEMENTS standing.statements in
+    let none = none_of_four (savepoint_code script standing.savepoints s) (code_if_so writes code.ReadOnly) (code_if_so groups code.GroupInWriter) (code_if_so full code.Limit) h in
     record {
-      bound = without_fault (bind_fault script sofar.catalog s) parts.0;
-      saved_there = opened.0;
-      writes_there = not_so _ _ others.0;
-      groups_there = not_so _ _ last.0;
-      room = leb-false MOST_STATEMENTS (length txn.statements) (not_so _ _ last.1);
+      saved_there = none.0;
+      writes_there = not_so writes code.ReadOnly none.1.0;
+      groups_there = not_so groups code.GroupInWriter none.1.1.0;
+      room = leb-false MOST_STATEMENTS standing.statements (not_so full code.Limit none.1.1.1);
+    }
+
+-- there is room for it
+pub has_room : (script : List ℕ) (standing : Standing) (s : Statement) → txn_code script standing s ≡ None → standing.statements < MOST_STATEMENTS
+has_room script standing s h = (txn_taken script standing s h).room
+
+-- a statement of a transaction more
+pub record IsTaken (script : List ℕ) (catalog : List TableDef) (standing : Standing) (s : Statement) : Type 0 where
+  pub bound : bind_fault script catalog s ≡ None
+  pub saved_there : savepoint_code script standing.savepoints s ≡ None
+  pub writes_there : (standing.read_only && writes_in s) ≡ false
+  pub groups_there : (not standing.read_only && groups_in s) ≡ false
+  pub room : standing.statements < MOST_STATEMENTS
+
+pub statement_taken : (script : List ℕ) (catalog : List TableDef) (standing : Standing) (s : Statement) → statement_code script catalog standing s ≡ None → IsTaken script catalog standing s
+statement_taken script catalog standing s h =
+    let parts = neither (option_map code_of (bind_fault script catalog s)) (txn_code script standing s) h in
+    let placed = txn_taken script standing s parts.1 in
+    record {
+      bound = without_fault (bind_fault script catalog s) parts.0;
+      saved_there = placed.saved_there;
+      writes_there = placed.writes_there;
+      groups_there = placed.groups_there;
+      room = placed.room;
     }
 
 -- a schedule

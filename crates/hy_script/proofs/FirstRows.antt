@@ -18,6 +18,7 @@ use Rattle.hy_value.specs.Distinct.{one_of_more}
 use Rattle.hy_bound.specs.declared.Shape.{Shape}
 use Rattle.hy_bound.specs.Fits.{HaveOwnKeys, FitsRows, FitsInsert}
 use Rattle.hy_script.specs.declared.stocks.Stock.{Stock}
+use Rattle.hy_script.specs.Definitions.{IsStock}
 use Rattle.hy_script.specs.Stocks.{value_in, key_among, key_there, with_key, no_rows, with_row}
 
 -- ---- values that differ
@@ -42,12 +43,6 @@ not_among total (other ∷ others) v h =
     All-cons (λ (u : Value). u ≢ v) other others (differ total v other parts.0) (not_among total others v parts.1)
 
 -- ---- stocks
-
--- the first rows of a table fit it, and their keys are kept beside them
-pub record IsStock (room : ℕ) (shape : Shape) (stock : Stock) : Type 0 where
-  pub key : stock.key ≡ shape.key
-  pub rows : FitsRows room shape stock.rows
-  pub keys : (key : ℕ) → shape.key ≡ Some key → (value : Value) → is_one_of stock.keys value ≡ is_one_of (map (λ row. value_in row key) stock.rows) value
 
 no_keys : (key : ℕ) → HaveOwnKeys key []
 no_keys key = record { known = All-nil (λ (row : List Value). value_in row key ≢ Null); differ = λ i j d before within. absurd (omega (arith, within)) }

@@ -1,15 +1,12 @@
 -- What is read of a script fits, statement by statement.
-use Rattle.std.specs.Prelude.{◌*◌, ◌↔◌, slice_index_or, slice_set}
+use Rattle.std.specs.Prelude.{◌*◌, ◌↔◌}
 use Rattle.std.specs.Cmp.{IsTotalOrder}
-use Rattle.std.specs.List.{All, AllZip}
-use Rattle.std.specs.Option.{option_map_or}
-use Rattle.std.proofs.Common.{◌≡◌, ℕ, ◌<◌, ◌≤◌, true, false, List, [], ◌∷◌, ◌++◌, Option, None, Some, Ok, length, map, refl, sym, ◌∙◌, subst, arith}
+use Rattle.std.specs.List.{All}
+use Rattle.std.proofs.Common.{◌≡◌, ℕ, ◌<◌, ◌≤◌, true, false, List, [], ◌∷◌, ◌++◌, None, Ok, length, map, refl, sym, ◌∙◌, subst, arith}
 use Rattle.std.proofs.lemmas.List.{length-map, length_push, map_push}
-use Rattle.std.proofs.lemmas.List.Elements.{All-nil, All-push, All-map, All-weaker}
-use Rattle.hy_value.specs.declared.Value.{Value}
+use Rattle.std.proofs.lemmas.List.Elements.{All-nil, All-map, All-weaker}
 use Rattle.hy_value.specs.Order.{value_cmp}
 use Rattle.hy_schema.specs.declared.TableDef.{TableDef}
-use Rattle.hy_schema.specs.Names.{table_number}
 use Rattle.hy_token.specs.declared.Span.{Span}
 use Rattle.hy_ast.specs.declared.ColumnDef.{ColumnDef}
 use Rattle.hy_ast.specs.declared.Literal.{Literal}
@@ -20,49 +17,38 @@ use Rattle.hy_parse.specs.Grammar.{IsGrouped, HasItem}
 use Rattle.hy_parse.specs.Parsing.{parsed, Parses}
 use Rattle.hy_bound.specs.declared.Shape.{Shape}
 use Rattle.hy_bound.specs.declared.schedule.Item.{Item}
-use Rattle.hy_bound.specs.Agreement.{HasItsKey}
-use Rattle.hy_bound.specs.Records.{no_shape, shape_of}
-use Rattle.hy_bound.specs.Fits.{FitsShape, FitsRows, FitsInsert, FitsStatement, FitsSession, Fits}
+use Rattle.hy_bound.specs.Fits.{FitsShape, FitsSession, Fits}
 use Rattle.hy_bound.specs.Schedules.{FitsSchedule}
-use Rattle.hy_bind.specs.Literals.{text_of_span, literal_value}
+use Rattle.hy_bind.specs.Literals.{text_of_span}
 use Rattle.hy_bind.specs.Shapes.{defined_shape, catalog_shapes}
-use Rattle.hy_bind.specs.Statements.{HasNames, and_number, numbers_or_none, in_scope, fault_of_numbered, bound_in, bind_fault, bound_of}
+use Rattle.hy_bind.specs.Statements.{HasNames}
 use Rattle.hy_script.specs.declared.Options.{Options}
 use Rattle.hy_script.specs.declared.NamedTxns.{NamedTxns}
 use Rattle.hy_script.specs.declared.Script.{Script}
 use Rattle.hy_script.specs.declared.sofar.Section.{Section}
 use Rattle.hy_script.specs.declared.sofar.Section.TheVariants.{Defining, Between, Within, Scheduled}
 use Rattle.hy_script.specs.declared.sofar.SoFar.{SoFar}
-use Rattle.hy_script.specs.declared.stocks.Stock.{Stock}
-use Rattle.hy_script.specs.Stocks.{key_there, no_rows, with_row}
 use Rattle.hy_script.specs.Growing.{nothing, table_def, with_table, with_first_row, with_statement, with_insert, with_session, with_schedule, begun, closed, and_bound, all_sessions, after, script_of}
 use Rattle.hy_script.specs.Reading.{Reads}
-use Rattle.hy_script.specs.Refusals.{refusal_in, name_in, insert_code_at, first_row_code, stock_at, statement_code_at, create_code, session_code, schedule_code}
-use Rattle.hy_script.proofs.Accepted.{table_taken, row_taken, session_taken, schedule_taken}
-use Rattle.hy_script.proofs.Defined.{table_fits}
+use Rattle.hy_script.specs.Refusals.{refusal_in, name_in, insert_code_at, first_row_code, statement_code_at, create_code, session_code, schedule_code}
+use Rattle.hy_script.proofs.Accepted.{session_taken, schedule_taken}
+use Rattle.hy_script.specs.Definitions.{FitDefinitions}
+use Rattle.hy_script.proofs.Definitions.{Binding, room, none_defined, keys_there, rows_fit, table_more, is_table, row_defined}
 use Rattle.hy_script.proofs.Induction.{Holds, read_script_holds}
-use Rattle.hy_script.proofs.FirstRows.{IsStock, none_stocked, row_stocked}
 use Rattle.hy_script.proofs.MoreTables.{session_kept}
-use Rattle.hy_script.proofs.Standing.{IsSection, IsSession, no_txns, section_kept, begun_section, bound_section, closed_section, sessions_fit, begun_many, bound_many, closed_many}
+use Rattle.hy_script.proofs.Sections.{IsSection, IsSession, no_txns, section_kept, begun_section, bound_section, closed_section, sessions_fit, begun_many, bound_many, closed_many}
 use Rattle.hy_script.proofs.Turns.{schedule_fits, schedule_kept}
-use Rattle.hy_script.proofs.Zips.{zip_push, zip_at, zip_set, zip_map, zip_weaker}
 use Rattle.hy_limits.specs.declared.TheConstants.{MOST_SESSIONS}
 
 -- the laws of the crates below on which this rests
 pub record Laws : Type 0 where
   pub order : IsTotalOrder value_cmp
   pub parsing : (bytes : List ℕ) (at : ℕ) (s : Statement) (end : ℕ) → (parsed bytes at ≡ Ok (s, end)) ↔ Parses bytes at s end
-  pub binding : (script : List ℕ) (catalog : List TableDef) (s : Statement) → HasNames s → All HasItsKey (catalog_shapes catalog) → bind_fault script catalog s ≡ None
-      → FitsStatement (catalog_shapes catalog) (bound_of script catalog s)
-
-abbrev room : Options → ℕ
-room options = options.chunks * options.rows
+  pub binding : Binding
 
 -- what is read so far fits tables of these shapes
 pub record FitsSoFar (options : Options) (shapes : List Shape) (sofar : SoFar) : Type 0 where
-  pub few_tables : length shapes ≤ 16
-  pub tables : All FitsShape shapes
-  pub stocks : AllZip (IsStock (options.chunks * options.rows)) shapes sofar.stocks
+  pub defined : FitDefinitions (room options) shapes sofar.stocks
   pub sessions : All (IsSession shapes) sofar.sessions
   pub section : IsSection shapes sofar.section
   pub few_sessions : length sofar.names ≤ MOST_SESSIONS
@@ -74,9 +60,7 @@ IsGood options sofar = FitsSoFar options (catalog_shapes sofar.catalog) sofar
 
 pub nothing_good : (options : Options) → IsGood options nothing
 nothing_good options = record {
-  few_tables = omega arith;
-  tables = All-nil FitsShape;
-  stocks = tt;
+  defined = none_defined (room options);
   sessions = All-nil (IsSession []);
   section = tt;
   few_sessions = omega arith;
@@ -90,11 +74,8 @@ one_table_more : (options : Options) (shapes : List Shape) (sofar : SoFar) (def 
     → FitsSoFar options (shapes ++ defined_shape def ∷ []) (with_table sofar def)
 one_table_more options shapes sofar def few fits good =
     let shape : Shape = defined_shape def in
-    let many = length_push shapes shape in
     record {
-      few_tables = omega (arith, few, many);
-      tables = All-push FitsShape shapes shape good.tables fits;
-      stocks = zip_push (IsStock (room options)) shapes sofar.stocks shape (no_rows def.key) good.stocks (none_stocked (room options) shape);
+      defined = table_more (room options) shapes sofar.stocks def few fits good.defined;
       sessions = All-weaker (IsSession shapes) (IsSession (shapes ++ shape ∷ [])) (λ session is. session_kept shapes (shape ∷ []) session.txns is) sofar.sessions good.sessions;
       section = section_kept shapes (shape ∷ []) sofar.section good.section;
       few_sessions = good.few_sessions;
@@ -105,44 +86,18 @@ one_table_more options shapes sofar def few fits good =
 create_kept : (script : List ℕ) (options : Options) (sofar : SoFar) (table : Span) (columns : List ColumnDef) → HasItem columns → create_code script sofar table columns ≡ None → IsGood options sofar
     → IsGood options (with_table sofar (table_def script table columns))
 create_kept script options sofar table columns item h good =
-    let taken = table_taken script sofar table columns h in
     let def : TableDef = table_def script table columns in
-    let many = length-map sofar.catalog defined_shape in
+    let is = is_table script sofar table columns item h in
     subst (λ (shapes : List Shape). FitsSoFar options shapes (with_table sofar def)) (sym (map_push defined_shape sofar.catalog def))
-    (one_table_more options (catalog_shapes sofar.catalog) sofar def (omega (arith, taken.0, many)) (table_fits script table columns item taken.1) good)
+    (one_table_more options (catalog_shapes sofar.catalog) sofar def is.few is.fits good)
 
 -- ---- a first row
-
-abbrev InScope : List ℕ → List TableDef → Option ℕ → Statement → Type 0
-InScope script catalog number s = FitsStatement (catalog_shapes catalog) (bound_in (in_scope script catalog (numbers_or_none (and_number number (Some [])))) s)
-
-stocks_kept : (options : Options) (shapes : List Shape) (stocks : List Stock) (n : ℕ) (row : List Value) → IsTotalOrder value_cmp → n < length shapes → FitsInsert (shape_of shapes n) row
-    → length (slice_index_or stocks n (no_rows None)).rows < room options → key_there (slice_index_or stocks n (no_rows None)) row ≡ false
-    → AllZip (IsStock (room options)) shapes stocks → AllZip (IsStock (room options)) shapes (slice_set stocks n (with_row (slice_index_or stocks n (no_rows None)) row))
-stocks_kept options shapes stocks n row total there fits free own all =
-    zip_set (IsStock (room options)) shapes stocks n no_shape _ all
-    (row_stocked total (room options) (shape_of shapes n) (slice_index_or stocks n (no_rows None)) row free own fits (zip_at (IsStock (room options)) shapes stocks n no_shape (no_rows None) all there))
-
-numbered_kept : (script : List ℕ) (options : Options) (sofar : SoFar) (table : Span) (values : List Literal) (number : Option ℕ) → IsTotalOrder value_cmp
-    → fault_of_numbered script sofar.catalog (and_number number (Some [])) (tree.Insert table values) ≡ None → InScope script sofar.catalog number (tree.Insert table values)
-    → length (stock_at number sofar.stocks).rows < room options → key_there (stock_at number sofar.stocks) (map (literal_value script) values) ≡ false → IsGood options sofar
-    → AllZip (IsStock (room options)) (catalog_shapes sofar.catalog) (slice_set sofar.stocks (option_map_or (λ n. n) number 0) (with_row (stock_at number sofar.stocks) (map (literal_value script) values)))
-numbered_kept script options sofar table values None total h fits free own good = absurd cc
-numbered_kept script options sofar table values (Some n) total h fits free own good =
-    stocks_kept options (catalog_shapes sofar.catalog) sofar.stocks n (map (literal_value script) values) total fits.0 fits.1 free own good.stocks
-
-keys_there : (options : Options) (sofar : SoFar) → IsGood options sofar → All HasItsKey (catalog_shapes sofar.catalog)
-keys_there options sofar good = All-weaker FitsShape HasItsKey (λ shape fits. fits.key) (catalog_shapes sofar.catalog) good.tables
 
 row_kept : Laws → (script : List ℕ) (options : Options) (sofar : SoFar) (table : Span) (values : List Literal) → first_row_code script options sofar (tree.Insert table values) table values ≡ None
     → IsGood options sofar → IsGood options (with_first_row script sofar table values)
 row_kept laws script options sofar table values h good =
-    let taken = row_taken script options sofar (tree.Insert table values) table values h in
-    let fits = laws.binding script sofar.catalog (tree.Insert table values) tt (keys_there options sofar good) taken.bound in
     record {
-      few_tables = good.few_tables;
-      tables = good.tables;
-      stocks = numbered_kept script options sofar table values (table_number sofar.catalog (text_of_span script table)) laws.order taken.bound fits taken.room taken.own_key good;
+      defined = row_defined laws.order laws.binding script options sofar table values h good.defined;
       sessions = good.sessions;
       section = good.section;
       few_sessions = good.few_sessions;
@@ -155,9 +110,7 @@ row_kept laws script options sofar table values h good =
 at_section : (options : Options) (sofar : SoFar) (section : Section) → IsSection (catalog_shapes sofar.catalog) section → length (all_sessions sofar.sessions section) ≡ length (all_sessions sofar.sessions sofar.section)
     → IsGood options sofar → IsGood options (record sofar { section = section })
 at_section options sofar section is many good = record {
-  few_tables = good.few_tables;
-  tables = good.tables;
-  stocks = good.stocks;
+  defined = good.defined;
   sessions = good.sessions;
   section = is;
   few_sessions = good.few_sessions;
@@ -170,7 +123,7 @@ statement_kept : Laws → (script : List ℕ) (options : Options) (sofar : SoFar
 statement_kept laws script options sofar s section is names h good =
     let code : statement_code_at script sofar sofar.section s ≡ None = subst (λ (p : Section). statement_code_at script sofar p s ≡ None) (sym is) h in
     at_section options sofar (and_bound sofar.section script sofar.catalog s)
-    (bound_section (catalog_shapes sofar.catalog) script sofar s sofar.section names (laws.binding script sofar.catalog s names (keys_there options sofar good)) code good.section)
+    (bound_section (catalog_shapes sofar.catalog) script sofar s sofar.section names (laws.binding script sofar.catalog s names (keys_there (room options) (catalog_shapes sofar.catalog) sofar.stocks good.defined)) code good.section)
     (bound_many sofar.sessions script sofar.catalog s sofar.section) good
 
 insert_kept : Laws → (script : List ℕ) (options : Options) (sofar : SoFar) (section : Section) (table : Span) (values : List Literal) → sofar.section ≡ section
@@ -190,9 +143,7 @@ session_more script options sofar name h good =
     let sessions = length_push before (record { name = name_in script name; txns = [] }) in
     let many = good.as_many in
     record {
-      few_tables = good.few_tables;
-      tables = good.tables;
-      stocks = good.stocks;
+      defined = good.defined;
       sessions = sessions_fit (catalog_shapes sofar.catalog) sofar.sessions sofar.section good.sessions good.section;
       section = no_txns (catalog_shapes sofar.catalog);
       few_sessions = omega (arith, free, names);
@@ -204,9 +155,7 @@ schedule_more : (script : List ℕ) (options : Options) (sofar : SoFar) (turns :
 schedule_more script options sofar turns h good =
     let taken = schedule_taken script sofar turns h in
     record {
-      few_tables = good.few_tables;
-      tables = good.tables;
-      stocks = good.stocks;
+      defined = good.defined;
       sessions = sessions_fit (catalog_shapes sofar.catalog) sofar.sessions sofar.section good.sessions good.section;
       section = tt;
       few_sessions = good.few_sessions;
@@ -251,11 +200,9 @@ script_fits options sofar good =
     let few = good.few_sessions in
     record {
       fits = record {
-        few_tables = good.few_tables;
-        tables = good.tables;
-        first_rows =
-            zip_map (FitsRows (room options)) (λ (stock : Stock). stock.rows) shapes sofar.stocks
-            (zip_weaker (IsStock (room options)) (λ shape (stock : Stock). FitsRows (room options) shape stock.rows) shapes sofar.stocks (λ shape stock is. is.rows) good.stocks);
+        few_tables = good.defined.few;
+        tables = good.defined.tables;
+        first_rows = rows_fit (room options) shapes sofar.stocks good.defined;
         few_sessions = omega (arith, programs, many, few);
         sessions = All-map (FitsSession shapes) (λ (session : NamedTxns). session.txns) sessions (sessions_fit shapes sofar.sessions sofar.section good.sessions good.section);
       };

@@ -32,7 +32,7 @@ use Rattle.hy_script.specs.Stocks.{no_rows, with_row}
 use Rattle.hy_script.specs.Growing.{nothing, table_def, with_table, with_first_row, with_statement, with_insert, with_session, with_schedule, begun}
 use Rattle.hy_script.specs.Growing.{closed, and_bound, all_sessions, after, script_of}
 use Rattle.hy_script.specs.Reading.{Reads}
-use Rattle.hy_script.specs.Refusals.{refusal_in, insert_code_at, first_row_code, stock_at, statement_code_at}
+use Rattle.hy_script.specs.Refusals.{refusal_in, insert_code_at, first_row_code, stock_at, standing_of, statement_code_at}
 use Rattle.hy_script.specs.Binding.{WasGiven, WereGiven, WasBound, WereBound, IsBound}
 use Rattle.hy_script.proofs.Accepted.{row_taken, statement_taken}
 use Rattle.hy_script.proofs.Induction.{Holds, read_script_holds}
@@ -149,7 +149,7 @@ at_section : (script : List ℕ) (sofar : SoFar) (section : Section) → IsSecti
     → BoundSoFar script (record sofar { section = section })
 at_section script sofar section is so = record { stocks = so.stocks; sessions = so.sessions; section = is }
 
-statement_bound : (script : List ℕ) (catalog : List TableDef) (s : Statement) → HasNames s → bind_fault script catalog s ≡ None
+pub statement_bound : (script : List ℕ) (catalog : List TableDef) (s : Statement) → HasNames s → bind_fault script catalog s ≡ None
     → WasBound script catalog (bound_of script catalog s)
 statement_bound script catalog s names h = record {
   statement = s;
@@ -168,7 +168,7 @@ and_bound_bound script sofar s (Between session) names h is = is
 and_bound_bound script sofar s (Within session txn) names h is = (
   is.0,
   All-push (WasBound script sofar.catalog) txn.statements (bound_of script sofar.catalog s) is.1
-      (statement_bound script sofar.catalog s names (statement_taken script sofar txn s h).bound),
+      (statement_bound script sofar.catalog s names (statement_taken script sofar.catalog (standing_of txn) s h).bound),
 )
 and_bound_bound script sofar s Scheduled names h is = tt
 

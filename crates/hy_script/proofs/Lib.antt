@@ -14,10 +14,12 @@ pub mod Accepted
 pub mod Zips
 pub mod MoreTables
 pub mod FirstRows
+pub mod Definitions
 pub mod Opened
-pub mod Standing
+pub mod Sections
 pub mod Defined
 pub mod Turns
 pub mod Induction
 pub mod Kept
 pub mod KeptBound
+pub mod Suiting

@@ -6,3 +6,5 @@ pub mod Growing
 pub mod Reading
 pub mod Sentences
 pub mod Binding
+pub mod Suiting
+pub mod Definitions

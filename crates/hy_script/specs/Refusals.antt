@@ -1,15 +1,17 @@
 -- Why a statement is refused, where all its tokens fit: the first of its causes in their order.
-use Rattle.std.specs.Prelude.{ℕ, ◌*◌, Bool, true, false, not, ◌&&◌, ◌||◌, is_some, is_none, nat_le, nat_lt, List, [], ◌∷◌, Option, Some, None, length, map, count_by, slice_index_or}
+use Rattle.std.specs.Prelude.{◌≡◌, ℕ, suc, ◌*◌, Bool, true, false, not, ◌&&◌, ◌||◌, is_some, is_none, nat_le, nat_lt, List, [], ◌∷◌, Option, Some, None, Result, Ok, Err, length, map, count_by, slice_index_or}
 use Rattle.std.specs.Option.{option_map}
 use Rattle.hy_value.specs.TextBytes.{text_of}
 use Rattle.hy_schema.specs.Names.{number_of, table_number}
+use Rattle.hy_schema.specs.declared.TableDef.{TableDef}
 use Rattle.hy_ast.specs.declared.ColumnDef.{ColumnDef}
 use Rattle.hy_ast.specs.declared.Turn.{Turn}
 use Rattle.hy_ast.specs.Trees.{Selection, Statement}
 use Rattle.hy_ast.specs.Trees as tree
 use Rattle.hy_token.specs.declared.Span.{Span}
 use Rattle.hy_ast.specs.declared.Literal.{Literal}
-use Rattle.hy_bound.specs.Savepoints.{Saved, newest}
+use Rattle.hy_bound.specs.Savepoints.{Saved, newest, saved_after}
+use Rattle.hy_bound.specs.declared.Bound.{Bound}
 use Rattle.hy_bind.specs.Literals.{text_of_span, literal_value}
 use Rattle.hy_bind.specs.Statements.{bind_fault, repeats}
 use Rattle.hy_script.specs.declared.Options.{Options}
@@ -18,6 +20,8 @@ use Rattle.hy_script.specs.declared.sofar.OpenTxn.{OpenTxn}
 use Rattle.hy_script.specs.declared.sofar.Section.{Section}
 use Rattle.hy_script.specs.declared.sofar.Section.TheVariants.{Between, Within}
 use Rattle.hy_script.specs.declared.sofar.SoFar.{SoFar}
+use Rattle.hy_script.specs.declared.judging.Standing.{Standing}
+use Rattle.hy_script.specs.declared.judging.StandingRef.{StandingRef}
 use Rattle.hy_script.specs.declared.codes.Code.{Code}
 use Rattle.hy_script.specs.declared.codes.Code.TheVariants as code
 use Rattle.hy_script.specs.Codes.{first_of_two, code_if_so, code_of}
@@ -26,8 +30,8 @@ use Rattle.hy_script.specs.Stocks.{no_rows, key_there}
 use Rattle.hy_limits.specs.declared.TheConstants.{MOST_COLUMNS, MOST_ITEMS, MOST_SAVEPOINTS, MOST_SESSIONS, MOST_STATEMENTS, MOST_TABLES, MOST_TXNS}
 
 -- the cause that binding gives
-abbrev pub bind_code : List ℕ → SoFar → Statement → Option Code
-bind_code script sofar statement = option_map code_of (bind_fault script sofar.catalog statement)
+abbrev pub bind_code : List ℕ → List TableDef → Statement → Option Code
+bind_code script catalog statement = option_map code_of (bind_fault script catalog statement)
 
 -- a name as a text; a name is a word, and so a text
 abbrev pub name_in : List ℕ → Span → List ℕ
@@ -54,7 +58,7 @@ stock_of script sofar table = stock_at (table_number sofar.catalog (text_of_span
 -- a first row: there is room, and no earlier one has its key
 abbrev pub first_row_code : List ℕ → Options → SoFar → Statement → Span → List Literal → Option Code
 first_row_code script options sofar statement table values =
-    first_of_two (bind_code script sofar statement)
+    first_of_two (bind_code script sofar.catalog statement)
     (first_of_two (code_if_so (nat_le (options.chunks * options.rows) (length (stock_of script sofar table).rows)) code.Limit)
     (code_if_so (key_there (stock_of script sofar table) (map (literal_value script) values)) code.KeyTwice))
 
@@ -85,18 +89,43 @@ savepoint_code script saved (tree.RollbackTo name) = code_if_so (is_none (newest
 savepoint_code script saved (tree.Release name) = code_if_so (is_none (newest (name_in script name) saved)) code.UnknownSavepoint
 savepoint_code script saved _ = None
 
+-- what a statement of an open transaction is judged by, beside the tables
+abbrev pub standing_of : OpenTxn → Standing
+standing_of txn = record { read_only = txn.read_only; statements = length txn.statements; savepoints = txn.savepoints }
+
+-- that of a transaction without statements, and that with a statement more
+abbrev pub no_statements : Bool → Standing
+no_statements read_only = record { read_only = read_only; statements = 0; savepoints = [] }
+
+abbrev pub with_bound : Standing → Bound → Standing
+with_bound standing bound = record {
+  read_only = standing.read_only;
+  statements = suc standing.statements;
+  savepoints = saved_after bound standing.savepoints tt;
+}
+
+-- what one says that the program lends
+abbrev pub lent : StandingRef → Standing
+lent standing = record { read_only = standing.read_only; statements = standing.statements; savepoints = standing.savepoints.now }
+
 -- a statement in a transaction, whatever its tables are: it names savepoints that are open, a READ ONLY one doesn't write,
 -- GROUP BY stands in a READ ONLY one, and it is one of at most 256
-abbrev pub txn_code : List ℕ → OpenTxn → Statement → Option Code
-txn_code script txn statement =
-    first_of_two (savepoint_code script txn.savepoints statement)
-    (first_of_two (code_if_so (txn.read_only && writes_in statement) code.ReadOnly)
-    (first_of_two (code_if_so (not txn.read_only && groups_in statement) code.GroupInWriter)
-    (code_if_so (nat_le MOST_STATEMENTS (length txn.statements)) code.Limit)))
+abbrev pub txn_code : List ℕ → Standing → Statement → Option Code
+txn_code script standing statement =
+    first_of_two (savepoint_code script standing.savepoints statement)
+    (first_of_two (code_if_so (standing.read_only && writes_in statement) code.ReadOnly)
+    (first_of_two (code_if_so (not standing.read_only && groups_in statement) code.GroupInWriter)
+    (code_if_so (nat_le MOST_STATEMENTS standing.statements) code.Limit)))
 
--- a statement of a transaction
-abbrev pub statement_code : List ℕ → SoFar → OpenTxn → Statement → Option Code
-statement_code script sofar txn statement = first_of_two (bind_code script sofar statement) (txn_code script txn statement)
+-- a statement of a transaction, over these tables
+abbrev pub statement_code : List ℕ → List TableDef → Standing → Statement → Option Code
+statement_code script catalog standing statement = first_of_two (bind_code script catalog statement) (txn_code script standing statement)
+
+-- what judging a statement answers, where this is the first of its causes to be refused, if it has one, and this what it
+-- says with its names resolved
+abbrev pub Judges : Result Bound Code → Option Code → Bound → Type 0
+Judges (Ok bound) cause said = (cause ≡ None) × (bound ≡ said)
+Judges (Err code) cause said = cause ≡ Some code
 
 -- SCHEDULE: it names sessions, in at most 1,000,000 turns
 unfoldable pub is_unknown_in : List ℕ → List (List ℕ) → Turn → Bool
@@ -112,11 +141,11 @@ schedule_code script sofar turns =
 
 -- by where the script stands; a statement that may not stand there is refused before
 abbrev pub statement_code_at : List ℕ → SoFar → Section → Statement → Option Code
-statement_code_at script sofar (Within session txn) statement = statement_code script sofar txn statement
+statement_code_at script sofar (Within session txn) statement = statement_code script sofar.catalog (standing_of txn) statement
 statement_code_at script sofar _ statement = None
 
 abbrev pub insert_code_at : List ℕ → Options → SoFar → Section → Statement → Span → List Literal → Option Code
-insert_code_at script options sofar (Within session txn) statement table values = statement_code script sofar txn statement
+insert_code_at script options sofar (Within session txn) statement table values = statement_code script sofar.catalog (standing_of txn) statement
 insert_code_at script options sofar _ statement table values = first_row_code script options sofar statement table values
 
 abbrev pub begin_code_at : Section → Option Code

@@ -16,19 +16,24 @@ use std::alloc::{AllocError, Global};
 
 mod codes;
 mod fitting;
+mod judging;
 mod keys;
 mod laws;
 mod reading;
+mod savepoints;
 mod sofar;
 mod stocks;
 
 pub use codes::Code;
-pub use fitting::{what_is_read_fits, what_is_read_is_bound};
+pub use fitting::{
+    accepted_definitions_fit, accepted_statements_suit, what_is_read_fits, what_is_read_is_bound,
+};
+pub use judging::{Standing, StandingRef, judge};
 pub use laws::{
     accepted_scripts_are_sentences, reading_comes_to_an_answer, sentences_are_accepted,
 };
 use reading::{Halt, Step, line_of};
-use sofar::SoFar;
+pub use sofar::SoFar;
 
 /// The chunks of a table and the rows of a chunk.
 #[derive(Clone, Copy, Debug, PartialEq, Eq)]
@@ -94,11 +99,11 @@ impl From<AllocError> for ReadError {
 
 /// What is read, and with which options.
 #[derive(Clone, Copy)]
-struct Input<'a> {
+pub struct Input<'a> {
     /// The script.
-    script: &'a [u8],
+    pub script: &'a [u8],
     /// The options.
-    options: &'a Options,
+    pub options: &'a Options,
 }
 
 /// The script that the bytes spell, or the first refusal.

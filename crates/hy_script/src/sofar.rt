@@ -1,21 +1,23 @@
 //! What is read of a script so far. What each part of a script adds stands in a file of its own.
 
-ghost use Rattle.std.specs.Prelude.{◌≡◌, IfOk};
+ghost use Rattle.std.specs.Prelude.{◌≡◌, [], map, IfOk};
 ghost use Rattle.hy_script.specs.Growing.{nothing, script_of};
+ghost use Rattle.hy_script.specs.Refusals.{lent, standing_of};
 
 mod rows;
-mod savepoints;
 mod schedule;
 mod sessions;
 mod tables;
 
+use crate::judging::StandingRef;
 use crate::stocks::Stock;
 use crate::{NamedTxns, Options, Script};
-use hy_bound::{SavedName, Schedule, Statements};
+use hy_bound::{SavedName, Schedule, Statements, StoredRows};
 use hy_schema::{Catalog, Names};
 use hy_value::Seq;
 use rows::rows_of;
 use std::alloc::{AllocError, Global};
+use std::mem;
 
 /// A transaction that is open.
 #[derive(Drop)]
@@ -58,6 +60,19 @@ pub struct SoFar {
     pub schedule: Schedule,
 }
 
+impl OpenTxn {
+    /// What its next statement is judged by, beside the tables.
+    pub fn standing(&self) -> StandingRef<'_>
+        ensures { lent result ≡ standing_of self.now }
+    {
+        StandingRef {
+            read_only: self.read_only,
+            statements: self.statements.len(),
+            savepoints: self.savepoints.as_slice(),
+        }
+    }
+}
+
 impl SoFar {
     /// Nothing.
     pub fn new(alloc: Global) -> SoFar
@@ -71,6 +86,13 @@ impl SoFar {
             section: Section::Defining,
             schedule: Seq::new(alloc),
         }
+    }
+
+    /// Takes the first rows of all tables out.
+    pub fn take_rows(&mut self, alloc: Global) -> Result<Seq<StoredRows>, AllocError>
+        ensures { IfOk result (λ rows. (rows ≡ map (λ stock. stock.rows) self.old.stocks) × (self.new ≡ record self.old { stocks = [] })) }
+    {
+        rows_of(alloc, mem::replace(&mut self.stocks, Seq::new(alloc)))
     }
 
     /// The whole script.

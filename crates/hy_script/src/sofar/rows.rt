@@ -1,6 +1,6 @@
 //! First rows of tables.
 
-ghost use Rattle.std.specs.Prelude.{◌≡◌, ◌*◌, None, map, nat_le, length, IfOk, OnOk, slice_set, slice_index_or};
+ghost use Rattle.std.specs.Prelude.{◌≡◌, ◌*◌, None, map, nat_le, length, IfOk, IfSome, OnOk, slice_set, slice_index_or};
 ghost use Rattle.hy_ast.specs.Trees.{statement_of, Insert};
 ghost use Rattle.hy_bind.specs.Literals.{text_of_span};
 ghost use Rattle.hy_schema.specs.Names.{table_number};
@@ -74,7 +74,7 @@ impl SoFar {
         Ok(())
     }
 
-    /// A first row.
+    /// A first row. One that is refused changes nothing.
     #[tactic(auto, using(crate::proofs::Causes::key_last))]
     pub fn first_row(
         &mut self,
@@ -85,8 +85,9 @@ impl SoFar {
         values: &[Literal],
     ) -> Result<Option<Code>, AllocError>
         requires { statement_of ast.now ≡ Insert table values.now }
-        ensures { IfOk result (λ code. Takes code (first_row_code input.now.script.now input.now.options.now self.old (statement_of ast.now) table
+        ensures takes { IfOk result (λ code. Takes code (first_row_code input.now.script.now input.now.options.now self.old (statement_of ast.now) table
             values.now) self.new (with_first_row input.now.script.now self.old table values.now)) }
+        ensures refused { IfOk result (λ code. IfSome code (λ _. self.new ≡ self.old)) }
     {
         let number = self.stock_number(input.script, table);
         let full = code_if(self.is_full(input.options, number), Code::Limit);

@@ -4,17 +4,17 @@ ghost use Rattle.std.specs.Prelude.{◌≡◌, IfOk, OnOk};
 ghost use Rattle.hy_ast.specs.Trees.{statement_of};
 ghost use Rattle.hy_bind.specs.Statements.{HasNames};
 ghost use Rattle.hy_script.specs.declared.sofar.Section.TheVariants as Section;
-ghost use Rattle.hy_script.specs.Refusals.{begin_code_at, groups_in, session_code, statement_code, statement_code_at, txn_code, writes_in};
+ghost use Rattle.hy_script.specs.Refusals.{begin_code_at, session_code, standing_of, statement_code, statement_code_at};
 ghost use Rattle.hy_script.specs.Growing.{all_sessions, and_bound, begun, closed, with_session, with_statement, Takes};
 
 use crate::NamedTxns;
 use crate::codes::{Code, code_if, first_of};
-use crate::sofar::savepoints::savepoint_code;
+use crate::judging::judge;
 use crate::sofar::{OpenTxn, Section, SoFar};
-use hy_ast::{Selection, Statement};
-use hy_bind::{BindError, bind, text, text_in};
+use hy_ast::Statement;
+use hy_bind::{text, text_in};
 use hy_bound::{SavedName, Statements, Txn, Txns, keep_open};
-use hy_limits::{MOST_SESSIONS, MOST_STATEMENTS, MOST_TXNS};
+use hy_limits::{MOST_SESSIONS, MOST_TXNS};
 use hy_token::Span;
 use hy_value::Seq;
 use std::alloc::{AllocError, Global};
@@ -137,49 +137,17 @@ impl SoFar {
         mut txn: OpenTxn,
     ) -> Result<Option<Code>, AllocError>
         requires { HasNames (statement_of ast.now) }
-        ensures { IfOk result (λ code. Takes code (statement_code script.now self.old txn (statement_of ast.now)) self.new
+        ensures { IfOk result (λ code. Takes code (statement_code script.now self.old.catalog (standing_of txn) (statement_of ast.now)) self.new
             (record self.old { section = and_bound (Section.Within session txn) script.now self.old.catalog (statement_of ast.now) })) }
     {
-        let rest = txn_code(alloc, script, &txn, ast);
-        match bind(alloc, script, &self.catalog, ast) {
+        match judge(alloc, script, &self.catalog, txn.standing(), ast)? {
             Ok(bound) => {
                 keep_open(&mut txn.savepoints, &bound)?;
                 txn.statements.push(bound)?;
                 self.section = Section::Within(session, txn);
-                Ok(rest)
+                Ok(None)
             }
-            Err(BindError::Refused(fault)) => Ok(first_of(Some(Code::from(fault)), rest)),
-            Err(BindError::OutOfMemory) => Err(AllocError),
+            Err(code) => Ok(Some(code)),
         }
     }
-}
-
-/// Why a statement may not stand in this transaction, whatever its tables are.
-fn txn_code(alloc: Global, script: &[u8], txn: &OpenTxn, ast: &Statement) -> Option<Code>
-    ensures { result ≡ txn_code script.now txn.now (statement_of ast.now) }
-{
-    let full = txn.statements.len() >= MOST_STATEMENTS;
-    let writer = code_if(!txn.read_only && groups(ast), Code::GroupInWriter);
-    let reader = code_if(txn.read_only && writes(ast), Code::ReadOnly);
-    first_of(
-        savepoint_code(alloc, script, txn.savepoints.as_slice(), ast),
-        first_of(reader, first_of(writer, code_if(full, Code::Limit))),
-    )
-}
-
-/// Whether a statement writes.
-fn writes(ast: &Statement) -> bool
-    ensures { result ≡ writes_in (statement_of ast.now) }
-{
-    matches!(
-        ast,
-        Statement::Insert { .. } | Statement::Update { .. } | Statement::Delete { .. }
-    )
-}
-
-/// Whether a statement has GROUP BY.
-fn groups(ast: &Statement) -> bool
-    ensures { result ≡ groups_in (statement_of ast.now) }
-{
-    matches!(ast, Statement::Select(Selection::Groups { .. }))
 }

@@ -1,6 +1,6 @@
 //! Tables and their columns.
 
-ghost use Rattle.std.specs.Prelude.{◌≡◌, None, is_some, map, nat_lt, count_by, IfOk, OnOk};
+ghost use Rattle.std.specs.Prelude.{◌≡◌, None, is_some, map, nat_lt, count_by, IfOk, IfSome, OnOk};
 ghost use Rattle.hy_schema.specs.Names.{table_number, refusal_of};
 ghost use Rattle.hy_script.specs.Refusals.{create_code, is_key, name_in};
 ghost use Rattle.hy_script.specs.Growing.{column_def, key_from, table_def, with_table, Takes};
@@ -45,7 +45,7 @@ impl SoFar {
         ))
     }
 
-    /// CREATE TABLE.
+    /// CREATE TABLE. One that is refused changes nothing.
     #[tactic(auto, using(crate::proofs::Tables::is_free))]
     pub fn create(
         &mut self,
@@ -54,8 +54,9 @@ impl SoFar {
         table: Span,
         columns: &[ColumnDef],
     ) -> Result<Option<Code>, AllocError>
-        ensures { IfOk result (λ code. Takes code (create_code script.now self.old table columns.now) self.new
+        ensures takes { IfOk result (λ code. Takes code (create_code script.now self.old table columns.now) self.new
             (with_table self.old (table_def script.now table columns.now))) }
+        ensures refused { IfOk result (λ code. IfSome code (λ _. self.new ≡ self.old)) }
     {
         let code = self.create_code(alloc, script, table, columns)?;
         if code.is_none() {

@@ -19,7 +19,7 @@ use Rattle.hy_script.specs.declared.sofar.Section.{Section}
 use Rattle.hy_script.specs.declared.sofar.Section.TheVariants.{Defining, Between, Within, Scheduled}
 use Rattle.hy_script.specs.declared.sofar.SoFar.{SoFar}
 use Rattle.hy_script.specs.Growing.{all_sessions, begun, and_bound, closed}
-use Rattle.hy_script.specs.Refusals.{begin_code_at, statement_code_at, writes_in, groups_in}
+use Rattle.hy_script.specs.Refusals.{begin_code_at, standing_of, statement_code_at, writes_in, groups_in}
 use Rattle.hy_script.proofs.Accepted.{begin_taken, statement_taken}
 use Rattle.hy_script.proofs.Opened.{open_after, open_push, opened_push, code_opens}
 use Rattle.hy_script.proofs.MoreTables.{statements_kept, session_kept}
@@ -92,7 +92,7 @@ selection_stands only script catalog (tree.Rows listed table joins test) h = tt
 selection_stands only script catalog (tree.Count table test) h = tt
 selection_stands only script catalog (tree.Groups column total table test key) h = groups_alone only h
 
-stands : (only : Bool) (script : List ℕ) (catalog : List TableDef) (s : Statement) → HasNames s → (only && writes_in s) ≡ false → (not only && groups_in s) ≡ false → MayStand only (bound_of script catalog s)
+pub stands : (only : Bool) (script : List ℕ) (catalog : List TableDef) (s : Statement) → HasNames s → (only && writes_in s) ≡ false → (not only && groups_in s) ≡ false → MayStand only (bound_of script catalog s)
 stands only script catalog (tree.Insert table values) names w g = writes_alone only w
 stands only script catalog (tree.Update table sets test) names w g = writes_alone only w
 stands only script catalog (tree.Delete table test) names w g = writes_alone only w
@@ -107,14 +107,15 @@ pub bound_section : (shapes : List Shape) (script : List ℕ) (sofar : SoFar) (s
 bound_section shapes script sofar s Defining names fits h is = tt
 bound_section shapes script sofar s (Between session) names fits h is = is
 bound_section shapes script sofar s (Within session txn) names fits h is =
-    let taken = statement_taken script sofar txn s h in
+    let taken = statement_taken script sofar.catalog (standing_of txn) s h in
+    let room : length txn.statements < MOST_STATEMENTS = taken.room in
     let bound : Bound = bound_of script sofar.catalog s in
     let many = length_push txn.statements bound in
     record {
       room = is.room;
       earlier = is.earlier;
       opened = record {
-        few = omega (arith, taken.room, many);
+        few = omega (arith, room, many);
         fit = All-push (FitsStatement shapes) txn.statements bound is.opened.fit (fits taken.bound);
         stand = All-push (MayStand txn.read_only) txn.statements bound is.opened.stand (stands txn.read_only script sofar.catalog s names taken.writes_there taken.groups_there);
         opened =

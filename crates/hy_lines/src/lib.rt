@@ -1,7 +1,8 @@
 //! A source read line by line: bytes are taken of it only where no whole line is kept.
 #![tactic(auto)]
 
-ghost use Rattle.std.specs.Prelude.{◌≡◌, ◌+◌, ◌^◌, ◌<◌, ◌≤◌, ◌++◌, [], Bool, true, false, length, take, drop, Some, IfOk, IfSome, IfNone, OnOk, OnErr, IsErrOf, position};
+ghost use Rattle.std.specs.Prelude.{◌≡◌, ◌+◌, ◌^◌, ◌<◌, ◌≤◌, ◌++◌, [], Bool, true, false, length, take};
+ghost use Rattle.std.specs.Prelude.{drop, Some, IfOk, IfSome, IfNone, OnOk, OnErr, IsErrOf, position};
 ghost use Rattle.hy_limits.specs.declared.TheConstants.{MOST_BYTES};
 ghost use Rattle.hy_outside.specs.Faults.{Rose};
 ghost use Rattle.hy_outside.specs.Telling.{Gives};

@@ -1,0 +1,9 @@
+pub mod Bare
+pub mod Colons
+pub mod Ends
+pub mod Fitting
+pub mod Heard
+pub mod Rows
+pub mod Sets
+pub mod Suiting
+pub mod Utf8

@@ -1,0 +1,5 @@
+pub mod Lines
+pub mod Saying
+pub mod Answers
+pub mod Suiting
+pub mod Fitting

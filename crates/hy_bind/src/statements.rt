@@ -20,7 +20,7 @@ use hy_ast::{Literal, SetClause, Test};
 use hy_bound::{Assign, Bound, Sets};
 use hy_schema::Column;
 use hy_token::Span;
-use hy_value::{Kind, Row, Seq};
+use hy_value::{Kind, Seq, StoredRow};
 use std::alloc::{AllocError, Global};
 
 /// The number of a statement's one table.
@@ -114,14 +114,14 @@ fn is_null(literal: Option<&Literal>) -> bool
 }
 
 /// The row of an INSERT.
-fn row(alloc: Global, script: &[u8], literals: &[Literal]) -> Result<Row, AllocError>
+fn row(alloc: Global, script: &[u8], literals: &[Literal]) -> Result<StoredRow, AllocError>
     ensures { IfOk result (λ row. row ≡ map (literal_value script.now) literals.now) }
 {
     let mut values = Vec::with_capacity(alloc, literals.len())?;
     for literal in literals {
         values.push(value(alloc, script, literal)?)?;
     }
-    Ok(Seq::from_vec(values))
+    StoredRow::from_values(alloc, values.as_slice())
 }
 
 /// An UPDATE.

@@ -128,8 +128,8 @@ pub enum Bound {
     Insert {
         /// The table.
         table: u32,
-        /// The row.
-        row: Row,
+        /// The row, as it is kept: a script may have many.
+        row: StoredRow,
     },
     /// UPDATE: the rows that the condition selects are set.
     Update {

@@ -363,11 +363,11 @@ pub fn column_value(row: &Row, column: u32) -> Value
 }
 
 /// A row's value in a column, NULL beyond its last, where it stands.
-pub fn column_ref(row: &Row, column: u32) -> ValueRef<'_>
-    ensures { referred result ≡ column_of row.now column }
+pub fn column_ref<R: Cells>(row: &R, column: u32) -> ValueRef<'_>
+    ensures { referred result ≡ column_of (R.values row.now) column }
 {
-    match cell(row, column) {
-        Some(value) => value.refer(),
+    match row.cell_at(column) {
+        Some(value) => value,
         None => ValueRef::Null,
     }
 }

@@ -3,7 +3,7 @@
 use hy_bound::{
     Aggregate, Assign, Bound, Items, On, Pred, Record, Records, Rows, SetExpr, Shape, Side, truth,
 };
-use hy_given::{compare, equal, pair, pairs, row};
+use hy_given::{compare, equal, pair, pairs, row, stored_pair};
 use hy_plan::records;
 use hy_value::{Cmp, Row, Seq, print_row};
 use std::alloc::{AllocError, Global};
@@ -260,7 +260,7 @@ fn an_insert_looks_for_its_key(rt: HostRuntime) -> Result<(), Fail> {
     let alloc = rt.alloc();
     let insert = Bound::Insert {
         table: 1,
-        row: pair(alloc, 1, 0)?,
+        row: stored_pair(alloc, 1, 0)?,
     };
     let text = alone_lines(alloc, &insert)?;
     assert_eq!(rt; text.as_str(), "11x-: 1|10 1|20 1|NULL 1|100\n");

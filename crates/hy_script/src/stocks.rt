@@ -6,7 +6,7 @@ ghost use Rattle.hy_script.specs.Stocks.{key_there, with_row, value_in};
 
 use crate::keys::KeySet;
 use hy_bound::StoredRows;
-use hy_value::{Row, Seq, StoredRow, ValueRef};
+use hy_value::{Seq, StoredRow, ValueRef};
 use std::alloc::{AllocError, Global};
 
 /// The first rows of a table, with the keys that they have.
@@ -33,7 +33,7 @@ impl Stock {
     }
 
     /// Whether a row that is there has the key of this one.
-    pub fn has_key(&self, row: &Row) -> bool
+    pub fn has_key(&self, row: &StoredRow) -> bool
         ensures { result ≡ key_there self.now row.now }
     {
         match self.key {
@@ -43,24 +43,24 @@ impl Stock {
     }
 
     /// Adds a row.
-    pub fn add(&mut self, alloc: Global, row: &Row) -> Result<(), AllocError>
-        ensures { OnOk result (self.new ≡ with_row self.old row.now) }
+    pub fn add(&mut self, row: StoredRow) -> Result<(), AllocError>
+        ensures { OnOk result (self.new ≡ with_row self.old row) }
     {
         if let Some(key) = self.key {
-            self.keys.insert(key_at(row, key))?;
+            self.keys.insert(key_at(&row, key))?;
         }
-        self.rows
-            .push(StoredRow::from_values(alloc, row.as_slice())?)?;
+        self.rows.push(row)?;
         Ok(())
     }
 }
 
 /// A row's value in a column where it stands, NULL beyond its last.
-fn key_at(row: &Row, key: u32) -> ValueRef<'_>
+fn key_at(row: &StoredRow, key: u32) -> ValueRef<'_>
     ensures { referred result ≡ value_in row.now key }
 {
-    match row.as_slice().get(key as usize) {
-        Some(value) => value.refer(),
-        None => ValueRef::Null,
+    if (key as usize) < row.len() {
+        row.refer(key as usize)
+    } else {
+        ValueRef::Null
     }
 }

@@ -22,7 +22,7 @@ use hy_notes::Changes;
 use hy_protocol::{Phase, Progress};
 use hy_prune::Cover;
 use hy_stamp::Viewer;
-use hy_value::Row;
+use hy_value::StoredRow;
 use hy_visit::{Writer, check_visit, is_passed, place_visit};
 use std::alloc::{AllocError, Global};
 
@@ -34,7 +34,7 @@ pub struct Insertion<'a> {
     /// Its table.
     pub table: u32,
     /// The row.
-    pub row: &'a Row,
+    pub row: &'a StoredRow,
 }
 
 /// A visit that looks for the key of the row.
@@ -99,6 +99,7 @@ fn place_in(
     ensures levels_kept { OnErr result (notes.new.levels ≡ notes.old.levels) }
     ensures kinds { chunk.new.kinds ≡ chunk.old.kinds }
 {
+    let row = insertion.row.to_row()?;
     let width = table_shape(visitor.shapes, insertion.table).width;
     reserve_writes(chunk, notes, 1, width)?;
     let writer = Writer {
@@ -107,7 +108,7 @@ fn place_in(
         cover,
         prunes: visitor.prunes,
     };
-    Ok(place_visit(chunk, &writer, insertion.row, notes))
+    Ok(place_visit(chunk, &writer, &row, notes))
 }
 
 /// Where a transaction stands after a visit that found no position free in the chunk of this number.
@@ -188,7 +189,7 @@ struct Sought<'a> {
     /// As whom they look.
     viewer: Viewer,
     /// The row.
-    row: &'a Row,
+    row: &'a StoredRow,
     /// The column of the key, if they look for it.
     key: Option<u32>,
     /// The starts that pruning covers.

@@ -7,7 +7,7 @@ ghost use Rattle.hy_value.specs.Cells.{text_count, texts_in};
 ghost use Rattle.hy_value.specs.declared.Value.{Value};
 
 use crate::cells::Cell;
-use crate::{Text, Value, ValueRef, compare_refs};
+use crate::{Row, Seq, Text, Value, ValueRef, compare_refs};
 use smallvec::SmallVec;
 use std::alloc::{AllocError, Global};
 use std::cmp::Ordering;
@@ -186,6 +186,17 @@ impl RowBuffer {
         buffer.make_room(values.len(), count_texts(values))?;
         buffer.fill_reserved(values);
         Ok(buffer)
+    }
+
+    /// The same values, as a row to work on. Err is for want of memory.
+    pub fn to_row(&self) -> Result<Row, AllocError>
+        ensures { IfOk result (λ row. row ≡ self.now.values) }
+    {
+        let mut values = Vec::with_capacity(*self.texts.allocator(), self.len())?;
+        for column in 0..self.len() {
+            values.push(self.refer(column).to_value())?;
+        }
+        Ok(Seq::from_vec(values))
     }
 
     /// How the values stand to others: by the first column in which they differ.

@@ -6,7 +6,7 @@ ghost use Rattle.hy_value.specs.Order.{row_cmp};
 ghost use Rattle.hy_value.specs.Sorted.{sorted};
 ghost use Rattle.hy_value.specs.declared.Value.{Value};
 
-use crate::{Row, RowBuffer, Seq, Value, ValueRef};
+use crate::{Row, RowBuffer, Value, ValueRef};
 use std::alloc::{AllocError, Global};
 use std::cmp::Ordering;
 use std::marker::Model;
@@ -60,14 +60,10 @@ impl StoredRow {
     }
 
     /// The same values, as a row to work on. Err is for want of memory.
-    pub fn to_row(&self, alloc: Global) -> Result<Row, AllocError>
+    pub fn to_row(&self) -> Result<Row, AllocError>
         ensures { IfOk result (λ row. row ≡ self.now) }
     {
-        let mut values = Vec::with_capacity(alloc, self.len())?;
-        for column in 0..self.len() {
-            values.push(self.refer(column).to_value())?;
-        }
-        Ok(Seq::from_vec(values))
+        self.buffer.to_row()
     }
 
     /// How many values there are.

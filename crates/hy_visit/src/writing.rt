@@ -15,13 +15,13 @@ ghost use Rattle.hy_visit.specs.Pruning.{AllFall, AllShort};
 ghost use Rattle.hy_visit.specs.Writing.{WriteDone};
 
 use crate::pruning::prune_first;
-use hy_bound::{Pred, WriteKind, cell};
+use hy_bound::{Pred, WriteKind, column_ref};
 use hy_chunk::{Chunk, Sweep};
 use hy_notes::Changes;
 use hy_prune::Cover;
 use hy_stamp::{Label, Viewer};
 use hy_undo::{Delta, Refusal};
-use hy_value::{Change, Row, Value};
+use hy_value::{Change, Row, StoredRow};
 
 /// Who writes, and how the chunk is pruned before.
 #[derive(Clone, Copy)]
@@ -74,14 +74,11 @@ pub fn write_visit(
 }
 
 /// Whether a viewer sees a row of the chunk that has the key of this row.
-pub fn check_visit(chunk: &mut Chunk, viewer: &Viewer, row: &Row, key: u32) -> bool
+pub fn check_visit(chunk: &mut Chunk, viewer: &Viewer, row: &StoredRow, key: u32) -> bool
     ensures found { result ≡ sees_key viewer.now row.now (Some key) chunk.old.shown.places }
     ensures all { chunk.new ≡ chunk.old }
 {
-    match cell(row, key) {
-        Some(value) => chunk.find_key(viewer, key, value),
-        None => chunk.find_key(viewer, key, &Value::Null),
-    }
+    chunk.find_key(viewer, key, &column_ref(row, key).to_value())
 }
 
 /// Whether a visit that looks for a free position finds none and leaves the chunk as it is, seen without a look at the

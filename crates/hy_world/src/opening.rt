@@ -55,7 +55,7 @@ fn load_rows(alloc: Global, chunk: &mut Chunk, rows: &[StoredRow]) -> Result<(),
     ensures { OnOk result (chunk.new ≡ with_places chunk.old (places_with chunk.old.kinds (length chunk.old.shown.places) rows.now) chunk.new.room) }
 {
     for (place, row) in rows.iter().enumerate() {
-        let values = row.to_row(alloc)?;
+        let values = row.to_row()?;
         chunk.load_at(place, &values);
     }
     Ok(())

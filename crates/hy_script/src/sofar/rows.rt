@@ -16,7 +16,7 @@ use hy_ast::{Literal, Statement};
 use hy_bind::{BindError, bind, text_in};
 use hy_bound::{Bound, StoredRows};
 use hy_token::Span;
-use hy_value::{Row, Seq};
+use hy_value::{Seq, StoredRow};
 use std::alloc::{AllocError, Global};
 
 impl SoFar {
@@ -46,7 +46,7 @@ impl SoFar {
     }
 
     /// Whether a row of the table of this number has the key of this row.
-    fn has_key(&self, number: Option<usize>, row: &Row) -> bool
+    fn has_key(&self, number: Option<usize>, row: &StoredRow) -> bool
         ensures { result ≡ key_there (stock_at number self.now.stocks) row.now }
     {
         match number {
@@ -59,7 +59,7 @@ impl SoFar {
     }
 
     /// Adds a first row to the table of this number. Where there is none nothing changes.
-    fn add_row(&mut self, alloc: Global, number: usize, row: Row) -> Result<(), AllocError>
+    fn add_row(&mut self, alloc: Global, number: usize, row: StoredRow) -> Result<(), AllocError>
         ensures { OnOk result (self.new ≡ record self.old {
           stocks = slice_set self.old.stocks number
               (with_row (slice_index_or self.old.stocks number (no_rows None)) row);
@@ -69,7 +69,7 @@ impl SoFar {
             return Ok(());
         }
         let mut stock = self.stocks.replace(number, Stock::new(alloc, None));
-        stock.add(alloc, &row)?;
+        stock.add(row)?;
         leave(self.stocks.replace(number, stock));
         Ok(())
     }

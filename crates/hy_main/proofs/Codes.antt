@@ -1,25 +1,27 @@
 -- What a report answers, by the code of its status.
-use Rattle.std.proofs.Common.{◌≡◌, ℕ, List, Option, None, Some, IsNone, IfSome, ◌⊎◌, inl, inr, sym, subst, ◌∙◌}
+use Rattle.std.proofs.Common.{◌≡◌, ℕ, true, List, Option, None, Some, IfSome, ◌⊎◌, inl, inr, sym, subst, ◌∙◌}
 use Rattle.std.proofs.Math.Logic.{⊎_elim}
+use Rattle.hy_script.specs.declared.Options.{Options}
 use Rattle.hy_script.specs.declared.Script.{Script}
+use Rattle.hy_service.specs.Serves.{Serves}
 use Rattle.hy_render.specs.declared.Outcome.{Outcome}
 use Rattle.hy_words.specs.declared.Command.{Command}
-use Rattle.hy_top.specs.Program.{made_by}
+use Rattle.hy_top.specs.Program.{made_by, reads_script, served_by}
 use Rattle.hy_top.specs.Reports.{IsAnswered, Makes}
 
 -- a code that is the status answers what the report answers
 pub answers_by_code : {D : Type 0} (held : D → Option (List ℕ)) (clock : D → ℕ) (image : D → List ℕ → Type 0) (image_since : D → ℕ → List ℕ → Type 0)
     (asked : Option Command) (rest : Option (List ℕ)) (status code : ℕ) (outcome : Option Outcome) (before after : Option (List ℕ)) (old new : D)
     → code ≡ status
-    → IfSome asked (λ command. IsNone (made_by command)
+    → IfSome asked (λ command. reads_script command ≡ true
     → (status ≡ 3) ⊎ IsAnswered held clock image image_since command rest status outcome before after old new)
-    → IfSome asked (λ command. IsNone (made_by command)
+    → IfSome asked (λ command. reads_script command ≡ true
     → (code ≡ 3) ⊎ ((given : Option Outcome) × IsAnswered held clock image image_since command rest code given before after old new))
 answers_by_code held clock image image_since None rest status code outcome before after old new same h = tt
-answers_by_code held clock image image_since (Some command) rest status code outcome before after old new same h = λ none.
+answers_by_code held clock image image_since (Some command) rest status code outcome before after old new same h = λ reads.
     ⊎_elim (λ fault. inl (same ∙ fault))
     (λ answer. inr (outcome, subst (λ (s : ℕ). IsAnswered held clock image image_since command rest s outcome before after old new) (sym same) answer))
-    (h none)
+    (h reads)
 
 -- and what is made
 made_so : {S : Type 0} (command : Command) (made : Option Script) (old new : S) (status code : ℕ) (outcome : Option Outcome) (before after : Option (List ℕ)) → code ≡ status
@@ -35,3 +37,18 @@ pub made_by_code : {S : Type 0} (asked : Option Command) (old new : S) (status c
 made_by_code None old new status code outcome before after same h = tt
 made_by_code (Some command) old new status code outcome before after same h =
     made_so command (made_by command) old new status code outcome before after same h
+
+-- and what is served
+served_so : (served : Option Options) (old new before after : Option (List ℕ)) (status code : ℕ) (outcome : Option Outcome) → code ≡ status
+    → IfSome served (λ options. Serves options old new before after status outcome)
+    → IfSome served (λ options. (given : Option Outcome) × Serves options old new before after code given)
+served_so None old new before after status code outcome same h = tt
+served_so (Some options) old new before after status code outcome same h =
+    (outcome, subst (λ (s : ℕ). Serves options old new before after s outcome) (sym same) h)
+
+pub served_by_code : (asked : Option Command) (old new before after : Option (List ℕ)) (status code : ℕ) (outcome : Option Outcome) → code ≡ status
+    → IfSome asked (λ command. IfSome (served_by command) (λ options. Serves options old new before after status outcome))
+    → IfSome asked (λ command. IfSome (served_by command) (λ options. (given : Option Outcome) × Serves options old new before after code given))
+served_by_code None old new before after status code outcome same h = tt
+served_by_code (Some command) old new before after status code outcome same h =
+    served_so (served_by command) old new before after status code outcome same h

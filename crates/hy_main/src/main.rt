@@ -1,7 +1,7 @@
 //! The program `hy`: makes the real words, reader, writer and disk, and ends with the status of the call.
 #![tactic(auto)]
 
-ghost use Rattle.std.specs.Prelude.{◌≡◌, ◌≢◌, ◌≤◌, ◌⊎◌, false, Option, None, IsNone, IfSome, map};
+ghost use Rattle.std.specs.Prelude.{◌≡◌, ◌≢◌, ◌≤◌, ◌⊎◌, true, false, Option, None, IsNone, IfSome, map};
 ghost use Rattle.std.specs.Process.{exit_status};
 ghost use Rattle.std.specs.String.{string_bytes};
 ghost use Rattle.hy_disk.specs.Calls.{Syncs};
@@ -9,7 +9,8 @@ ghost use Rattle.hy_outside.specs.Faults.{Rose};
 ghost use Rattle.hy_render.specs.declared.Outcome.{Outcome};
 ghost use Rattle.hy_words.specs.Words.{command_of};
 ghost use Rattle.hy_top.specs.Lines.{usage_line};
-ghost use Rattle.hy_top.specs.Program.{made_by, keeps_log, uses_disk};
+ghost use Rattle.hy_service.specs.Serves.{Serves};
+ghost use Rattle.hy_top.specs.Program.{does_serve, keeps_log, made_by, reads_script, served_by, uses_disk};
 ghost use Rattle.hy_top.specs.Reports.{Writes, IsAnswered, Makes};
 
 use hy_disk::{Disk, FileDisk};
@@ -59,17 +60,22 @@ fn exit_code_of<T: Threads + Wait + Sync, R: Source, W: Sink, D: Disk>(
         → (exit_status result ≡ 5) ⊎ Writes 1 (exit_status result) (W.written sink.old) (W.written sink.new) usage_line }
     ensures usage { exit_status result ≡ 1 → command_of (map string_bytes words.now) ≡ None }
 
-    // A command that reads a script is answered, and one that makes its script runs that.
-    ensures answers { IfSome (command_of (map string_bytes words.now)) (λ command. IsNone (made_by command) → (exit_status result ≡ 3)
+    // A command that reads a script is answered, one that makes its script runs that, and one that serves answers line by line.
+    ensures answers { IfSome (command_of (map string_bytes words.now)) (λ command. reads_script command ≡ true → (exit_status result ≡ 3)
         ⊎ ((outcome : Option Outcome) × IsAnswered D.held D.clock D.image D.image_since command (R.rest source.old) (exit_status result) outcome
         (W.written sink.old) (W.written sink.new) disk.old disk.new)) }
     ensures made { IfSome (command_of (map string_bytes words.now)) (λ command. IfSome (made_by command) (λ script. (source.new ≡ source.old)
         × ((outcome : Option Outcome) × Makes command script (exit_status result) outcome (W.written sink.old) (W.written sink.new)))) }
 
-    // A fault has its cause in the source, the sink or the disk, and is told. At 3, 5 and 6 nothing is written.
-    ensures read_fault { exit_status result ≡ 3 → Rose (R.faults source.old) (R.faults source.new) × (sink.new ≡ sink.old) }
+    ensures serves { IfSome (command_of (map string_bytes words.now)) (λ command. IfSome (served_by command) (λ options. (outcome : Option Outcome)
+        × Serves options (R.rest source.old) (R.rest source.new) (W.written sink.old) (W.written sink.new) (exit_status result) outcome)) }
+
+    // A fault has its cause in the source, the sink or the disk, and is told. At 3, 5 and 6 nothing is written, but by a command
+    // that serves.
+    ensures read_fault { exit_status result ≡ 3 → Rose (R.faults source.old) (R.faults source.new) }
     ensures write_fault { exit_status result ≡ 4 → Rose (W.faults sink.old) (W.faults sink.new) }
-    ensures no_memory { exit_status result ≡ 5 → sink.new ≡ sink.old }
+    ensures unwritten { (exit_status result ≡ 3) ⊎ (exit_status result ≡ 5) → does_serve (command_of (map string_bytes words.now)) ≡ false
+        → sink.new ≡ sink.old }
     ensures disk_fault { exit_status result ≡ 6 → Rose (D.faults disk.old) (D.faults disk.new) × (sink.new ≡ sink.old) }
     ensures source_steady { exit_status result ≢ 3 → R.faults source.new ≡ R.faults source.old }
     ensures sink_steady { exit_status result ≢ 4 → W.faults sink.new ≡ W.faults sink.old }

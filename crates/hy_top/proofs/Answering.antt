@@ -22,10 +22,10 @@ use Rattle.hy_lawful.specs.Serial.{IsSerial}
 use Rattle.hy_lawful.specs.Laws.{SerialEnds}
 use Rattle.hy_words.specs.declared.Command.{Command}
 use Rattle.hy_words.specs.Words.{IsWithin}
-use Rattle.hy_words.specs.declared.Command.TheVariants.{Run, Check, Recover, Gen}
+use Rattle.hy_words.specs.declared.Command.TheVariants.{Run, Check, Recover, Serve, Gen}
 use Rattle.hy_value.specs.declared.Value.{Value}
 use Rattle.hy_top.specs.Lines.{refusal_line_of}
-use Rattle.hy_top.specs.Program.{MayCome, IsRead, bytes_read, bytes_left, keeps_log, options_by, made_by}
+use Rattle.hy_top.specs.Program.{MayCome, IsRead, bytes_read, bytes_left, keeps_log, options_by, made_by, reads_script}
 use Rattle.hy_world.specs.SomeRuns.{IsSomeRun}
 use Rattle.hy_gen.specs.Made.{made}
 use Rattle.hy_bank.specs.Fitting.{MadeFits}
@@ -175,6 +175,7 @@ few_of : (command : Command) → IsWithin command → AreFew (options_by command
 few_of (Run threads prune log chunks rows) within = record { some_chunk = within.0; few_chunks = within.1; some_row = within.2; few_rows = within.3 }
 few_of (Check chunks rows) within = record { some_chunk = within.0; few_chunks = within.1; some_row = within.2; few_rows = within.3 }
 few_of (Recover chunks rows) within = record { some_chunk = within.0; few_chunks = within.1; some_row = within.2; few_rows = within.3 }
+few_of (Serve chunks rows) within = record { some_chunk = within.0; few_chunks = within.1; some_row = within.2; few_rows = within.3 }
 few_of (Gen seed sessions txns threads) within = record { some_chunk = omega arith; few_chunks = omega arith; some_row = omega arith; few_rows = omega arith }
 
 few_runnable : (script : Script) → AreFew script.options
@@ -270,6 +271,7 @@ did_otherwise (Check chunks rows) script found status given before after done =
     done_otherwise 0 status before after _ (λ two. omega (arith, two)) done.writes
 did_otherwise (Recover chunks rows) script found status given before after done =
     done_otherwise (restored_status done.restored) status before after _ (restored_otherwise done.restored) done.writes
+did_otherwise (Serve chunks rows) script found status given before after never = absurd never
 
 pub done_is_no_refusal : (command : Command) (script : Script) (found : Option (List ℕ)) (status : ℕ) (given : Option Outcome)
     (before after : Option (List ℕ)) → (GaveUp status × IsNone given) ⊎ Does command script found status given before after → IsNoRefusal status
@@ -297,6 +299,7 @@ done_answers (Check chunks rows) bytes found script status given before after on
 done_answers (Recover chunks rows) bytes found script status given before after once law fit s (inr done) =
     quiet_answers (Recover chunks rows) bytes found script status given before after once s done.nothing_is_run
     (did_otherwise (Recover chunks rows) script found status given before after done) (inr done)
+done_answers (Serve chunks rows) bytes found script status given before after once law fit s (inr never) = absurd never
 
 whole_is_read : (all : List ℕ) → length all ≤ MOST_BYTES → bytes_read all ≡ all
 whole_is_read all h = take_all (MOST_BYTES + 1) all (omega arith)
@@ -433,10 +436,10 @@ made_answers seed sessions txns threads few short script status given before aft
 
 -- memory ran out before anything was done
 pub nothing_read : (asked : Option Command) (before after : Option (List ℕ))
-    → IfSome asked (λ command. IsNone (made_by command) → IfSome before (λ all. (◌≡◌ {A = ℕ} 5 3) ⊎ (◌≡◌ {A = ℕ} 5 5) ⊎ (after ≡ Some (bytes_left all))))
+    → IfSome asked (λ command. reads_script command ≡ true → IfSome before (λ all. (◌≡◌ {A = ℕ} 5 3) ⊎ (◌≡◌ {A = ℕ} 5 5) ⊎ (after ≡ Some (bytes_left all))))
 nothing_read None before after = tt
-nothing_read (Some command) None after = λ none. tt
-nothing_read (Some command) (Some all) after = λ none. inr (inl refl)
+nothing_read (Some command) None after = λ reads. tt
+nothing_read (Some command) (Some all) after = λ reads. inr (inl refl)
 
 nothing_answers : (command : Command) (bytes : List ℕ) (found : Option (List ℕ)) (status : ℕ) (given : Option Outcome) (before after : Option (List ℕ))
     → status ≡ 5 → IsNone given → Answers command bytes found status given before after
@@ -463,11 +466,11 @@ answered_nothing held clock image image_since command rest status given before a
 
 pub nothing_answered : {D : Type 0} (held : D → Option (List ℕ)) (clock : D → ℕ) (image : D → List ℕ → Type 0) (image_since : D → ℕ → List ℕ → Type 0)
     (asked : Option Command) (rest sink : Option (List ℕ)) (disk : D)
-    → IfSome asked (λ command. IsNone (made_by command) → (◌≡◌ {A = ℕ} 5 3) ⊎ IsAnswered held clock image image_since command rest 5 None sink sink disk disk)
+    → IfSome asked (λ command. reads_script command ≡ true → (◌≡◌ {A = ℕ} 5 3) ⊎ IsAnswered held clock image image_since command rest 5 None sink sink disk disk)
 nothing_answered held clock image image_since None rest sink disk = tt
 nothing_answered held clock image image_since (Some command) rest sink disk =
     let none : IsNone {T = Outcome} None = search in
-    λ made. inr (answered_nothing held clock image image_since command rest 5 None sink sink disk refl none)
+    λ reads. inr (answered_nothing held clock image image_since command rest 5 None sink sink disk refl none)
 
 nothing_made_by : {S : Type 0} (command : Command) (made : Option Script) (held : Option (List ℕ)) (old : S) → IfSome made (λ script. (old ≡ old) × Makes command script 5 None held held)
 nothing_made_by command None held old = tt
@@ -477,13 +480,3 @@ pub nothing_made : {S : Type 0} (asked : Option Command) (held : Option (List �
     → IfSome asked (λ command. IfSome (made_by command) (λ script. (old ≡ old) × Makes command script 5 None held held))
 nothing_made None held old = tt
 nothing_made (Some command) held old = nothing_made_by command (made_by command) held old
-
--- a command that makes its script reads none
-gen_makes : (seed sessions txns : ℕ) (threads : Bool) → IsNone (made_by (Gen seed sessions txns threads)) → ⊥
-gen_makes seed sessions txns threads none = let never : ⊥ = cc in never
-
-pub made_not_read : (asked : Option Command) (seed sessions txns : ℕ) (threads : Bool) (P : Command → Type 0)
-    → asked ≡ Some (Gen seed sessions txns threads) → IfSome asked (λ command. IsNone (made_by command) → P command)
-made_not_read asked seed sessions txns threads P is =
-    subst (λ (a : Option Command). IfSome a (λ command. IsNone (made_by command) → P command)) (sym is)
-    (λ none. absurd (gen_makes seed sessions txns threads none))

@@ -1,13 +1,10 @@
 pub mod Answering
 pub mod Logging
+pub mod ServingCalls
 pub mod NameWords
 pub mod NamedScripts
 pub mod QuotedTexts
 pub mod Texts
 pub mod Telling
-pub mod CatalogTypes
-pub mod ValueTypes
-pub mod FormulaTypes
-pub mod StatementTypes
 pub mod ReadTypes
 pub mod MadeTypes

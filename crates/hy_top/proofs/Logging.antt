@@ -10,7 +10,7 @@ use Rattle.hy_machine.specs.Runs.{opening_of, run_of}
 use Rattle.hy_machine.specs.declared.Setting.{Setting}
 use Rattle.hy_render.specs.declared.Outcome.{Outcome}
 use Rattle.hy_script.specs.declared.Script.{Script}
-use Rattle.hy_top.specs.Typing.{catalog_kinds}
+use Rattle.hy_setting.specs.Kinds.{catalog_kinds}
 use Rattle.hy_disk.specs.Bytes.{IsOwn}
 use Rattle.hy_disk.specs.Calls.{Syncs}
 use Rattle.hy_redo.specs.Crashes.{AreLogsOf, IsBegun, IsBegunAtMost}

@@ -1,5 +1,5 @@
 -- What a script comes to.
-use Rattle.std.specs.Prelude.{◌≡◌, ℕ, ◌+◌, List, Bool, true, false, Option, None, Some, IfSome, take, drop, map}
+use Rattle.std.specs.Prelude.{◌≡◌, ℕ, ◌+◌, List, Bool, true, false, Option, None, Some, IfSome, is_some, option_and_then, take, drop, map}
 use Rattle.hy_script.specs.declared.Script.{Script}
 use Rattle.hy_script.specs.declared.Options.{Options}
 use Rattle.hy_render.specs.declared.Names.{Names}
@@ -9,7 +9,7 @@ use Rattle.hy_machine.specs.Runs.{run_of}
 use Rattle.hy_machine.specs.Outcomes.{outcome_of}
 use Rattle.hy_world.specs.SomeRuns.{IsSomeRun}
 use Rattle.hy_words.specs.declared.Command.{Command}
-use Rattle.hy_words.specs.declared.Command.TheVariants.{Run, Check, Recover, Gen}
+use Rattle.hy_words.specs.declared.Command.TheVariants.{Run, Check, Recover, Serve, Gen}
 use Rattle.hy_gen.specs.Made.{made}
 use Rattle.hy_limits.specs.declared.TheConstants.{MOST_BYTES}
 
@@ -30,13 +30,34 @@ abbrev pub options_by : Command → Options
 options_by (Run threads prune log chunks rows) = record { chunks = chunks; rows = rows }
 options_by (Check chunks rows) = record { chunks = chunks; rows = rows }
 options_by (Recover chunks rows) = record { chunks = chunks; rows = rows }
+options_by (Serve chunks rows) = record { chunks = chunks; rows = rows }
 options_by (Gen seed sessions txns threads) = record { chunks = 4; rows = 16 }
 
--- the script that a command makes; one that reads a script makes none
+-- what a command serves by, if it is one that serves
+abbrev pub served_by : Command → Option Options
+served_by (Run threads prune log chunks rows) = None
+served_by (Check chunks rows) = None
+served_by (Recover chunks rows) = None
+served_by (Serve chunks rows) = Some (record { chunks = chunks; rows = rows })
+served_by (Gen seed sessions txns threads) = None
+
+abbrev pub does_serve : Option Command → Bool
+does_serve command = is_some (option_and_then served_by command)
+
+-- whether a command reads a script: others make one, or serve line by line
+abbrev pub reads_script : Command → Bool
+reads_script (Run threads prune log chunks rows) = true
+reads_script (Check chunks rows) = true
+reads_script (Recover chunks rows) = true
+reads_script (Serve chunks rows) = false
+reads_script (Gen seed sessions txns threads) = false
+
+-- the script that a command makes; one that reads a script, or serves, makes none
 abbrev pub made_by : Command → Option Script
 made_by (Run threads prune log chunks rows) = None
 made_by (Check chunks rows) = None
 made_by (Recover chunks rows) = None
+made_by (Serve chunks rows) = None
 made_by (Gen seed sessions txns threads) = Some (made seed sessions txns)
 
 -- whether a command keeps a redo log of what it runs
@@ -44,6 +65,7 @@ abbrev pub keeps_log : Command → Bool
 keeps_log (Run threads prune log chunks rows) = log
 keeps_log (Check chunks rows) = false
 keeps_log (Recover chunks rows) = false
+keeps_log (Serve chunks rows) = false
 keeps_log (Gen seed sessions txns threads) = false
 
 -- whether a command has to do with the disk: it keeps a log there, or reads one; no command has nothing to do with it
@@ -52,6 +74,7 @@ uses_disk None = false
 uses_disk (Some (Run threads prune log chunks rows)) = log
 uses_disk (Some (Check chunks rows)) = false
 uses_disk (Some (Recover chunks rows)) = true
+uses_disk (Some (Serve chunks rows)) = false
 uses_disk (Some (Gen seed sessions txns threads)) = false
 
 -- the names that its outcome is printed with

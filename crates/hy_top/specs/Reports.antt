@@ -14,7 +14,7 @@ use Rattle.hy_bank.specs.Endings.{EndInFourWays, EndingsAddUp}
 use Rattle.hy_lawful.specs.Lawful.{Lawful}
 use Rattle.hy_lawful.specs.Serial.{IsSerial}
 use Rattle.hy_words.specs.declared.Command.{Command}
-use Rattle.hy_words.specs.declared.Command.TheVariants.{Run, Check, Recover, Gen}
+use Rattle.hy_words.specs.declared.Command.TheVariants.{Run, Check, Recover, Serve, Gen}
 use Rattle.hy_value.specs.declared.Value.{Value}
 use Rattle.hy_render.specs.declared.Names.{Names}
 use Rattle.hy_render.specs.Report.{tables_text}
@@ -26,7 +26,7 @@ use Rattle.hy_redo.specs.Logs.{log_of}
 use Rattle.hy_redo.specs.Crashes.{AreLogsOf, IsBegun, IsAsItWas, IsBegunAtMost}
 use Rattle.hy_world.specs.Logged.{HasLogged, IsLogOfOrder}
 use Rattle.hy_recovery.specs.Recovered.{first_tables, AreRecovered}
-use Rattle.hy_top.specs.Typing.{catalog_kinds}
+use Rattle.hy_setting.specs.Kinds.{catalog_kinds}
 use Rattle.hy_machine.specs.Outcomes.{rows_sorted}
 use Rattle.hy_machine.specs.Runs.{run_of}
 use Rattle.hy_machine.specs.Sessions.{snapshot}
@@ -47,6 +47,7 @@ abbrev pub IsRun : Command → Type 0
 IsRun (Run threads prune log chunks rows) = Unit {0}
 IsRun (Check chunks rows) = ⊥
 IsRun (Recover chunks rows) = ⊥
+IsRun (Serve chunks rows) = ⊥
 IsRun (Gen seed sessions txns threads) = Unit {0}
 
 -- a text was written whole, and the status is the one for that, or its first bytes were, and the status is 4
@@ -120,13 +121,14 @@ pub record Restores (script : Script) (held : Option (List ℕ)) (status : ℕ) 
   pub nothing_is_run : IsNone outcome
   pub writes : Writes (restored_status restored) status before after (restored_text (names_at script) restored)
 
--- what the command asks for was done
+-- what the command asks for was done; one that serves does nothing with a script
 abbrev pub Does : Command → Script → Option (List ℕ) → ℕ → Option Outcome → Option (List ℕ) → Option (List ℕ) → Type 0
 Does (Run threads prune false chunks rows) script held status outcome before after = Runs threads script status outcome before after
 Does (Run threads prune true chunks rows) script held status outcome before after =
     RunsLogged script held status outcome before after ⊎ FindsALog held status outcome before after
 Does (Check chunks rows) script held status outcome before after = Checks script status outcome before after
 Does (Recover chunks rows) script held status outcome before after = Restores script held status outcome before after
+Does (Serve chunks rows) script held status outcome before after = ⊥
 Does (Gen seed sessions txns threads) script held status outcome before after = Summarizes threads script status outcome before after
 
 -- nothing came of it, since memory ran out or the disk failed

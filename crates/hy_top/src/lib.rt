@@ -13,7 +13,8 @@ ghost use Rattle.hy_words.specs.Words.{IsWithin, command_of};
 ghost use Rattle.hy_gen.specs.Made.{made};
 ghost use Rattle.hy_script.specs.declared.Script.{Script};
 ghost use Rattle.hy_top.specs.Lines.{usage_line, refusal_line_of, checked_line};
-ghost use Rattle.hy_top.specs.Program.{MayCome, bytes_left, keeps_log, options_by, made_by, names_at, uses_disk};
+ghost use Rattle.hy_service.specs.Serves.{Serves};
+ghost use Rattle.hy_top.specs.Program.{MayCome, bytes_left, does_serve, keeps_log, options_by, made_by, names_at, reads_script, served_by, uses_disk};
 ghost use Rattle.hy_top.specs.Settings.{CanRun, IsUtf8Script};
 ghost use Rattle.hy_top.specs.Reports.{Writes, Answers, IsAnswered, Leaves, LeavesLog, Runs, Checks, Summarizes, GaveUp, Does, Makes};
 
@@ -32,6 +33,7 @@ use hy_machine::runs_are_steps;
 use hy_outside::{ReadAllError, Sink, Source, read_all, write_all};
 use hy_render::{Names, Outcome, render, summarize};
 use hy_script::{Code, Options, ReadError, Refused, Script, read_once, what_is_read_fits};
+use hy_service::{Served, serve};
 use hy_threads::Gate;
 use hy_words::{Command, WordsError};
 pub use laws::{one_text_is_of_one_outcome, what_is_read_is_named, what_is_read_is_utf8};
@@ -41,7 +43,7 @@ use settings::{Given, given_of};
 use std::alloc::{AllocError, Global};
 use std::sync::Wait;
 use std::thread::Threads;
-pub use typing::{bound_statements_are_typed, what_is_made_is_typed, what_is_read_is_typed};
+pub use typing::{what_is_made_is_typed, what_is_read_is_typed};
 
 /// What a call of the program came to.
 #[derive(Drop)]
@@ -87,8 +89,8 @@ const USAGE: &[u8] = b"usage: hy run|check|gen\n";
 /// writes a summary of its outcome. The first word is the program's name. With `--threads` each session runs on a thread
 /// of its own, and the gate is told of each of its visits; then the call waits for locks and for the threads' ends. With
 /// `--log` a redo log is made on the disk, and has each entry of the commit order before another step is taken; `recover`
-/// reads a script, and writes the tables that the log on the disk makes of its first rows. What is said of a sink's bytes and of
-/// crashes holds where the sink and the disk tell them.
+/// reads a script, and writes the tables that the log on the disk makes of its first rows. `serve` answers each line of the
+/// source before it reads the next. What is said of a sink's bytes and of crashes holds where the sink and the disk tell them.
 pub fn run<T: Threads + Wait + Sync, R: Source, W: Sink, G: Gate, D: Disk>(
     rt: &T,
     alloc: Global,
@@ -104,7 +106,7 @@ pub fn run<T: Threads + Wait + Sync, R: Source, W: Sink, G: Gate, D: Disk>(
     ensures usage { result.status ≡ 1 → command_of (map string_bytes words.now) ≡ None }
 
     // Of a command that reads a script the bytes read are the source's whole rest, or its first 16,777,217.
-    ensures bytes { IfSome (command_of (map string_bytes words.now)) (λ command. IsNone (made_by command) → IfSome (R.rest source.old) (λ all.
+    ensures bytes { IfSome (command_of (map string_bytes words.now)) (λ command. reads_script command ≡ true → IfSome (R.rest source.old) (λ all.
         (result.status ≡ 3) ⊎ (result.status ≡ 5) ⊎ (R.rest source.new ≡ Some (bytes_left all)))) }
 
     // Whatever the status, the source gave some first bytes, and no more than one past the limit.
@@ -116,7 +118,7 @@ pub fn run<T: Threads + Wait + Sync, R: Source, W: Sink, G: Gate, D: Disk>(
     // serializable in the order that it prints; or the script is checked. A run that keeps a log leaves that of the outcome's
     // order: what a crash after it leaves recovers to the outcome's tables. Whatever the status, what a crash leaves at any
     // moment is what one could leave before, what the making of the log may leave, or the log of some first entries of the order.
-    ensures answers { IfSome (command_of (map string_bytes words.now)) (λ command. IsNone (made_by command) → (result.status ≡ 3)
+    ensures answers { IfSome (command_of (map string_bytes words.now)) (λ command. reads_script command ≡ true → (result.status ≡ 3)
         ⊎ IsAnswered D.held D.clock D.image D.image_since command (R.rest source.old) result.status result.outcome
         (W.written sink.old) (W.written sink.new) disk.old disk.new) }
 
@@ -125,10 +127,18 @@ pub fn run<T: Threads + Wait + Sync, R: Source, W: Sink, G: Gate, D: Disk>(
     ensures made { IfSome (command_of (map string_bytes words.now)) (λ command. IfSome (made_by command) (λ script.
         (source.new ≡ source.old) × Makes command script result.status result.outcome (W.written sink.old) (W.written sink.new))) }
 
-    // A fault has its cause in the source or in the sink. At 3 and 5 nothing is written, and nothing was run.
-    ensures read_fault { result.status ≡ 3 → Rose (R.faults source.old) (R.faults source.new) × (sink.new ≡ sink.old) × IsNone result.outcome }
+    // A command that serves answers the lines that the source gives, each before the next is read, up to END, its end or one
+    // byte past the limit. By the status the sink has all answers and what is told at the end, or the first of them.
+    ensures serves { IfSome (command_of (map string_bytes words.now)) (λ command. IfSome (served_by command) (λ options.
+        Serves options (R.rest source.old) (R.rest source.new) (W.written sink.old) (W.written sink.new) result.status result.outcome)) }
+
+    // A fault has its cause in the source or in the sink. At 3 and 5 there is no outcome, and but by a command that serves
+    // nothing is written.
+    ensures read_fault { result.status ≡ 3 → Rose (R.faults source.old) (R.faults source.new) × IsNone result.outcome }
     ensures write_fault { result.status ≡ 4 → Rose (W.faults sink.old) (W.faults sink.new) }
-    ensures no_memory { result.status ≡ 5 → (sink.new ≡ sink.old) × IsNone result.outcome }
+    ensures no_memory { result.status ≡ 5 → IsNone result.outcome }
+    ensures unwritten { (result.status ≡ 3) ⊎ (result.status ≡ 5) → does_serve (command_of (map string_bytes words.now)) ≡ false
+        → sink.new ≡ sink.old }
     ensures disk_fault { result.status ≡ 6 → Rose (D.faults disk.old) (D.faults disk.new) × (sink.new ≡ sink.old) × IsNone result.outcome }
 
     // And a fault is told: at every other status the count of faults is as it was.
@@ -169,6 +179,11 @@ pub fn run<T: Threads + Wait + Sync, R: Source, W: Sink, G: Gate, D: Disk>(
             },
             sink,
         ),
+        Ok(Command::Serve { chunks, rows }) => {
+            let options = Options { chunks, rows };
+            let Served { status, outcome } = serve(alloc, options, true, source, sink);
+            Report { status, outcome }
+        }
         Ok(command) => run_command(&crew, command, source, sink, disk),
         Err(WordsError::Refused) => without_outcome(write(sink, USAGE, 1)),
         Err(WordsError::OutOfMemory) => Report {
@@ -253,7 +268,8 @@ fn run_command<T: Threads + Wait + Sync, R: Source, W: Sink, G: Gate, D: Disk>(
     sink: &mut W,
     disk: &mut D,
 ) -> Report
-    requires { IsWithin command }
+    requires within { IsWithin command }
+    requires script { does_serve (Some command) ≡ false }
     ensures bytes { IfSome (R.rest source.old) (λ all.
         (result.status ≡ 3) ⊎ (result.status ≡ 5) ⊎ (R.rest source.new ≡ Some (bytes_left all))) }
     ensures given { GivesAtMost (R.rest source.old) (R.rest source.new) (MOST_BYTES + 1) }
@@ -312,6 +328,7 @@ fn options_of(command: Command) -> Options
         Command::Run { chunks, rows, .. } => Options { chunks, rows },
         Command::Check { chunks, rows } => Options { chunks, rows },
         Command::Recover { chunks, rows } => Options { chunks, rows },
+        Command::Serve { chunks, rows } => Options { chunks, rows },
         Command::Gen { .. } => Options {
             chunks: 4,
             rows: 16,
@@ -327,7 +344,8 @@ fn answer<T: Threads + Wait + Sync, W: Sink, G: Gate, D: Disk>(
     sink: &mut W,
     disk: &mut D,
 ) -> Report
-    requires { IsWithin command }
+    requires within { IsWithin command }
+    requires script { does_serve (Some command) ≡ false }
     ensures answers { Answers command bytes.now (D.held disk.old) result.status result.outcome (W.written sink.old) (W.written sink.new) }
     ensures write_fault { result.status ≡ 4 → Rose (W.faults sink.old) (W.faults sink.new) }
     ensures sink_steady { result.status ≢ 4 → W.faults sink.new ≡ W.faults sink.old }
@@ -366,6 +384,7 @@ fn perform<T: Threads + Wait + Sync, W: Sink, G: Gate, D: Disk>(
 ) -> Report
     requires runs { CanRun script }
     requires texts { IsUtf8Script script }
+    requires script { does_serve (Some command) ≡ false }
     ensures does { GaveUp result.status × (sink.new ≡ sink.old) × IsNone result.outcome
         ⊎ Does command script (D.held disk.old) result.status result.outcome (W.written sink.old) (W.written sink.new) }
     ensures write_fault { result.status ≡ 4 → Rose (W.faults sink.old) (W.faults sink.new) }
@@ -395,6 +414,7 @@ fn perform<T: Threads + Wait + Sync, W: Sink, G: Gate, D: Disk>(
         Command::Check { .. } => check_script(crew.alloc, script, sink),
         Command::Recover { .. } => recover_script(crew.alloc, script, sink, disk),
         Command::Gen { threads, .. } => summarize_script(crew, script, threads, sink),
+        Command::Serve { .. } => unreachable!(),
     }
 }
 

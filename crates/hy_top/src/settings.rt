@@ -1,32 +1,18 @@
 //! What the engine is given of a script.
 
 ghost use Rattle.std.specs.Prelude.{◌≡◌, ◌++◌, IfOk, map, drop};
-ghost use Rattle.hy_bind.specs.Shapes.{defined_shape, catalog_shapes};
 ghost use Rattle.hy_top.specs.Settings.{setting_at};
-ghost use Rattle.hy_top.specs.Typing.{catalog_kinds};
+ghost use Rattle.hy_setting.specs.Kinds.{catalog_kinds};
 ghost use Rattle.hy_top.specs.Program.{names_at};
 
-use hy_bound::{Schedule, Shape, Shapes, Statements, Txn, Txns};
+use hy_bound::{Schedule, Statements, Txn, Txns};
 use hy_machine::Setting;
 use hy_render::{Names, Texts};
-use hy_schema::{Column, TableDef};
 use hy_script::{NamedTxns, Script};
+use hy_setting::{all_kinds, shapes_of, table_names};
 use hy_value::Seq;
 use hy_world::Kinds;
 use std::alloc::{AllocError, Global};
-
-/// The shape of a table. A width past 32 bits would be want of memory.
-fn shape_of(def: &TableDef) -> Result<Shape, AllocError>
-    ensures { IfOk result (λ shape. shape ≡ defined_shape def.now) }
-{
-    match u32::try_from(def.columns.len()) {
-        Ok(width) => Ok(Shape {
-            width,
-            key: def.key,
-        }),
-        Err(_) => Err(AllocError),
-    }
-}
 
 /// What the engine is given of a script.
 #[derive(Drop)]
@@ -77,50 +63,6 @@ pub fn given_of(alloc: Global, script: Script) -> Result<Given, AllocError>
         names,
         schedule,
     })
-}
-
-/// The types of a table's columns.
-fn kinds_of(alloc: Global, columns: &[Column]) -> Result<Kinds, AllocError>
-    ensures { IfOk result (λ kinds. kinds ≡ map (λ column. column.kind) columns.now) }
-{
-    let mut kinds = Seq::new(alloc);
-    for column in columns {
-        kinds.push(column.kind)?;
-    }
-    Ok(kinds)
-}
-
-/// The types of the columns of each table.
-fn all_kinds(alloc: Global, tables: &[TableDef]) -> Result<Seq<Kinds>, AllocError>
-    ensures { IfOk result (λ kinds. kinds ≡ catalog_kinds tables.now) }
-{
-    let mut all = Seq::new(alloc);
-    for table in tables {
-        all.push(kinds_of(alloc, table.columns.as_slice())?)?;
-    }
-    Ok(all)
-}
-
-/// The shapes of tables.
-fn shapes_of(alloc: Global, tables: &[TableDef]) -> Result<Shapes, AllocError>
-    ensures { IfOk result (λ shapes. shapes ≡ catalog_shapes tables.now) }
-{
-    let mut shapes = Seq::new(alloc);
-    for table in tables {
-        shapes.push(shape_of(table)?)?;
-    }
-    Ok(shapes)
-}
-
-/// The names of tables.
-fn table_names(alloc: Global, tables: &[TableDef]) -> Result<Texts, AllocError>
-    ensures { IfOk result (λ names. names ≡ map (λ table. table.name) tables.now) }
-{
-    let mut names = Seq::new(alloc);
-    for table in tables {
-        names.push(table.name.copy())?;
-    }
-    Ok(names)
 }
 
 /// The names of sessions.

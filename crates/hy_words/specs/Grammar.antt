@@ -55,6 +55,9 @@ check = sized (new_shape (codes "check"))
 abbrev pub recover : Shape
 recover = sized (new_shape (codes "recover"))
 
+abbrev pub serve : Shape
+serve = sized (new_shape (codes "serve"))
+
 abbrev pub seed : Rule
 seed = needed_number (codes "seed") 0 4294967295
 
@@ -82,6 +85,10 @@ bare = record (new_shape (codes "hy")) {
 abbrev pub script_words : App
 script_words = record { top = record bare { is_leaf = false }; subs = run ∷ check ∷ recover ∷ [] }
 
+-- these, and the one that takes lines
+abbrev pub source_words : App
+source_words = record script_words { subs = run ∷ check ∷ recover ∷ serve ∷ [] }
+
 -- the program: these and `gen`
 abbrev pub hy : App
-hy = record script_words { subs = run ∷ check ∷ recover ∷ generate ∷ [] }
+hy = record source_words { subs = run ∷ check ∷ recover ∷ serve ∷ generate ∷ [] }

@@ -12,7 +12,7 @@ use Rattle.clap.specs.declared.error.kind.ErrorKind.{ErrorKind}
 use Rattle.clap.specs.declared.error.kind.ErrorKind.TheVariants as kind
 use Rattle.hy_words.specs.Grammar.{hy}
 use Rattle.hy_words.specs.declared.Command.{Command}
-use Rattle.hy_words.specs.declared.Command.TheVariants.{Run, Check, Recover, Gen}
+use Rattle.hy_words.specs.declared.Command.TheVariants.{Run, Check, Recover, Serve, Gen}
 use Rattle.hy_words.specs.declared.WordsError.{WordsError}
 use Rattle.hy_words.specs.declared.WordsError.TheVariants.{Refused, OutOfMemory}
 
@@ -68,6 +68,9 @@ check_by matches = option_map (λ sizes. Check sizes.0 sizes.1) (sizes_in matche
 abbrev pub recover_by : List Row → Option Command
 recover_by matches = option_map (λ sizes. Recover sizes.0 sizes.1) (sizes_in matches)
 
+abbrev pub serve_by : List Row → Option Command
+serve_by matches = option_map (λ sizes. Serve sizes.0 sizes.1) (sizes_in matches)
+
 abbrev pub gen_by : List Row → Option Command
 gen_by matches =
     gen_with (number_in (codes "seed") matches) (number_within 1 64 (codes "sessions") matches)
@@ -78,6 +81,7 @@ abbrev pub asked_by : Option (Text × List Row) → Option Command
 asked_by = option_and_then (λ s. if bytes_eq s.0 (codes "run") then run_by s.1
     else if bytes_eq s.0 (codes "check") then check_by s.1
     else if bytes_eq s.0 (codes "recover") then recover_by s.1
+    else if bytes_eq s.0 (codes "serve") then serve_by s.1
     else if bytes_eq s.0 (codes "gen") then gen_by s.1 else None)
 
 -- The command that the words are: where clap finds no fault with them, what it makes of them asks for
@@ -94,6 +98,7 @@ abbrev pub IsWithin : Command → Type 0
 IsWithin (Run threads prune log chunks rows) = AreSizes chunks rows
 IsWithin (Check chunks rows) = AreSizes chunks rows
 IsWithin (Recover chunks rows) = AreSizes chunks rows
+IsWithin (Serve chunks rows) = AreSizes chunks rows
 IsWithin (Gen seed sessions txns threads) = (0 < sessions) × (sessions ≤ 64) × (0 < txns) × (txns ≤ 1000)
 
 -- what a failed parse comes to

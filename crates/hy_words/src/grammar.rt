@@ -2,8 +2,8 @@
 ghost use Rattle.std.specs.Prelude.{◌≡◌, ◌≤◌, ◌≤ℤ◌, pos, IfOk, false, []};
 ghost use Rattle.clap.specs.Words.{app_of, rule_of, shape_of};
 ghost use Rattle.clap.specs.declared.Command.TheViews.{out-Command as fields_of};
-ghost use Rattle.hy_words.specs.Grammar.{bare, check, chunks, generate, hy, recover, rows, run, script_words, seed, sessions, sized, transactions};
-ghost use Rattle.hy_words.specs.Grammar.{flag, needed_number, number_option};
+ghost use Rattle.hy_words.specs.Grammar.{bare, check, chunks, generate, hy, recover, rows, run, script_words, seed, serve, sessions, sized};
+ghost use Rattle.hy_words.specs.Grammar.{flag, needed_number, number_option, source_words, transactions};
 
 use clap::{Arg, ArgAction, Command, value_parser};
 use std::alloc::{AllocError, Global};
@@ -12,7 +12,15 @@ use std::alloc::{AllocError, Global};
 pub(crate) fn hy<'a>(alloc: Global) -> Result<Command<'a>, AllocError>
     ensures { IfOk result (λ c. app_of c ≡ hy) }
 {
-    script_words(alloc)?.subcommand(generate(alloc)?)
+    source_words(alloc)?.subcommand(generate(alloc)?)
+}
+
+/// The words that take what the source gives: a script, or lines.
+fn source_words<'a>(alloc: Global) -> Result<Command<'a>, AllocError>
+    ensures app { IfOk result (λ c. app_of c ≡ source_words) }
+    ensures local { IfOk result (λ c. (fields_of c).has_globals ≡ false) }
+{
+    script_words(alloc)?.subcommand(serve(alloc)?)
 }
 
 /// The words that take a script.
@@ -64,6 +72,14 @@ fn recover<'a>(alloc: Global) -> Result<Command<'a>, AllocError>
     ensures local { IfOk result (λ c. (fields_of c).has_globals ≡ false) }
 {
     sized(alloc, Command::new(alloc, "recover"))
+}
+
+/// The words that `serve` takes.
+fn serve<'a>(alloc: Global) -> Result<Command<'a>, AllocError>
+    ensures shape { IfOk result (λ c. shape_of c ≡ serve) }
+    ensures local { IfOk result (λ c. (fields_of c).has_globals ≡ false) }
+{
+    sized(alloc, Command::new(alloc, "serve"))
 }
 
 /// A subcommand with the options for the sizes of a table added, behind its own.

@@ -5,7 +5,7 @@ ghost use Rattle.std.specs.Prelude.{◌≡◌, ◌≤◌, Some, None, Err, IfOk,
 ghost use Rattle.std.specs.String.{string_bytes};
 ghost use Rattle.clap.specs.Words.{found_of, rows_of, subcommand_rows_of};
 ghost use Rattle.hy_words.specs.Words.{AreSizes, IsWithin, asked_by, check_by, command_of, gen_by, number_in, number_within};
-ghost use Rattle.hy_words.specs.Words.{recover_by, refusal_of, run_by, sizes_in, truth_in};
+ghost use Rattle.hy_words.specs.Words.{recover_by, refusal_of, run_by, serve_by, sizes_in, truth_in};
 
 mod grammar;
 
@@ -32,6 +32,13 @@ pub enum Command {
     },
     /// Read a script and count what it has.
     Check {
+        /// How many chunks a table has.
+        chunks: u32,
+        /// How many positions a chunk has.
+        rows: u32,
+    },
+    /// Serve sessions line by line.
+    Serve {
         /// How many chunks a table has.
         chunks: u32,
         /// How many positions a chunk has.
@@ -110,6 +117,7 @@ fn asked(matches: &ArgMatches<'_>) -> Option<Command>
         "run" => run_asked(given),
         "check" => check_asked(given),
         "recover" => recover_asked(given),
+        "serve" => serve_asked(given),
         "gen" => gen_asked(given),
         _ => None,
     }
@@ -152,6 +160,15 @@ fn recover_asked(given: &ArgMatches<'_>) -> Option<Command>
 {
     let (chunks, rows) = sizes(given)?;
     Some(Command::Recover { chunks, rows })
+}
+
+/// What the matches of `serve` ask for.
+fn serve_asked(given: &ArgMatches<'_>) -> Option<Command>
+    ensures asked { result ≡ serve_by (rows_of (found_of given.now)) }
+    ensures within { IfSome result (λ command. IsWithin command) }
+{
+    let (chunks, rows) = sizes(given)?;
+    Some(Command::Serve { chunks, rows })
 }
 
 /// What the matches of `gen` ask for.

@@ -1,4 +1,4 @@
-use Rattle.hy_main.proofs.Codes.{answers_by_code, made_by_code}
+use Rattle.hy_main.proofs.Codes.{answers_by_code, made_by_code, served_by_code}
 use Rattle.hy_main.proofs.exit_code_of.Goals as goal
 
 pub returns-clause-answers : goal.returns-clause-answers
@@ -8,3 +8,6 @@ returns-clause-answers g c =
 
 pub returns-clause-made : goal.returns-clause-made
 returns-clause-made g c = made_by_code _ _ _ _ _ _ _ _ c.from.ensures c.run-report.ensures.made
+
+pub returns-clause-serves : goal.returns-clause-serves
+returns-clause-serves g c = served_by_code _ _ _ _ _ _ _ _ c.from.ensures c.run-report.ensures.serves

@@ -14,7 +14,7 @@ returns-in-Ok-clause-answers g c =
       lawful = c.ends_are_lawful.ensures.lawful;
       serial = c.ends_are_lawful.ensures.serial;
     })
-    (read_fits c.args.command c.args.bytes.now c.requires c.what_is_read_fits.ensures.script c.what_is_read_fits.ensures.options)
+    (read_fits c.args.command c.args.bytes.now c.requires.within c.what_is_read_fits.ensures.script c.what_is_read_fits.ensures.options)
     (subst (λ options. Reads c.args.bytes.now options (Ok c.in-Ok.script)) c.options_of.ensures c.in-Ok.ensures)
     (⊎_elim (λ p. inl (p.0, p.2)) (λ r. inr r) c.perform.ensures.does)
 

@@ -1,7 +1,13 @@
-use Rattle.std.proofs.Common.{◌∙◌, Some, ap}
-use Rattle.hy_top.proofs.Answering.{nothing_read, nothing_answered, nothing_made, made_not_read}
+use Rattle.std.proofs.Common.{◌∙◌, Some, refl, ap, inl, inr, subst}
+use Rattle.std.proofs.Math.Logic.{⊎_elim}
+use Rattle.hy_words.specs.Words.{IsWithin}
+use Rattle.hy_words.specs.declared.Command.TheVariants.{Serve, Gen}
+use Rattle.hy_top.proofs.Answering.{nothing_read, nothing_answered, nothing_made}
 use Rattle.hy_top.proofs.Logging.{asked_syncs}
+use Rattle.hy_top.proofs.ServingCalls.{gives_at_most, makes_none, nothing_asked_served, reads_none, reads_so, served_otherwise, served_so, serves_so}
 use Rattle.hy_top.proofs.run.Goals as goal
+
+-- ---- memory runs out before the words are read
 
 pub returns-in-Err-OutOfMemory-clause-bytes : goal.returns-in-Err-OutOfMemory-clause-bytes
 returns-in-Err-OutOfMemory-clause-bytes g c = nothing_read _ _ _
@@ -14,12 +20,87 @@ returns-in-Err-OutOfMemory-clause-answers g c =
 pub returns-in-Err-OutOfMemory-clause-made : goal.returns-in-Err-OutOfMemory-clause-made
 returns-in-Err-OutOfMemory-clause-made g c = nothing_made _ _ _
 
+pub returns-in-Err-OutOfMemory-clause-serves : goal.returns-in-Err-OutOfMemory-clause-serves
+returns-in-Err-OutOfMemory-clause-serves g c = nothing_asked_served _ _ _
+
 pub returns-in-Err-OutOfMemory-clause-syncs : goal.returns-in-Err-OutOfMemory-clause-syncs
 returns-in-Err-OutOfMemory-clause-syncs g c =
     let d = g.D.Disk in
     asked_syncs d.held d.clock d.image d.image_since _ _
 
+-- ---- a command that makes its script
+
+pub returns-in-Ok-Gen-clause-bytes : goal.returns-in-Ok-Gen-clause-bytes
+returns-in-Ok-Gen-clause-bytes g c =
+    let arm = c.in-Ok-Gen in
+    reads_none _ (Gen arm.seed arm.sessions arm.txns arm.threads) _ (arm.ensures.accepted ∙ ap Some arm.field-0-is) refl
+
 pub returns-in-Ok-Gen-clause-answers : goal.returns-in-Ok-Gen-clause-answers
 returns-in-Ok-Gen-clause-answers g c =
-    made_not_read _ c.in-Ok-Gen.seed c.in-Ok-Gen.sessions c.in-Ok-Gen.txns c.in-Ok-Gen.threads _
-    (c.in-Ok-Gen.ensures.accepted ∙ ap Some c.in-Ok-Gen.field-0-is)
+    let arm = c.in-Ok-Gen in
+    reads_none _ (Gen arm.seed arm.sessions arm.txns arm.threads) _ (arm.ensures.accepted ∙ ap Some arm.field-0-is) refl
+
+pub returns-in-Ok-Gen-clause-serves : goal.returns-in-Ok-Gen-clause-serves
+returns-in-Ok-Gen-clause-serves g c =
+    let arm = c.in-Ok-Gen in
+    served_otherwise _ (Gen arm.seed arm.sessions arm.txns arm.threads) _ (arm.ensures.accepted ∙ ap Some arm.field-0-is) refl
+
+pub returns-in-Ok-Gen-clause-unwritten : goal.returns-in-Ok-Gen-clause-unwritten
+returns-in-Ok-Gen-clause-unwritten g c =
+    λ short other. ⊎_elim (λ three. absurd (c.run_made.ensures.statuses.2 three)) (λ five. (c.run_made.ensures.no_memory five).0) short
+
+-- ---- a command that serves
+
+pub serve-status-requires : goal.serve-status-requires
+serve-status-requires g c =
+    let arm = c.in-Ok-Serve in
+    subst IsWithin arm.field-0-is arm.ensures.within
+
+pub returns-in-Ok-Serve-clause-bytes : goal.returns-in-Ok-Serve-clause-bytes
+returns-in-Ok-Serve-clause-bytes g c =
+    let arm = c.in-Ok-Serve in
+    reads_none _ (Serve arm.chunks arm.rows) _ (arm.ensures.accepted ∙ ap Some arm.field-0-is) refl
+
+pub returns-in-Ok-Serve-clause-given : goal.returns-in-Ok-Serve-clause-given
+returns-in-Ok-Serve-clause-given g c = gives_at_most _ _ _ _ _ _ _ c.serve-status.ensures.serves
+
+pub returns-in-Ok-Serve-clause-answers : goal.returns-in-Ok-Serve-clause-answers
+returns-in-Ok-Serve-clause-answers g c =
+    let arm = c.in-Ok-Serve in
+    reads_none _ (Serve arm.chunks arm.rows) _ (arm.ensures.accepted ∙ ap Some arm.field-0-is) refl
+
+pub returns-in-Ok-Serve-clause-made : goal.returns-in-Ok-Serve-clause-made
+returns-in-Ok-Serve-clause-made g c =
+    let arm = c.in-Ok-Serve in
+    makes_none _ arm.chunks arm.rows _ (arm.ensures.accepted ∙ ap Some arm.field-0-is)
+
+pub returns-in-Ok-Serve-clause-serves : goal.returns-in-Ok-Serve-clause-serves
+returns-in-Ok-Serve-clause-serves g c =
+    let arm = c.in-Ok-Serve in
+    served_so _ arm.chunks arm.rows _ (arm.ensures.accepted ∙ ap Some arm.field-0-is) c.serve-status.ensures.serves
+
+pub returns-in-Ok-Serve-clause-read_fault : goal.returns-in-Ok-Serve-clause-read_fault
+returns-in-Ok-Serve-clause-read_fault g c =
+    λ three. (c.serve-status.ensures.read_fault three, c.serve-status.ensures.serves.no_outcome (inl three))
+
+pub returns-in-Ok-Serve-clause-no_memory : goal.returns-in-Ok-Serve-clause-no_memory
+returns-in-Ok-Serve-clause-no_memory g c = λ five. c.serve-status.ensures.serves.no_outcome (inr five)
+
+pub returns-in-Ok-Serve-clause-unwritten : goal.returns-in-Ok-Serve-clause-unwritten
+returns-in-Ok-Serve-clause-unwritten g c =
+    let arm = c.in-Ok-Serve in
+    λ short none. absurd (serves_so _ arm.chunks arm.rows (arm.ensures.accepted ∙ ap Some arm.field-0-is) none)
+
+pub returns-in-Ok-Serve-clause-syncs : goal.returns-in-Ok-Serve-clause-syncs
+returns-in-Ok-Serve-clause-syncs g c =
+    let d = g.D.Disk in
+    asked_syncs d.held d.clock d.image d.image_since _ _
+
+-- ---- a command that reads a script
+
+pub returns-in-Ok-clause-answers : goal.returns-in-Ok-clause-answers
+returns-in-Ok-clause-answers g c = reads_so _ c.in-Ok.command _ c.in-Ok.ensures.accepted c.run_command.ensures.answers
+
+pub returns-in-Ok-clause-unwritten : goal.returns-in-Ok-clause-unwritten
+returns-in-Ok-clause-unwritten g c =
+    λ short other. ⊎_elim (λ three. (c.run_command.ensures.read_fault three).1) (λ five. (c.run_command.ensures.no_memory five).0) short

@@ -3,7 +3,7 @@ use Rattle.hy_bound.specs.declared.schedule.Item.{Item}
 use Rattle.hy_machine.specs.declared.Setting.{Setting}
 use Rattle.hy_machine.specs.Outcomes.{outcome_of}
 use Rattle.hy_machine.specs.Runs.{opening_of, run_of}
-use Rattle.hy_top.specs.Typing.{catalog_kinds}
+use Rattle.hy_setting.specs.Kinds.{catalog_kinds}
 use Rattle.hy_world.specs.Logged.{IsDurable}
 use Rattle.hy_world.specs.Worlds.{ShowsState}
 use Rattle.hy_top.specs.Settings.{setting_at}

@@ -1,0 +1,5 @@
+pub mod CatalogTypes
+pub mod ValueTypes
+pub mod FormulaTypes
+pub mod StatementTypes
+pub mod BoundTypes

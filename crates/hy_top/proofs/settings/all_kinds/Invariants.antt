@@ -1,7 +1,0 @@
-use Rattle.std.proofs.Common.{◌≡◌, ◌++◌, drop}
-use Rattle.hy_top.specs.Typing.{catalog_kinds}
-use Rattle.hy_top.proofs.settings.all_kinds.Given as goal
-
--- the types of the tables so far, and of what is left
-abbrev pub invariant-loop-table : goal.invariant-loop-table
-invariant-loop-table l = l.all ++ catalog_kinds (drop l.table-index l.tables) ≡ catalog_kinds l.tables

@@ -1,5 +1,5 @@
 //! The tests of what leads from bytes to statements: sources and sinks, lines, texts, tokens, the parser, the catalog,
-//! savepoints.
+//! savepoints, the lines of serving.
 #![tactic(auto)]
 
 #[cfg(test)]
@@ -8,5 +8,7 @@ mod bytes;
 mod lines;
 #[cfg(test)]
 mod savepoints;
+#[cfg(test)]
+mod serving;
 #[cfg(test)]
 mod statements;

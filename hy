@@ -1,9 +1,53 @@
 #!/bin/sh
-# Runs the program. Where it is missing, or was built from other sources or by another toolchain, rt proves and builds
-# it first. This script writes to standard error, and only while it builds; its own failures end with status 70.
+# Runs the program on a script; `./hy help` tells how. `./hy build` proves and builds it. Where it is missing, or was built
+# from other sources or by another toolchain, the sources are run without a proof. Standard output has the program's bytes, or
+# the page of help; what this script says goes to standard error, and its own failures end with status 70.
 
 newline='
 '
+
+help() {
+    cat <<'PAGE' || exit 4
+hy runs a script of concurrent SQL transactions, and prints what each was told and one order in which they committed.
+
+    ./hy run [--threads] [--no-prune] [--log] [--chunks N] [--rows N] [FILE]
+                 runs the script; prints the replies, the commit order and the final tables
+    ./hy check [--chunks N] [--rows N] [FILE]
+                 reads the script; prints what it has, or the line and the code of its first mistake
+    ./hy recover [--chunks N] [--rows N] [FILE]
+                 prints the script's tables as the log hy.log of an earlier run makes them
+    ./hy gen --seed N --sessions K --transactions M [--threads]
+                 makes a bank and its sessions from the number N, runs them, and counts how they ended
+    ./hy serve [--chunks N] [--rows N]
+                 answers each line of standard input before it reads the next
+    ./hy build   proves and builds the program; until then its sources are run without a proof
+    ./hy help    prints this page
+
+FILE is the script. Where none is named, or it is -, the script is standard input.
+
+    --threads           each session on a thread of its own; the schedule isn't used
+    --no-prune          old versions are kept
+    --log               the commits are kept in the file hy.log; not with --threads
+    --chunks N          each table has N chunks, 1 to 64; 4 where nothing is said
+    --rows N            each chunk has N rows, 1 to 1024; 1024 where nothing is said
+    --seed N            0 to 4294967295
+    --sessions K        1 to 64
+    --transactions M    in each session, 1 to 1000
+
+Examples:
+
+    ./hy run examples/write_skew.hy
+    ./hy run --chunks 1 --rows 4 examples/bank/phantom.hy
+    ./hy gen --seed 7 --sessions 8 --transactions 100
+
+Statuses: 0 done, 1 the words are refused, 2 the script is refused, 3 a read failed, 4 a write failed, 5 want of memory,
+6 the log's file failed, 7 the log isn't empty or is damaged, 70 this launcher failed.
+
+Documents: README.md, docs/tour.md (one bank, script by script), docs/language.md (the script language),
+docs/anomalies.md (the anomalies of the isolation literature, as scripts).
+PAGE
+    exit
+}
 
 complain() {
     printf 'hy: %s\n' "$1" >&2
@@ -12,6 +56,42 @@ complain() {
 fail() {
     complain "$1"
     exit 70
+}
+
+# Refuses words as the program does, and names them.
+refuse() {
+    complain "$1; ./hy help shows what there is"
+    echo 'usage: hy run|check|gen'
+    exit 1
+}
+
+fail_to_read() {
+    complain "$1"
+    exit 3
+}
+
+is_among() {
+    case " $2 " in *" $1 "*) ;; *) return 1 ;; esac
+}
+
+# Whether a word is an option of the command. One that takes a number may have it behind a sign =, or as the next word.
+is_option() {
+    name=${1#--}
+    if [ "$name" = "$1" ]; then
+        false
+    elif is_among "${name%%=*}" "$numbers"; then
+        given="$given ${name%%=*}"
+        [ "$name" != "${name%%=*}" ] || awaited=number
+    else
+        is_among "$name" "$flags"
+    fi
+}
+
+take_file() {
+    is_among "$command" 'run check recover' || refuse "$command takes no script, and $1 is one word too many"
+    [ -z "$named" ] || refuse "$command takes one script, and $1 is one word too many"
+    named=yes
+    file=$1
 }
 
 # The folder that this file stands in, links followed. A path may hold any bytes: $(..) takes newlines off its end, so
@@ -37,36 +117,87 @@ find_root() {
     root=${root%"${newline}x"}
 }
 
-# A checksum of all that the program is made from: names, sizes and bytes.
+# Ends what this start began, however it ends. A signal that may be caught could be lost on the ticker, where it comes before
+# the ticker is fully a process of its own.
+# shellcheck disable=SC2317 # the trap calls it
+clean() {
+    {
+        [ -z "$ticker" ] || kill -KILL "$ticker"
+        [ -z "$child" ] || { kill "$child" && wait "$child"; }
+    } 2>/dev/null
+    [ -z "$room" ] || rm -rf "$room"
+    [ -z "$locked" ] || rm -rf "$lock"
+}
+
+make_room() {
+    [ -n "$room" ] || room=$(mktemp -d) || fail "no folder for temporary files can be made"
+}
+
+# Waits for what runs in the background, and has its status. A shell waits for nothing else in a way that a signal ends.
+attend() {
+    child=$!
+    wait "$child"
+    status=$?
+    child=
+}
+
+# A checksum of all that says what the program does and promises: names, sizes and bytes. A proof can change neither.
 sum_of_sources() {
     (
         cd "$root" &&
-            find crates.txt crates/*/src crates/*/specs crates/*/proofs -type f -exec cksum {} + 2>/dev/null |
-            LC_ALL=C sort | cksum
+            find crates.txt crates/*/src crates/*/specs -type f -exec cksum {} + 2>/dev/null | LC_ALL=C sort | cksum
     )
 }
 
-# The name of the toolchain, or nothing where there is none. rt version prints the file KIT-ID of its kit, which is read
-# in its place where it lies there, since a start of rt takes half a second.
-toolchain() {
+# What of that, or of the program, was changed after the record was written, by the times that the system keeps.
+list_changes() {
+    (cd "$root" && LC_ALL=C exec find crates.txt crates/*/src crates/*/specs "$program" -cnewer "$record") 2>&1
+}
+
+# Finds the name of the toolchain, nothing where there is none. rt version prints the file KIT-ID of its kit, which is
+# read in its place where it lies there, since a start of rt takes half a second. Where the kit is the one that the record
+# names, no link is followed to it.
+find_toolchain() {
+    toolchain=
     rt=$(command -v rt) || return
-    rt=$(readlink -f -- "$rt") || rt=
-    kit=${rt%/bin/*}/KIT-ID
-    if [ -n "$rt" ] && [ -r "$kit" ]; then cat "$kit"; else rt version </dev/null 2>/dev/null; fi
+    # shellcheck disable=SC3013 # where a shell has no -ef the link is followed
+    if ! [ "$rt" -ef "$kit/bin/rt" ] 2>/dev/null; then
+        kit=$(readlink -f -- "$rt")
+        kit=${kit%/bin/*}
+    fi
+    if [ -n "$kit" ] && [ -r "$kit/KIT-ID" ]; then
+        IFS= read -r toolchain <"$kit/KIT-ID"
+    else
+        toolchain=$(rt version </dev/null 2>/dev/null)
+    fi
 }
 
-# What was built from what: the sources, the toolchain and the program itself, as it is written beside the program.
-state() {
-    printf '%s\n%s\n%s\n' "$sources" "$1" "$(cksum <"$program")"
+# Writes what was built from what, and where: times say nothing in a copy of the folder.
+write_record() {
+    printf '%s\n' "$sources" "$builder" "$built" "$kit" "$root" >"$1"
 }
 
-# Whether the program is the one that these sources give. Where there is no toolchain, any that built it will do.
+# Whether the program is the one that these sources give: by times, and where one is later than the record, by checksums. Then
+# there is a new record, written before the sums were taken. Where there is no toolchain, any that built it will do.
 is_built() {
     [ -x "$program" ] && [ -r "$record" ] || return 1
-    sources=$(sum_of_sources)
-    present=$(toolchain)
-    [ -n "$present" ] || present=$(sed -n 2p "$record")
-    [ "$(cat "$record")" = "$(state "$present")" ]
+    {
+        IFS= read -r sources
+        IFS= read -r builder
+        IFS= read -r built
+        IFS= read -r kit
+        IFS= read -r place
+    } <"$record"
+    find_toolchain
+    [ "${toolchain:-$builder}" = "$builder" ] || return 1
+    [ "$place" != "$root" ] || [ -n "$(list_changes)" ] || return 0
+    write_record "$record.$$" 2>/dev/null
+    if [ "$(sum_of_sources)" = "$sources" ] && [ "$(cksum <"$program")" = "$built" ]; then
+        mv -f "$record.$$" "$record" 2>/dev/null
+        return 0
+    fi
+    rm -f "$record.$$"
+    return 1
 }
 
 # One start builds at a time: the folder is the lock, and the file in it names the process that holds it. A lock whose
@@ -101,9 +232,7 @@ take_lock() {
         waited=$((waited + 1))
         nameless=$((nameless + 1))
     done
-    trap 'drop_lock' EXIT
-    trap 'exit 130' INT
-    trap 'exit 143' TERM HUP
+    locked=yes
     echo $$ >"$lock/process" || fail "$lock can't be written"
     rmdir "$lock/taken" 2>/dev/null
 }
@@ -116,26 +245,20 @@ is_gone() {
     esac
 }
 
-drop_lock() {
-    [ -z "$ticker" ] || { kill "$ticker" && wait "$ticker"; } 2>/dev/null
-    [ -z "$copy" ] || rm -rf "$copy"
-    rm -rf "$lock"
-}
-
 # Sets the folder that rt works in. It can't work in one whose path isn't text, so then it gets a copy of the sources.
 find_bench() {
     bench=$root
     printf '%s' "$root" | iconv -f UTF-8 -t UTF-8 >/dev/null 2>&1 && return
-    copy=$(mktemp -d) || fail "the path isn't text, and no folder for a copy of the sources can be made"
-    bench=$copy
-    complain "the path isn't text, so the program is built from a copy of the sources in $copy"
+    make_room
+    bench=$room/sources
+    complain "the path isn't text, so a copy of the sources is taken to $bench"
     (
-        cd "$root" && cp crates.txt HANDLES "$copy" || exit
+        cd "$root" && mkdir "$bench" && cp crates.txt HANDLES "$bench" || exit
         for part in crates/*/src crates/*/specs crates/*/proofs; do
             [ -d "$part" ] || continue
-            mkdir -p "$copy/${part%/*}" && cp -R "$part" "$copy/$part" || exit
+            mkdir -p "$bench/${part%/*}" && cp -R "$part" "$bench/$part" || exit
         done
-    ) || fail "the sources can't be copied to $copy"
+    ) || fail "the sources can't be copied to $bench"
 }
 
 # Takes the program over from the copy.
@@ -144,55 +267,287 @@ take_program() {
     mkdir -p "$crate/out" && cp "$bench/crates/hy_main/out/hy_main" "$program.new" && mv "$program.new" "$program"
 }
 
-# Tells each minute that the build goes on, as long as it does.
+# How many crates the program is made of: its own, and all that it stands on.
+count_crates() {
+    awk '
+        function count(name, parts, number, i, found) {
+            if (!(name in below) || name in seen) return 0
+            seen[name]
+            number = split(below[name], parts)
+            for (i = found = 1; i <= number; i++) found += count(parts[i])
+            return found
+        }
+        !/^#/ && /:/ { name = $1; sub(/:.*/, "", name); sub(/^[^:]*:/, ""); below[name] = $0 }
+        END { print count("hy_main") }
+    ' "$root/crates.txt"
+}
+
+# How many crates are proved at once: one a processor, as far as there are 3 GB of memory for each.
+count_lanes() {
+    lanes=$(nproc 2>/dev/null) || lanes=1
+    free=$(awk '/^MemAvailable:/ { print int($2 / 3000000) }' /proc/meminfo 2>/dev/null)
+    [ "${free:-$lanes}" -ge "$lanes" ] || lanes=$free
+    [ "$lanes" -ge 1 ] || lanes=1
+    echo "$lanes"
+}
+
+# Tells each minute how far the build is, as long as it goes on. rt prints a line == NAME for each crate that is done.
 tick() {
     while sleep 60 >/dev/null 2>&1 && kill -0 $$ 2>/dev/null; do
-        complain "still building, after $((($(date +%s) - began) / 60)) min"
+        complain "$(grep -c '^== hy_' "$log") of $crates crates, after $((($(date +%s) - began) / 60)) min"
     done
 }
 
-# Proves and builds the program. rt runs it then, on a script without anything in it, so that rt's status is 0 just
-# where the program was built and runs.
-build() {
-    command -v rt >/dev/null || fail "the program must be built, and the toolchain's command rt is not on the PATH"
-    take_lock
-    if is_built; then
-        drop_lock
-        trap - EXIT INT TERM HUP
-        return
-    fi
-    rm -f "$record"
-    sources=$(sum_of_sources)
-    began=$(date +%s)
-    if [ -e "$program" ]; then
-        complain "the program isn't that of these sources and this toolchain: proving and building it anew (log: $log)"
-    else
-        complain "proving and building the program; from nothing this can take an hour (log: $log)"
-    fi
-    find_bench
-    tick &
-    ticker=$!
-    (cd "$bench/crates/hy_main" && printf 'END;\n' | rt run -- check) >"$log" 2>&1
-    status=$?
-    took=$(($(date +%s) - began))
-    if [ "$status" -ne 0 ] || ! take_program || [ ! -x "$program" ]; then
-        tail -n 20 "$log" >&2
-        fail "the build failed after $took s: rt ended with status $status (whole log: $log)"
-    fi
-    [ "$sources" = "$(sum_of_sources)" ] || fail "the sources changed during the build: start again"
-    { state "$(toolchain)" >"$record.new" && mv "$record.new" "$record"; } || fail "$record can't be written"
-    complain "built in $took s"
-    drop_lock
-    trap - EXIT INT TERM HUP
+# Has rt prove the crates, as many at once as it is told, and without the tests and the edits that the gate tries.
+prove() {
+    (cd "$bench/crates/hy_main" && exec rt all check --jobs "$1") >"$log" 2>&1 &
+    attend
 }
 
+# Proves and builds the program, from what earlier builds kept. rt runs it then, on a script without anything in it, so that
+# rt's status is 0 just where the program was built and runs.
+build() {
+    take_lock
+    if is_built; then
+        complain "the program is built from these sources"
+        return
+    fi
+    command -v rt >/dev/null || fail "the program must be built, and the toolchain's command rt is not on the PATH"
+    sources=$(sum_of_sources)
+    began=$(date +%s)
+    crates=$(count_crates)
+    lanes=$(count_lanes)
+    find_bench
+    complain "proving and building $crates crates, $lanes at a time (log: $log)"
+    tick &
+    ticker=$!
+    prove "$lanes"
+    if [ "$status" -ne 0 ] && [ "$lanes" -gt 1 ] && grep -q ': failed (-9)$' "$log"; then
+        complain "a check was killed, most likely for want of memory: going on with one crate at a time"
+        prove 1
+    fi
+    if [ "$status" -eq 0 ]; then
+        printf 'END;\n' | (cd "$bench/crates/hy_main" && exec rt run -- check) >>"$log" 2>&1 &
+        attend
+    fi
+    took=$(($(date +%s) - began))
+    if [ "$status" -ne 0 ] || ! take_program || [ ! -x "$program" ]; then
+        { grep -e error -e ': not proved$' -e ': failed (' "$log" || tail -n 20 "$log"; } | head -n 20 >&2
+        fail "the build failed after $took s: rt ended with status $status (whole log: $log)"
+    fi
+    find_toolchain
+    builder=$toolchain
+    built=$(cksum <"$program")
+    write_record "$record.new" || fail "$record can't be written"
+    [ "$sources" = "$(sum_of_sources)" ] || fail "the sources changed during the build: start again"
+    mv "$record.new" "$record" || fail "$record can't be written"
+    complain "proved and built, in $took s"
+}
+
+# Opens what the program is to read as descriptor 3. A named file can mostly be read again, at $script.
+open_script() {
+    if [ "$command" = gen ]; then
+        exec 3</dev/null
+    elif [ "$file" = - ]; then
+        file='standard input'
+        command exec 3<&0 || fail_to_read "$file can't be read"
+    else
+        [ -e "$file" ] || fail_to_read "$file: there is no such file"
+        [ ! -d "$file" ] || fail_to_read "$file: is a folder"
+        [ -r "$file" ] || fail_to_read "$file: may not be read"
+        command exec 3<"$file" || fail_to_read "$file can't be read"
+        [ ! -f "$file" ] || script=$file
+    fi
+}
+
+# Has all else as a copy, of as much as the program reads.
+copy_script() {
+    [ -z "$script" ] && [ "$command" != gen ] || return 0
+    make_room
+    script=$room/script
+    head -c 16777217 <&3 >"$script" || fail_to_read "$file can't be read"
+    exec 3<"$script"
+}
+
+# Runs the sources as they are. For each run rt compiles them anew, in a minute or two; it passes on what the program wrote when
+# it has ended, at most 1 MiB; and the program runs in a folder of its own, which is gone then. The last line of what rt says
+# itself tells whether the program ended.
+run_unproved() {
+    command -v rt >/dev/null ||
+        fail "the program isn't built from these sources, and the toolchain's command rt is not on the PATH"
+    [ -z "$keeps" ] || fail "--log goes with the program that is proved and built alone: ./hy build comes first"
+    complain "these sources are not proved yet; ./hy build proves and builds them (about 25 minutes on four processors)"
+    complain "running them unproved: in a minute or two, behind the end of the input"
+    copy_script
+    find_bench
+    make_room
+    set -- -- "$@"
+    if [ "$command" = recover ] && [ -e hy.log ]; then
+        cp hy.log "$room/hy.log" || fail "hy.log can't be copied to $room"
+        set -- --data "hy.log=$room/hy.log" "$@"
+    fi
+    (cd "$bench/crates/hy_main" && exec rt try --steps 1 --seconds 86400 "$@") <&3 >"$room/text" 2>"$room/said" &
+    attend
+    status=$(sed -n '$s/^run=ended status=\([0-9]*\) .*/\1/p' "$room/said")
+    if [ -z "$status" ]; then
+        tail -n 20 "$room/said" >&2
+        fail "unproved, these sources gave no answer: rt tells why above"
+    fi
+    grep '^hy: ' "$room/said" >&2
+    cat "$room/text" || status=4
+}
+
+# Says in words which line is refused, and why. docs/refusals.txt has the words, and says what they are chosen by.
+explain_refusal() {
+    case $1 in
+        'line '*': E'*) ;;
+        *) return ;;
+    esac
+    line=${1#line }
+    LC_ALL=C tr '\000-\011\013-\037\177' ' ' <"$script" |
+        LC_ALL=C sentences=$root/docs/refusals.txt awk -v line="${line%%:*}" -v code="${1##* }" '
+            function code_of(text) {
+                sub(/--.*/, "", text)
+                sub(/ +$/, "", text)
+                sub(/^ +/, "", text)
+                return text
+            }
+            function show(number, text) {
+                sub(/ +$/, "", text)
+                if (length(text) > 160) text = substr(text, 1, 160) " .."
+                printf "%8d  %s\n", number, text
+            }
+            BEGIN { last = ";"; place = "outside" }
+            NR == line { refused = $0; exit }
+            {
+                text = toupper(code_of($0))
+                if (text == "") next
+                before = $0
+                number = NR
+                last = substr(text, length(text))
+                if (text ~ /(^|;) *BEGIN[ ;]/) place = "inside"
+                if (text ~ /(^|;) *(COMMIT|ROLLBACK) *;/) place = "outside"
+            }
+            END {
+                looks = place " " last " " toupper(code_of(refused))
+                while ((getline row < ENVIRON["sentences"]) > 0) {
+                    if (row ~ /^E/) {
+                        is_cause = substr(row, 1, 3) == code
+                        if (is_cause) sentence = ": " substr(row, 5)
+                    } else if (is_cause && hint == "" && sub(/^ +/, "", row) && match(row, /  +/)) {
+                        if (looks ~ substr(row, 1, RSTART - 1)) hint = substr(row, RSTART + RLENGTH)
+                    }
+                }
+                print "hy: line " line ", " code sentence
+                is_end = refused ~ /^ *$/
+                if (before != "" && (last != ";" || is_end)) show(number, before)
+                show(line, (is_end ? "(here the script ends)" : refused))
+                if (hint != "") print "hy: " hint
+            }' >&2
+}
+
+# Says what a status stands for. Of status 6 the program says more itself.
+explain() {
+    case $status in
+        1) complain "these words are refused; ./hy help shows what there is" ;;
+        2)
+            # shellcheck disable=SC2086 # two words for each number
+            if [ -n "$room" ] && [ -e "$room/text" ]; then
+                explain_refusal "$(head -n 1 "$room/text")"
+            else
+                explain_refusal "$("$program" check $setting <"$script")"
+            fi
+            ;;
+        3) complain "$file can't be read" ;;
+        4) complain "standard output took only a part of what was to be written" ;;
+        5) complain "there is not enough memory" ;;
+        7)
+            case $command in
+                run) complain "hy.log has bytes already: recover from it, or move it away, and run again" ;;
+                *) complain "hy.log is no log of this script's tables from that offset on, or isn't there" ;;
+            esac
+            ;;
+        *) [ "$status" -le 128 ] || complain "the program was ended by signal $((status - 128))" ;;
+    esac
+}
+
+command=${1:-help}
+flags=
+numbers=
+case $command in
+    run) flags='threads no-prune log' numbers='chunks rows' ;;
+    check | recover | serve) numbers='chunks rows' ;;
+    gen) flags=threads numbers='seed sessions transactions' ;;
+    build) ;;
+    help | -h | --help) help ;;
+    *) refuse "there is no command $command" ;;
+esac
+shift
+
+# Of the words only the script's name is taken out; the others are the program's.
+named=
+file=-
+keeps=
+setting=
+given=
+awaited=
+for word; do
+    shift
+    case $awaited:$word in
+        number:*) awaited='' setting="$setting $word" ;;
+        script:*) take_file "$word" && continue ;;
+        :-h | :--help) help ;;
+        :--) awaited=script && continue ;;
+        :-?*)
+            is_option "$word" || refuse "$command has no option $word"
+            case $word in
+                --log) keeps=yes ;;
+                --chunks* | --rows*) setting="$setting $word" ;;
+            esac
+            ;;
+        *) take_file "$word" && continue ;;
+    esac
+    set -- "$@" "$word"
+done
+[ "$awaited" != number ] || refuse "a number is missing behind $word"
+for number in $numbers; do
+    [ "$command" != gen ] || is_among "$number" "$given" || refuse "gen needs --$number"
+done
+
+child=
 ticker=
-copy=
+room=
+locked=
+kit=
+script=
+trap clean EXIT
+trap 'exit 130' INT QUIT
+trap 'exit 143' TERM HUP
 find_root
 crate=$root/crates/hy_main
 program=$crate/out/hy_main
 record=$crate/out/hy_main.built
 lock=$crate/build.lock
 log=$crate/build.log
-is_built || build
-exec "$program" "$@"
+if [ "$command" = build ]; then
+    build
+    exit
+fi
+
+# Where nobody looks at standard error the program takes this process over, and so has its signals; so it does where it
+# serves, with its terminal.
+explains=
+{ [ "$file" = - ] && [ ! -t 2 ]; } || explains=yes
+[ "$command" != serve ] || explains=
+open_script
+set -- "$command" "$@"
+if is_built; then
+    [ -n "$explains" ] || exec "$program" "$@" 3<&-
+    copy_script
+    "$program" "$@" <&3 3<&- &
+    attend
+else
+    run_unproved "$@"
+fi
+[ -z "$explains" ] || explain
+exit "$status"

@@ -376,7 +376,7 @@ run_unproved() {
     command -v rt >/dev/null ||
         fail "the program isn't built from these sources, and the toolchain's command rt is not on the PATH"
     [ -z "$keeps" ] || fail "--log goes with the program that is proved and built alone: ./hy build comes first"
-    complain "these sources are not proved yet; ./hy build proves and builds them (about 25 minutes on four processors)"
+    complain "these sources are not proved yet; ./hy build proves and builds them (about an hour on four processors)"
     complain "running them unproved: in a minute or two, behind the end of the input"
     copy_script
     find_bench

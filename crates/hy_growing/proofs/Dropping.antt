@@ -16,7 +16,7 @@ use Rattle.hy_growing.proofs.Reply.{comes_to_answer, turns_unmarked, turns_then}
 use Rattle.hy_growing.proofs.Next.{IsOver, IsClosed, closed_after}
 use Rattle.hy_growing.proofs.Lines.{others_after}
 use Rattle.hy_growing.proofs.Between.{end_stays, wait_stays}
-use Rattle.hy_growing.proofs.Rolling.{IsRolling, HasRolledBack, rolled_after}
+use Rattle.hy_growing.proofs.Rolling.{IsRolling, HasRolledBack, rolled_after, rolled_same}
 
 -- ---- one session
 
@@ -40,6 +40,7 @@ record IsGone (setting : Setting) (state : State) (number : ℕ) (next : State) 
   answered : IsAnswered setting number state next
   at_end : IsAtEnd setting next number
   rolled_back : HasRolledBack (session_at state number).done (session_at next number)
+  order : next.order ≡ state.order
 
 goes : StepsFall → (setting : Setting) (state : State) (number : ℕ) → number < length state.sessions → state.mark ≡ None → IsUncommitted setting state number
     → (next : State) × IsGone setting state number next
@@ -49,6 +50,7 @@ goes falls setting state number l none waits = (
     answered = answered;
     at_end = record { closed = end.0; all = end.1 };
     rolled_back = rolled_after setting number waits.0.txn state next l waits.0.here rolling answered;
+    order = rolled_same setting number waits.0.txn state next l waits.0.here rolling answered;
   },
 )
   where
@@ -78,6 +80,7 @@ drops_begin setting state turns between = record {
   answered = subst (λ (all : List ℕ). AreAnswered setting (opening_of setting) all state) (sym (append-nil turns)) between.answered;
   dropped = λ other h. absurd (omega (arith, h));
   others = λ other h. refl;
+  order = refl;
 }
 
 -- one more is dropped, where nothing changes
@@ -90,6 +93,7 @@ end_dropped setting state next turns number ends dropped = record {
     | inr n ↦ dropped.dropped other (omega (arith, h, n))
   ];
   others = λ other h. dropped.others other (omega (arith, h));
+  order = dropped.order;
 }
   where
     same : session_at next number ≡ session_at state number
@@ -113,6 +117,7 @@ gone_dropped setting state mid next turns number waits dropped gone = record {
     | inr n ↦ stays other n (dropped.dropped other (omega (arith, h, n)))
   ];
   others = λ other h. there other (λ e. omega (arith, h, e)) ∙ dropped.others other (omega (arith, h));
+  order = gone.order ∙ dropped.order;
 }
   where
     all_are : (turns ++ open_before state number) ++ number ∷ [] ≡ turns ++ open_before state (suc number)

@@ -105,6 +105,33 @@ now_rolling setting state number txn done (Some current) r m =
     rolled_on setting state number txn done current (phase_turn setting state number txn current.begun current.phase)
     (phase_rolls setting state number txn current.begun current.phase r) m
 
+-- nothing comes into the commit order
+rolled_order : (setting : Setting) (state : State) (number : ℕ) (turn : Turn Write) → Rolls turn
+    → (after_turn setting state number turn).0.order ≡ state.order
+rolled_order setting state number Done r = absurd r
+rolled_order setting state number (Waits by) r = refl
+rolled_order setting state number Begins r = absurd r
+rolled_order setting state number (Visits writes phase) r = refl
+rolled_order setting state number (Answers writes reply took records) r = absurd r
+rolled_order setting state number (Saves statement reply) r = absurd r
+rolled_order setting state number Enters r = absurd r
+rolled_order setting state number (Ends how) r = refl
+
+now_order : (setting : Setting) (state : State) (number : ℕ) (txn : Txn) (now : Option Open) → IsRolling txn now
+    → (after_turn setting state number (session_turn setting state number (Some txn) now)).0.order ≡ state.order
+now_order setting state number txn None r = absurd r
+now_order setting state number txn (Some current) r =
+    rolled_order setting state number (phase_turn setting state number txn current.begun current.phase)
+    (phase_rolls setting state number txn current.begun current.phase r)
+
+-- by the step of one that is at this transaction
+order_after : (setting : Setting) (number : ℕ) (txn : Txn) (state next : State) → txn_at setting number (session_at state number) ≡ Some txn
+    → IsRolling txn (session_at state number).now → (after_turn setting state number (turn setting state number)).0 ≡ next → next.order ≡ state.order
+order_after setting number txn state next t r e =
+    ap (λ (to : State). to.order) (sym e)
+    ∙ ap (λ (one : Option Txn). (after_turn setting state number (session_turn setting state number one (session_at state number).now)).0.order) t
+    ∙ now_order setting state number txn (session_at state number).now r
+
 -- the session after the step of one that is at this transaction
 after_step : (setting : Setting) (number : ℕ) (txn : Txn) (state next : State) → number < length state.sessions → txn_at setting number (session_at state number) ≡ Some txn
     → (after_turn setting state number (turn setting state number)).0 ≡ next
@@ -128,3 +155,16 @@ rolled_after setting number txn state next l t r (later _ mid _ e m rest) =
     let within : number < length mid.sessions = subst (λ (to : State). number < length to.sessions) e (step_within setting state number number l) in
     let ends = rolled_after setting number txn mid next within here on.1 rest in
     (ends.0, (ends.1.0, ends.1.1 ∙ ap (λ (done : List Finished). done ++ ends.0 ∷ []) on.0))
+
+-- the commit order is as it was
+pub rolled_same : (setting : Setting) (number : ℕ) (txn : Txn) (state next : State) → number < length state.sessions
+    → txn_at setting number (session_at state number) ≡ Some txn → IsRolling txn (session_at state number).now → IsAnswered setting number state next
+    → next.order ≡ state.order
+rolled_same setting number txn state next l t r (at_once _ _ e a) = order_after setting number txn state next t r e
+rolled_same setting number txn state next l t r (later _ mid _ e m rest) =
+    let told = ap (λ (one : Option Txn). (after_turn setting state number (session_turn setting state number one (session_at state number).now)).1) (sym t) ∙ m in
+    let on = subst (GoesOn txn (session_at state number).done) (after_step setting number txn state mid l t e)
+    (now_rolling setting state number txn (session_at state number).done (session_at state number).now r told) in
+    let here : txn_at setting number (session_at mid number) ≡ Some txn = ap (λ (done : List Finished). slice_get (program_of setting number) (length done)) on.0 ∙ t in
+    let within : number < length mid.sessions = subst (λ (to : State). number < length to.sessions) e (step_within setting state number number l) in
+    rolled_same setting number txn mid next within here on.1 rest ∙ order_after setting number txn state mid t r e

@@ -169,11 +169,12 @@ pub record IsDropped (setting : Setting) (state next : State) (number : ℕ) : T
   pub same : (session_at state number).now ≡ None → session_at next number ≡ session_at state number
 
 -- answered turns came to a state, and then one turn of each session before this one that had an open transaction to the next:
--- these sessions were dropped, and the others are as they were
+-- these sessions were dropped, and the others are as they were, as is the commit order
 pub record AreDropped (setting : Setting) (turns : List ℕ) (state : State) (number : ℕ) (next : State) : Type 0 where
   pub answered : AreAnswered setting (opening_of setting) (turns ++ open_before state number) next
   pub dropped : (other : ℕ) → other < number → IsDropped setting state next other
   pub others : (other : ℕ) → number ≤ other → session_at next other ≡ session_at state other
+  pub order : next.order ≡ state.order
 
 -- the state after a whole item of a session, if it has an open transaction
 abbrev pub after_drop : Setting → State → ℕ → State

@@ -7,7 +7,7 @@ use Rattle.std.proofs.lemmas.List.{take_all, take-append-le, length-append, leng
 use Rattle.hy_journal.specs.declared.Entry.{Entry}
 use Rattle.hy_redo.specs.Logs.{IsLogOf}
 use Rattle.hy_redo.specs.Crashes.{AreLogsOf, Appends, IsBeforeOrAfter, next_gate}
-use Rattle.hy_world.specs.Logged.{Extend, GrowByOne, with_next, IsLogOfFirst, IsLogButTheLast, IsKept, IsKeptButTheLast, Logs, IsKeptSince, IsUnderWay, RecoversAfter, IsDurable, IsLogOfRun, LogsRun}
+use Rattle.hy_world.specs.Logged.{LogsTellOrders, Extend, GrowByOne, with_next, IsLogOfFirst, IsLogButTheLast, IsKept, IsKeptButTheLast, Logs, IsKeptSince, IsUnderWay, RecoversAfter, IsDurable, IsLogOfRun, LogsRun}
 use Rattle.hy_value.specs.declared.Kind.{Kind}
 use Rattle.hy_stamp.specs.declared.Label.{Label}
 use Rattle.hy_value.specs.declared.change.Change.{Change}
@@ -259,3 +259,16 @@ logs_run clock image_since law one setting kinds state old new before after way 
   moments = λ time bytes le left.
       ⊎_elim (λ earlier. inl earlier) (λ is. inr (log_of_run law one setting kinds state new way typed bytes is)) (logs.moments time bytes le left);
 }
+
+-- ---- for all worlds
+
+-- the log of all entries of a world recovers to the tables of the state that it shows
+recovers_all : LogsRecoverTables → (setting : Setting) (kinds : List (List Kind)) (state : State) (world : WorldData) → ShowsState setting state world
+    → CanBeLogged kinds setting → (gate : ℕ) (bytes : List ℕ) → IsLogOf world.core.entries gate bytes
+    → RecoversAfter setting kinds state (length state.order) bytes
+recovers_all law setting kinds state world shows typed gate bytes log =
+    recovers_after law setting kinds state world shows typed (length state.order) gate bytes
+    (subst (λ (entries : List Entry). IsLogOf entries gate bytes) (sym (all_taken setting state world shows)) log)
+
+pub tell_orders : LogsRecoverTables → EntriesTellChanges → LogsTellOrders
+tell_orders law one = record { order = world_tells one; all = recovers_all law; first = log_of_run law one }

@@ -14,6 +14,7 @@ use Rattle.hy_recovery.specs.Recovered.{first_tables}
 use Rattle.hy_redo.specs.Crashes.{AreLogsOf}
 use Rattle.hy_render.specs.declared.Committed.{Committed}
 use Rattle.hy_stepping.specs.Outcomes.{told_entry}
+use Rattle.hy_stepping.specs.Texts.{CanBeLogged}
 use Rattle.hy_world.specs.Worlds.{WorldData, ShowsState}
 
 -- these, and others behind them
@@ -123,3 +124,15 @@ pub record LogsRun {D : Type 0} (clock : D → ℕ) (image_since : D → ℕ →
   pub later : clock before ≤ clock after
   pub moments : (time : ℕ) (bytes : List ℕ) → time ≤ clock before → image_since after time bytes
       → image_since before time bytes ⊎ IsLogOfRun setting kinds state bytes
+
+-- ---- laws
+
+-- What the log of a world tells of the machine: of a world that shows a state its entries tell the commit order, and their log recovers
+-- to the tables after it; and the log of some first entries is that of some first ones of each order that has the world's first.
+pub record LogsTellOrders : Type 0 where
+  pub order : (setting : Setting) (state : State) (world : WorldData) → ShowsState setting state world
+      → map told_entry world.core.entries ≡ map committed_of state.order
+  pub all : (setting : Setting) (kinds : List (List Kind)) (state : State) (world : WorldData) → ShowsState setting state world → CanBeLogged kinds setting
+      → (gate : ℕ) (bytes : List ℕ) → IsLogOf world.core.entries gate bytes → RecoversAfter setting kinds state (length state.order) bytes
+  pub first : (setting : Setting) (kinds : List (List Kind)) (state : State) (world : WorldData) → IsUnderWay setting state.order world
+      → CanBeLogged kinds setting → (bytes : List ℕ) → IsLogOfFirst world.core.entries bytes → IsLogOfRun setting kinds state bytes

@@ -26,6 +26,7 @@ use hy_disk::NoDisk;
 use hy_machine::Setting;
 use hy_render::Outcome;
 use hy_value::{Kind, Seq};
+pub use logging::logs_tell_orders;
 use std::alloc::{AllocError, Global};
 pub use threads::run_threads;
 pub use world::World;

@@ -10,7 +10,7 @@ ghost use Rattle.hy_machine.specs.Runs.{opening_of, run_of};
 ghost use Rattle.hy_stepping.specs.Texts.{CanBeLogged};
 ghost use Rattle.hy_redo.specs.Crashes.{AreLogsOf};
 ghost use Rattle.hy_value.specs.declared.Kind.{Kind};
-ghost use Rattle.hy_world.specs.Logged.{IsKept, IsKeptButTheLast, Logs, HasLogged, IsDurable, LogsRun, with_next};
+ghost use Rattle.hy_world.specs.Logged.{IsKept, IsKeptButTheLast, Logs, HasLogged, IsDurable, LogsRun, LogsTellOrders, with_next};
 ghost use Rattle.hy_world.specs.Worlds.{ShowsState};
 
 use crate::World;
@@ -46,6 +46,15 @@ pub(crate) fn log_entry<D: Disk>(
         return Ok(());
     };
     append(alloc, log, disk, entry)
+}
+
+/// A law: what the log of a world tells is the commit order of the state that the world shows, or the first part of it, and it
+/// recovers to the tables after as many entries.
+pub fn logs_tell_orders()
+    ensures { LogsTellOrders }
+{
+    hy_stepping::logs_recover_tables();
+    hy_refinement::entries_tell_changes();
 }
 
 impl World {

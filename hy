@@ -18,7 +18,7 @@ hy runs a script of concurrent SQL transactions, and prints what each was told a
                  prints the script's tables as the log hy.log of an earlier run makes them
     ./hy gen --seed N --sessions K --transactions M [--threads]
                  makes a bank and its sessions from the number N, runs them, and counts how they ended
-    ./hy serve [--chunks N] [--rows N]
+    ./hy serve [--log] [--chunks N] [--rows N]
                  answers each line of standard input before it reads the next
     ./hy build   proves and builds the program; until then its sources are run without a proof
     ./hy help    prints this page
@@ -476,7 +476,8 @@ flags=
 numbers=
 case $command in
     run) flags='threads no-prune log' numbers='chunks rows' ;;
-    check | recover | serve) numbers='chunks rows' ;;
+    serve) flags=log numbers='chunks rows' ;;
+    check | recover) numbers='chunks rows' ;;
     gen) flags=threads numbers='seed sessions transactions' ;;
     build) ;;
     help | -h | --help) help ;;

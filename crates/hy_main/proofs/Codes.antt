@@ -1,13 +1,13 @@
 -- What a report answers, by the code of its status.
-use Rattle.std.proofs.Common.{◌≡◌, ℕ, true, List, Option, None, Some, IfSome, ◌⊎◌, inl, inr, sym, subst, ◌∙◌}
+use Rattle.std.proofs.Common.{◌≡◌, ℕ, Bool, true, List, Option, None, Some, IfSome, ◌⊎◌, inl, inr, sym, subst, ◌∙◌}
 use Rattle.std.proofs.Math.Logic.{⊎_elim}
 use Rattle.hy_script.specs.declared.Options.{Options}
 use Rattle.hy_script.specs.declared.Script.{Script}
-use Rattle.hy_service.specs.Serves.{Serves}
 use Rattle.hy_render.specs.declared.Outcome.{Outcome}
 use Rattle.hy_words.specs.declared.Command.{Command}
-use Rattle.hy_top.specs.Program.{made_by, reads_script, served_by}
+use Rattle.hy_top.specs.Program.{keeps_log, made_by, reads_script, served_by}
 use Rattle.hy_top.specs.Reports.{IsAnswered, Makes}
+use Rattle.hy_top.specs.Served.{IsServed, LeavesServed}
 
 -- a code that is the status answers what the report answers
 pub answers_by_code : {D : Type 0} (held : D → Option (List ℕ)) (clock : D → ℕ) (image : D → List ℕ → Type 0) (image_since : D → ℕ → List ℕ → Type 0)
@@ -39,16 +39,27 @@ made_by_code (Some command) old new status code outcome before after same h =
     made_so command (made_by command) old new status code outcome before after same h
 
 -- and what is served
-served_so : (served : Option Options) (old new before after : Option (List ℕ)) (status code : ℕ) (outcome : Option Outcome) → code ≡ status
-    → IfSome served (λ options. Serves options old new before after status outcome)
-    → IfSome served (λ options. (given : Option Outcome) × Serves options old new before after code given)
-served_so None old new before after status code outcome same h = tt
-served_so (Some options) old new before after status code outcome same h =
-    (outcome, subst (λ (s : ℕ). Serves options old new before after s outcome) (sym same) h)
+served_so : {D : Type 0} (held : D → Option (List ℕ)) (clock : D → ℕ) (image : D → List ℕ → Type 0) (image_since : D → ℕ → List ℕ → Type 0)
+    (keeps : Bool) (served : Option Options) (old new before after : Option (List ℕ)) (first last : D) (status code : ℕ) (outcome : Option Outcome)
+    → code ≡ status → IfSome served (λ options. IsServed (held first) keeps options old new before after status outcome)
+    → IfSome served (λ options. keeps ≡ true → LeavesServed held clock image image_since options old new status outcome first last)
+    → IfSome served (λ options. (given : Option Outcome) × IsServed (held first) keeps options old new before after code given
+    × (keeps ≡ true → LeavesServed held clock image image_since options old new code given first last))
+served_so held clock image image_since keeps None old new before after first last status code outcome same h k = tt
+served_so held clock image image_since keeps (Some options) old new before after first last status code outcome same h k = (
+  outcome,
+  subst (λ (s : ℕ). IsServed (held first) keeps options old new before after s outcome) (sym same) h,
+  λ on. subst (λ (s : ℕ). LeavesServed held clock image image_since options old new s outcome first last) (sym same) (k on),
+)
 
-pub served_by_code : (asked : Option Command) (old new before after : Option (List ℕ)) (status code : ℕ) (outcome : Option Outcome) → code ≡ status
-    → IfSome asked (λ command. IfSome (served_by command) (λ options. Serves options old new before after status outcome))
-    → IfSome asked (λ command. IfSome (served_by command) (λ options. (given : Option Outcome) × Serves options old new before after code given))
-served_by_code None old new before after status code outcome same h = tt
-served_by_code (Some command) old new before after status code outcome same h =
-    served_so (served_by command) old new before after status code outcome same h
+pub served_by_code : {D : Type 0} (held : D → Option (List ℕ)) (clock : D → ℕ) (image : D → List ℕ → Type 0) (image_since : D → ℕ → List ℕ → Type 0)
+    (asked : Option Command) (old new before after : Option (List ℕ)) (first last : D) (status code : ℕ) (outcome : Option Outcome) → code ≡ status
+    → IfSome asked (λ command. IfSome (served_by command) (λ options. IsServed (held first) (keeps_log command) options old new before after status outcome))
+    → IfSome asked (λ command. IfSome (served_by command) (λ options. keeps_log command ≡ true
+    → LeavesServed held clock image image_since options old new status outcome first last))
+    → IfSome asked (λ command. IfSome (served_by command) (λ options. (given : Option Outcome)
+    × IsServed (held first) (keeps_log command) options old new before after code given
+    × (keeps_log command ≡ true → LeavesServed held clock image image_since options old new code given first last)))
+served_by_code held clock image image_since None old new before after first last status code outcome same h k = tt
+served_by_code held clock image image_since (Some command) old new before after first last status code outcome same h k =
+    served_so held clock image image_since (keeps_log command) (served_by command) old new before after first last status code outcome same h k

@@ -9,9 +9,9 @@ ghost use Rattle.hy_outside.specs.Faults.{Rose};
 ghost use Rattle.hy_render.specs.declared.Outcome.{Outcome};
 ghost use Rattle.hy_words.specs.Words.{command_of};
 ghost use Rattle.hy_top.specs.Lines.{usage_line};
-ghost use Rattle.hy_service.specs.Serves.{Serves};
 ghost use Rattle.hy_top.specs.Program.{does_serve, keeps_log, made_by, reads_script, served_by, uses_disk};
 ghost use Rattle.hy_top.specs.Reports.{Writes, IsAnswered, Makes};
+ghost use Rattle.hy_top.specs.Served.{IsServed, LeavesServed};
 
 use hy_disk::{Disk, FileDisk};
 use hy_outside::{Sink, Source, StdSink, StdSource};
@@ -67,22 +67,27 @@ fn exit_code_of<T: Threads + Wait + Sync, R: Source, W: Sink, D: Disk>(
     ensures made { IfSome (command_of (map string_bytes words.now)) (λ command. IfSome (made_by command) (λ script. (source.new ≡ source.old)
         × ((outcome : Option Outcome) × Makes command script (exit_status result) outcome (W.written sink.old) (W.written sink.new)))) }
 
+    // What it leaves on the disk is told where it keeps a log.
     ensures serves { IfSome (command_of (map string_bytes words.now)) (λ command. IfSome (served_by command) (λ options. (outcome : Option Outcome)
-        × Serves options (R.rest source.old) (R.rest source.new) (W.written sink.old) (W.written sink.new) (exit_status result) outcome)) }
+        × IsServed (D.held disk.old) (keeps_log command) options (R.rest source.old) (R.rest source.new) (W.written sink.old) (W.written sink.new)
+        (exit_status result) outcome
+        × (keeps_log command ≡ true → LeavesServed D.held D.clock D.image D.image_since options (R.rest source.old) (R.rest source.new)
+        (exit_status result) outcome disk.old disk.new))) }
 
     // A fault has its cause in the source, the sink or the disk, and is told. At 3, 5 and 6 nothing is written, but by a command
     // that serves.
     ensures read_fault { exit_status result ≡ 3 → Rose (R.faults source.old) (R.faults source.new) }
     ensures write_fault { exit_status result ≡ 4 → Rose (W.faults sink.old) (W.faults sink.new) }
-    ensures unwritten { (exit_status result ≡ 3) ⊎ (exit_status result ≡ 5) → does_serve (command_of (map string_bytes words.now)) ≡ false
-        → sink.new ≡ sink.old }
-    ensures disk_fault { exit_status result ≡ 6 → Rose (D.faults disk.old) (D.faults disk.new) × (sink.new ≡ sink.old) }
+    ensures unwritten { (exit_status result ≡ 3) ⊎ ((exit_status result ≡ 5) ⊎ (exit_status result ≡ 6))
+        → does_serve (command_of (map string_bytes words.now)) ≡ false → sink.new ≡ sink.old }
+    ensures disk_fault { exit_status result ≡ 6 → Rose (D.faults disk.old) (D.faults disk.new) }
     ensures source_steady { exit_status result ≢ 3 → R.faults source.new ≡ R.faults source.old }
     ensures sink_steady { exit_status result ≢ 4 → W.faults sink.new ≡ W.faults sink.old }
     ensures disk_steady { exit_status result ≢ 6 → D.faults disk.new ≡ D.faults disk.old }
 
     // What a command that keeps no log, or a status, leaves of the disk.
-    ensures refused_disk { (exit_status result ≡ 1) ⊎ (exit_status result ≡ 2) ⊎ (exit_status result ≡ 3) → disk.new ≡ disk.old }
+    ensures refused_disk { (exit_status result ≡ 1) ⊎ (exit_status result ≡ 2) ⊎ (exit_status result ≡ 3)
+        → does_serve (command_of (map string_bytes words.now)) ≡ false → disk.new ≡ disk.old }
     ensures untouched { uses_disk (command_of (map string_bytes words.now)) ≡ false → disk.new ≡ disk.old }
     ensures held { IfSome (command_of (map string_bytes words.now)) (λ command. keeps_log command ≡ false → D.held disk.new ≡ D.held disk.old) }
     ensures syncs { IfSome (command_of (map string_bytes words.now)) (λ command. keeps_log command ≡ false

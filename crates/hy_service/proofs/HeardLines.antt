@@ -13,16 +13,20 @@ use Rattle.hy_script.specs.declared.Options.{Options}
 use Rattle.hy_script.specs.declared.stocks.Stock.{Stock}
 use Rattle.hy_serving.specs.declared.Desk.{Desk}
 use Rattle.hy_serving.specs.declared.Saying.{Saying}
-use Rattle.hy_serving.specs.declared.Saying.TheVariants.{Ends, Closes}
+use Rattle.hy_serving.specs.declared.Saying.TheVariants.{Nothing, Ends, Defines, Begins, Says, Closes, Refused}
 use Rattle.hy_serving.specs.Answers.{own_answer}
 use Rattle.hy_serving.specs.Saying.{desk_after, saying, without_rows}
 use Rattle.hy_serving.specs.Saying as desks
 use Rattle.hy_setting.specs.Kinds.{catalog_kinds}
+use Rattle.hy_world.specs.Logged.{IsKept}
 use Rattle.hy_world.specs.Worlds.{WorldData, ShowsState}
-use Rattle.hy_service.specs.Knowing.{Hears, Knows, KnowsBy, KnowsDefinitions, KnowsSessions, ServerData, Takes, listed}
-use Rattle.hy_service.specs.Laws.{LinesAreHeard, LinesCanBeTaken, ServicesAreSound}
+use Rattle.hy_service.specs.Knowing.{HasNoted, Hears, IsAnswer, IsToTake, Knows, KnowsBy, KnowsDefinitions, KnowsSessions, ServerData, Takes, listed}
+use Rattle.hy_service.specs.Laws.{LinesAreHeard, LinesCanBeTaken, ServicesAreSound, ServicesCanBeLogged}
+use Rattle.hy_service.specs.Logging.{CanLog, KeepsUp, LogsAt, entries_in}
 use Rattle.hy_service.specs.Service.{IsSized, Service, after, answer, answered, ends, heard, is_begin, is_ended_by, names_of, noted, opening, session_line, setting_of, taken, told_at}
 use Rattle.hy_service.specs.Sound.{CanTake, has_sessions}
+use Rattle.hy_service.specs.declared.Next.{Next}
+use Rattle.hy_service.specs.declared.Next.TheVariants as nexts
 use Rattle.hy_service.proofs.Leaves.{line_leaves, new_names}
 
 -- what the law on first rows says
@@ -156,20 +160,24 @@ hears_end law lines line old left known is =
 
 -- ---- a line more
 
-known_more : LinesAreHeard → (options : Options) (prunes : Bool) (lines : List (List ℕ)) (line : List ℕ) (desk : Desk) (names : Names)
-    (world : Option WorldData)
-    → IsSized options → is_ended_by options lines ≡ false → ends (saying options (after options lines).desk line) ≡ false
-    → KnowsBy options (heard options (after options lines) line) desk names world
-    → Knows (lines ++ line ∷ []) (record { options = options; prunes = prunes; desk = desk; names = names; world = world })
-known_more law options prunes lines line desk names world sized no_end goes knows =
-    let service : Service = after options lines in
-    let next : Service = heard options service line in
-    let same : after options (lines ++ line ∷ []) ≡ next =
-    law.service options (opening options) lines (line ∷ []) no_end ∙ ap (λ (is : Bool). cond is service next) goes in
+-- the service after the line is the one that has heard it
+after_line : LinesAreHeard → (options : Options) (lines : List (List ℕ)) (line : List ℕ) → is_ended_by options lines ≡ false
+    → ends (saying options (after options lines).desk line) ≡ false
+    → after options (lines ++ line ∷ []) ≡ heard options (after options lines) line
+after_line law options lines line no_end goes =
+    law.service options (opening options) lines (line ∷ []) no_end
+    ∙ ap (λ (is : Bool). cond is (after options lines) (heard options (after options lines) line)) goes
+
+known_more : LinesAreHeard → (lines : List (List ℕ)) (line : List ℕ) (server : ServerData) → IsSized server.options
+    → is_ended_by server.options lines ≡ false → ends (saying server.options (after server.options lines).desk line) ≡ false
+    → KnowsBy server.options (heard server.options (after server.options lines) line) server.desk server.names server.world
+    → Knows (lines ++ line ∷ []) server
+known_more law lines line server sized no_end goes knows =
+    let options : Options = server.options in
     record {
       sized = sized;
       no_end = law.end options (opening options) lines (line ∷ []) no_end ∙ ap (λ (is : Bool). cond is true false) goes;
-      knows = subst (λ (one : Service). KnowsBy options one desk names world) (sym same) knows;
+      knows = subst (λ (one : Service). KnowsBy options one server.desk server.names server.world) (sym (after_line law options lines line no_end goes)) knows;
     }
 
 -- ---- a line that its text alone answers
@@ -184,7 +192,7 @@ hears_alone law lines line old said told desk names known notes alone goes told_
     let same : heard old.options service line ≡ next = ap (λ (one : Option (ℕ × SessionLine)). taken old.options next one) none in (
       told_is ∙ ap own_answer (sym notes.said_is)
           ∙ sym (ap (λ (one : Option (ℕ × SessionLine)). answered (heard old.options service line) (saying old.options service.desk line) one) none),
-      known_more law old.options old.prunes lines line desk names old.world known.sized known.no_end (ap ends notes.said_is ∙ goes)
+      known_more law lines line (record old { desk = desk; names = names }) known.sized known.no_end (ap ends notes.said_is ∙ goes)
           (subst (λ (one : Service). KnowsBy old.options one desk names old.world) (sym same) notes.knows),
     )
 
@@ -197,49 +205,74 @@ can_take : LinesCanBeTaken → ServicesAreSound → (lines : List (List ℕ)) (l
 can_take law sound lines line old said number taken_line desk names known notes is =
     law old.options (after old.options lines) line number taken_line (sound old.options lines known.sized) (ap session_line notes.said_is ∙ is)
 
--- by a server that has noted it
-pub may_take : LinesCanBeTaken → ServicesAreSound → (lines : List (List ℕ)) (line : List ℕ) (old server : ServerData) (said : Saying) (number : ℕ)
-    (taken_line : SessionLine)
-    (desk : Desk) (names : Names) → Knows lines old → Notes old.options (after old.options lines) line said desk names old.world
-    → session_line said ≡ Some (number, taken_line) → server ≡ record old { desk = desk; names = names }
-    → CanTake server.options (noted old.options (after old.options lines) line) number taken_line
-    × KnowsBy server.options (noted old.options (after old.options lines) line) server.desk server.names server.world
-may_take law sound lines line old server said number taken_line desk names known notes is server_is =
-    let service : Service = noted old.options (after old.options lines) line in
-    subst (λ (s : ServerData). CanTake s.options service number taken_line × KnowsBy s.options service s.desk s.names s.world) (sym server_is)
-    (can_take law sound lines line old said number taken_line desk names known notes is, notes.knows)
+-- ---- a line that is to be taken
 
-hears_taken : LinesAreHeard → (lines : List (List ℕ)) (line : List ℕ) (old server : ServerData) (said : Saying) (number : ℕ) (taken_line : SessionLine)
-    (told : List ℕ) (desk : Desk) (names : Names) → Knows lines old → Notes old.options (after old.options lines) line said desk names old.world
-    → session_line said ≡ Some (number, taken_line) → ends said ≡ false → server.options ≡ old.options
-    → Takes (noted old.options (after old.options lines) line) number taken_line told server → Hears lines line old server (Some told)
-hears_taken law lines line old server said number taken_line told desk names known notes is goes same takes =
-    let service : Service = after old.options lines in
-    let next : Service = noted old.options service line in
-    let some : session_line (saying old.options service.desk line) ≡ Some (number, taken_line) = ap session_line notes.said_is ∙ is in
-    let heard_is : heard old.options service line ≡ taken old.options next (Some (number, taken_line)) =
-    ap (λ (one : Option (ℕ × SessionLine)). taken old.options next one) some in (
-      subst (λ (o : Options). told ≡ told_at (taken o next (Some (number, taken_line))) number (is_begin taken_line)) same takes.told_is
-          ∙ sym (ap (λ (one : Option (ℕ × SessionLine)). answered (taken old.options next one) (saying old.options service.desk line) one) some),
-      subst (λ (o : Options). Knows (lines ++ line ∷ []) (record server { options = o })) (sym same)
-          (known_more law old.options server.prunes lines line server.desk server.names server.world known.sized known.no_end (ap ends notes.said_is ∙ goes)
-          (subst (λ (one : Service). KnowsBy old.options one server.desk server.names server.world) (sym heard_is)
-          (subst (λ (o : Options). KnowsBy o (taken o next (Some (number, taken_line))) server.desk server.names server.world) same takes.knows))),
+-- a line of a session is not END
+of_session : (said : Saying) (number : ℕ) (told : SessionLine) → session_line said ≡ Some (number, told) → ends said ≡ false
+of_session Nothing number told is = absurd cc
+of_session Ends number told is = absurd cc
+of_session Defines number told is = absurd cc
+of_session (Begins at read_only name) number told is = refl
+of_session (Says at bound) number told is = refl
+of_session (Closes at commits) number told is = refl
+of_session (Refused name cause) number told is = absurd cc
+
+-- a server that has noted it may take it
+pub may_take : (lines : List (List ℕ)) (line : List ℕ) (old server : ServerData) (number : ℕ) (told : SessionLine)
+    → IsToTake lines line old server number told → server.options ≡ old.options
+    → (service : Service) × CanTake server.options service number told × KnowsBy server.options service server.desk server.names server.world
+may_take lines line old server number told due same =
+    let service : Service = noted old.options (after old.options lines) line in (
+      service,
+      subst (λ (o : Options). CanTake o service number told) (sym same) due.can,
+      subst (λ (o : Options). KnowsBy o service server.desk server.names server.world) (sym same) due.knows,
     )
 
--- whatever the answer came as
-pub hears_if_taken : {V E : Type 0} (r : Result (Option V) E) (items : V → List ℕ) → LinesAreHeard → (lines : List (List ℕ)) (line : List ℕ)
-    (old server : ServerData)
-    (said : Saying) (number : ℕ) (taken_line : SessionLine) (desk : Desk) (names : Names) → Knows lines old
-    → Notes old.options (after old.options lines) line said desk names old.world → session_line said ≡ Some (number, taken_line) → ends said ≡ false
-    → server.options ≡ old.options → IfOk r (λ (given : Option V). IsSome given)
-    → IfOk r (λ (given : Option V). IfSome given (λ (told : V). Takes (noted old.options (after old.options lines) line) number taken_line (items told)
-    server))
-    → IfOk r (λ (given : Option V). Hears lines line old server (option_map items given))
-hears_if_taken (Err e) items law lines line old server said number taken_line desk names known notes is goes same some takes = tt
-hears_if_taken (Ok None) items law lines line old server said number taken_line desk names known notes is goes same some takes = absurd (false≢true some)
-hears_if_taken (Ok (Some told)) items law lines line old server said number taken_line desk names known notes is goes same some takes =
-    hears_taken law lines line old server said number taken_line (items told) desk names known notes is goes same takes
+-- and when it did, what it told is the answer
+pub hears_turn : LinesAreHeard → (lines : List (List ℕ)) (line : List ℕ) (old server now : ServerData) (number : ℕ) (told : SessionLine) (text : List ℕ)
+    → Knows lines old → IsToTake lines line old server number told → server.options ≡ old.options → now.options ≡ server.options
+    → ((service : Service) → CanTake server.options service number told → KnowsBy server.options service server.desk server.names server.world
+    → Takes service number told text now) → Hears lines line old now (Some text)
+unfolding may_take
+hears_turn law lines line old server now number told text known due same stays takes =
+    let service : Service = after old.options lines in
+    let next : Service = noted old.options service line in
+    let may = may_take lines line old server number told due same in
+    let took : Takes next number told text now = takes may.0 may.1 may.2 in
+    let options_are : now.options ≡ old.options = stays ∙ same in
+    let goes : ends (saying old.options service.desk line) ≡ false = of_session (saying old.options service.desk line) number told due.says in
+    let heard_is : heard old.options service line ≡ taken old.options next (Some (number, told)) =
+    ap (λ (one : Option (ℕ × SessionLine)). taken old.options next one) due.says in (
+      subst (λ (o : Options). text ≡ told_at (taken o next (Some (number, told))) number (is_begin told)) options_are took.told_is
+          ∙ sym (ap (λ (one : Option (ℕ × SessionLine)). answered (taken old.options next one) (saying old.options service.desk line) one) due.says),
+      subst (λ (o : Options). Knows (lines ++ line ∷ []) (record now { options = o })) (sym options_are)
+          (known_more law lines line (record now { options = old.options }) known.sized known.no_end goes
+          (subst (λ (one : Service). KnowsBy old.options one now.desk now.names now.world) (sym heard_is)
+          (subst (λ (o : Options). KnowsBy o (taken o next (Some (number, told))) now.desk now.names now.world) options_are took.knows))),
+    )
+
+-- and the log has what the line commits
+pub logs_turn : {D : Type 0} (clock : D → ℕ) (image_since : D → ℕ → List ℕ → Type 0) → LinesAreHeard → ServicesCanBeLogged → (lines : List (List ℕ))
+    (line : List ℕ) (old server : ServerData) (number : ℕ) (told : SessionLine) (before now : D) → Knows lines old
+    → IsToTake lines line old server number told → server.options ≡ old.options
+    → ((service : Service) → CanTake server.options service number told → KnowsBy server.options service server.desk server.names server.world
+    → CanLog server.options (taken server.options service (Some (number, told)))
+    → LogsAt clock image_since server.options (taken server.options service (Some (number, told))) before now)
+    → LogsAt clock image_since old.options (after old.options (lines ++ line ∷ [])) before now
+unfolding may_take
+logs_turn clock image_since law can lines line old server number told before now known due same logs =
+    let service : Service = after old.options lines in
+    let next : Service = noted old.options service line in
+    let may = may_take lines line old server number told due same in
+    let goes : ends (saying old.options service.desk line) ≡ false = of_session (saying old.options service.desk line) number told due.says in
+    let is : after old.options (lines ++ line ∷ []) ≡ taken old.options next (Some (number, told)) =
+    after_line law old.options lines line known.no_end goes ∙ ap (λ (one : Option (ℕ × SessionLine)). taken old.options next one) due.says in
+    let here : CanLog old.options (taken old.options next (Some (number, told))) =
+    subst (CanLog old.options) is (can old.options (lines ++ line ∷ []) known.sized) in
+    let there : LogsAt clock image_since server.options (taken server.options next (Some (number, told))) before now =
+    logs next may.1 may.2 (subst (λ (o : Options). CanLog o (taken o next (Some (number, told)))) (sym same) here) in
+    subst (λ (one : Service). LogsAt clock image_since old.options one before now) (sym is)
+    (subst (λ (o : Options). LogsAt clock image_since o (taken o next (Some (number, told))) before now) same there)
 
 -- ---- by the steps of a server
 
@@ -268,18 +301,18 @@ server_ends law lines line old noting known is rest =
     subst (λ (s : ServerData). Hears lines line old s None) (sym rest) (hears_end law lines line old noting.desk known is)
 
 -- the text of the line alone gave the answer
-pub server_answers : {V E : Type 0} (r : Result (Option V) E) (items : V → List ℕ) → RowsLaw → LinesAreHeard → (lines : List (List ℕ)) (line : List ℕ)
+pub server_answers : {E : Type 0} (r : Result Next E) → RowsLaw → LinesAreHeard → (lines : List (List ℕ)) (line : List ℕ)
     (old noting : ServerData) (said : Saying) → Knows lines old → desks.heard old.options old.desk line ≡ (said, noting.desk)
     → noting ≡ record old { desk = noting.desk } → new_names said ≡ [] → session_line said ≡ None → ends said ≡ false
-    → IfOk r (λ (given : Option V). IsSome given) → IfOk r (λ (given : Option V). IfSome given (λ (told : V). items told ≡ own_answer said))
-    → IfOk r (λ (given : Option V). Hears lines line old noting (option_map items given))
-server_answers (Err e) items rows law lines line old noting said known is rest none alone goes some told = tt
-server_answers (Ok None) items rows law lines line old noting said known is rest none alone goes some told = absurd (false≢true some)
-server_answers (Ok (Some text)) items rows law lines line old noting said known is rest none alone goes some told =
+    → IfOk r (IsAnswer (own_answer said)) → IfOk r (λ (noted : Next). HasNoted lines line old noting noted)
+server_answers (Err e) rows law lines line old noting said known is rest none alone goes told = tt
+server_answers (Ok nexts.End) rows law lines line old noting said known is rest none alone goes told = absurd told
+server_answers (Ok (nexts.Turn number turn)) rows law lines line old noting said known is rest none alone goes told = absurd told
+server_answers (Ok (nexts.Answer text)) rows law lines line old noting said known is rest none alone goes told =
     let notes = line_noted rows old.options (after old.options lines) line said old.desk noting.desk old.names old.names old.world known.knows is
     (no_names said old.names none) in
-    subst (λ (s : ServerData). Hears lines line old s (Some (items text))) (sym rest)
-    (hears_alone law lines line old said (items text) noting.desk old.names known notes alone goes told)
+    subst (λ (s : ServerData). Hears lines line old s (Some text.items)) (sym rest)
+    (hears_alone law lines line old said text.items noting.desk old.names known notes alone goes told)
 
 -- the laws by which a line is taken
 pub record TakingLaws : Type 0 where
@@ -288,28 +321,22 @@ pub record TakingLaws : Type 0 where
   pub can : LinesCanBeTaken
   pub heard : LinesAreHeard
 
--- a server that has noted what a session's line says may take it
-pub server_may_take : TakingLaws → (lines : List (List ℕ)) (line : List ℕ) (old server : ServerData) (left : Desk) (names : Names) (said : Saying) (number : ℕ)
-    (taken_line : SessionLine) → Knows lines old → desks.heard old.options old.desk line ≡ (said, left) → AreMore said old.names names
-    → session_line said ≡ Some (number, taken_line) → server ≡ record old { desk = left; names = names }
-    → CanTake server.options (noted old.options (after old.options lines) line) number taken_line
-    × KnowsBy server.options (noted old.options (after old.options lines) line) server.desk server.names server.world
-server_may_take laws lines line old server left names said number taken_line known is more is_line server_is =
+-- a server that has noted what a session's line says is to take it
+pub server_due : TakingLaws → (lines : List (List ℕ)) (line : List ℕ) (old server : ServerData) (left : Desk) (names : Names) (said : Saying) (number : ℕ)
+    (told : SessionLine) → Knows lines old → desks.heard old.options old.desk line ≡ (said, left) → AreMore said old.names names
+    → session_line said ≡ Some (number, told) → server ≡ record old { desk = left; names = names }
+    → IsToTake lines line old server number told
+server_due laws lines line old server left names said number told known is more is_line server_is =
     let notes = line_noted laws.rows old.options (after old.options lines) line said old.desk left old.names names old.world known.knows is more in
-    may_take laws.can laws.sound lines line old server said number taken_line left names known notes is_line server_is
+    subst (λ (s : ServerData). IsToTake lines line old s number told) (sym server_is) (record {
+      says = ap session_line notes.said_is ∙ is_line;
+      can = can_take laws.can laws.sound lines line old said number told left names known notes is_line;
+      knows = notes.knows;
+    })
 
--- and when it did, it was the answer
-pub server_took : {V E : Type 0} (r : Result (Option V) E) (items : V → List ℕ) → TakingLaws → (lines : List (List ℕ)) (line : List ℕ)
-    (old server now : ServerData) (left : Desk) (names : Names) (said : Saying) (number : ℕ) (taken_line : SessionLine) → Knows lines old
-    → desks.heard old.options old.desk line ≡ (said, left) → AreMore said old.names names → session_line said ≡ Some (number, taken_line)
-    → ends said ≡ false → server ≡ record old { desk = left; names = names } → now.options ≡ server.options
-    → IfOk r (λ (given : Option V). IsSome given)
-    → ((service : Service) → CanTake server.options service number taken_line → KnowsBy server.options service server.desk server.names server.world
-    → IfOk r (λ (given : Option V). IfSome given (λ (told : V). Takes service number taken_line (items told) now)))
-    → IfOk r (λ (given : Option V). Hears lines line old now (option_map items given))
-server_took r items laws lines line old server now left names said number taken_line known is more is_line goes server_is same some takes =
-    let service : Service = noted old.options (after old.options lines) line in
-    let notes = line_noted laws.rows old.options (after old.options lines) line said old.desk left old.names names old.world known.knows is more in
-    let may = may_take laws.can laws.sound lines line old server said number taken_line left names known notes is_line server_is in
-    hears_if_taken r items laws.heard lines line old now said number taken_line left names known notes is_line goes
-    (same ∙ ap (λ (s : ServerData). s.options) server_is) some (takes service may.0 may.1)
+-- a server that has the world and the log which it had keeps up as it did
+pub kept_same : {D : Type 0} (image : D → List ℕ → Type 0) (old new : ServerData) (disk : D) → new.world ≡ old.world → new.log ≡ old.log
+    → KeepsUp image old disk → KeepsUp image new disk
+kept_same image old new disk world log kept =
+    subst (λ (w : Option WorldData). IsKept image (entries_in w) new.log disk) (sym world)
+    (subst (λ (l : Option ℕ). IsKept image (entries_in old.world) l disk) (sym log) kept)

@@ -17,3 +17,7 @@ pub mod Stops
 pub mod Dropping
 pub mod Closing
 pub mod Outcomes
+pub mod Texts
+pub mod LogsTold
+pub mod LoggedTurns
+pub mod LoggedLines

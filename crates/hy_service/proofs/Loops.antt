@@ -17,11 +17,11 @@ use Rattle.hy_script.specs.declared.Options.{Options}
 use Rattle.hy_serving.specs.Saying.{saying}
 use Rattle.hy_service.specs.Knowing.{Knows, ServerData}
 use Rattle.hy_service.specs.Laws.{LinesAreHeard}
-use Rattle.hy_service.specs.Loops.{Answers, AreFirst, GoesOn, HasServed, HasStopped, IsStop, KnowsUnless}
+use Rattle.hy_service.specs.Loops.{Answers, AreFirst, GoesOn, HasServed, HasStopped, IsStop, UnlessCut}
 use Rattle.hy_service.specs.Serves.{IsWhole}
 use Rattle.hy_service.specs.Service.{after, answer, ends, is_ended_by, opening, served}
 use Rattle.hy_service.specs.declared.serving.Stop.{Stop}
-use Rattle.hy_service.specs.declared.serving.Stop.TheVariants.{End, TooLong, ReadFault, WriteFault, OutOfMemory}
+use Rattle.hy_service.specs.declared.serving.Stop.TheVariants.{End, TooLong, ReadFault, WriteFault, DiskFault, OutOfMemory}
 use Rattle.hy_service.proofs.Answering.{Takes-next, TakesSome-next, answers_next, heard_up_to, last_goes_on}
 
 -- what is known of lines that are given one after another
@@ -47,9 +47,10 @@ took_a_byte before now old new line heard =
     ]
 
 -- before the first line
-pub nothing_served : (options : Options) (first before : Option (List ℕ)) (reading : Reading) (server : ServerData) → HasGiven first first reading [] []
-    → server.options ≡ options → Knows [] server → HasServed options first first before before reading server
-nothing_served options first before reading server given same knows = record {
+pub nothing_served : (options : Options) (first before : Option (List ℕ)) (logged : List (List ℕ) → Type 0) (reading : Reading) (server : ServerData)
+    → HasGiven first first reading [] [] → server.options ≡ options → Knows [] server → logged []
+    → HasServed options first first before before logged reading server
+nothing_served options first before logged reading server given same knows logs = record {
   bytes = [];
   lines = [];
   given = given;
@@ -57,6 +58,7 @@ nothing_served options first before reading server given same knows = record {
   told = Appends-nil before;
   options_are = same;
   knows = knows;
+  logs = logs;
 }
 
 module _ (law : LinesAreHeard) (givens : LinesAreGiven) where
@@ -88,12 +90,12 @@ module _ (law : LinesAreHeard) (givens : LinesAreGiven) where
       inl (ap (is_ended_by options) (givens.stand bytes (lines ++ line ∷ []) reading.kept (given.whole is)) ∙ up.end)
 
   -- a line was given and answered, or no further one is heard
-  answered : (first now before told told_now : Option (List ℕ)) (reading : Reading) (bytes : List ℕ) (lines : List (List ℕ)) (line : List ℕ)
-      (old new : ServerData)
+  answered : (first now before told told_now : Option (List ℕ)) (logged : List (List ℕ) → Type 0) (reading : Reading) (bytes : List ℕ)
+      (lines : List (List ℕ)) (line : List ℕ) (old new : ServerData) → logged (lines ++ line ∷ [])
       → HasGiven first now reading bytes (lines ++ line ∷ []) → length bytes ≤ MOST_BYTES + 1 → Takes before told (served old.options lines) → Knows lines old
       → new.options ≡ old.options → (result : Option Stop) → Answers lines line old new told told_now result
-      → GoesOn old.options first now before told_now reading new result
-  answered first now before told told_now reading bytes lines line old new given most took knows same None (heard, more) =
+      → GoesOn old.options first now before told_now logged reading new result
+  answered first now before told told_now logged reading bytes lines line old new logs given most took knows same None (heard, more) =
       let still : is_ended_by old.options (lines ++ line ∷ []) ≡ false =
       ap (λ (o : Options). is_ended_by o (lines ++ line ∷ [])) (sym same) ∙ heard.1.no_end in
       let going = last_goes_on law old.options (opening old.options) lines line knows.no_end still in
@@ -106,8 +108,9 @@ module _ (law : LinesAreHeard) (givens : LinesAreGiven) where
             (served old.options (lines ++ line ∷ [])) took more (answers_next law old.options (opening old.options) lines line knows.no_end going);
         options_are = same;
         knows = heard.1;
+        logs = logs;
       }
-  answered first now before told told_now reading bytes lines line old new given most took knows same (Some End) (heard, more) =
+  answered first now before told told_now logged reading bytes lines line old new logs given most took knows same (Some End) (heard, more) =
       let up = heard_up_to law old.options (opening old.options) lines line (lines_in reading.kept) knows.no_end heard.0 in
       record {
         bytes = bytes;
@@ -122,8 +125,11 @@ module _ (law : LinesAreHeard) (givens : LinesAreGiven) where
         );
         options_are = same;
         knows = heard.1;
+        heard = lines ++ line ∷ [];
+        first = (are_first first now reading bytes (lines ++ line ∷ []) given).first;
+        logs = logs;
       }
-  answered first now before told told_now reading bytes lines line old new given most took knows same (Some WriteFault) (heard, more) =
+  answered first now before told told_now logged reading bytes lines line old new logs given most took knows same (Some WriteFault) (heard, more) =
       let still : is_ended_by old.options (lines ++ line ∷ []) ≡ false =
       ap (λ (o : Options). is_ended_by o (lines ++ line ∷ [])) (sym same) ∙ heard.1.no_end in
       let going = last_goes_on law old.options (opening old.options) lines line knows.no_end still in
@@ -139,8 +145,11 @@ module _ (law : LinesAreHeard) (givens : LinesAreGiven) where
         );
         options_are = same;
         knows = heard.1;
+        heard = lines ++ line ∷ [];
+        first = (are_first first now reading bytes (lines ++ line ∷ []) given).first;
+        logs = logs;
       }
-  answered first now before told told_now reading bytes lines line old new given most took knows same (Some OutOfMemory) more =
+  answered first now before told told_now logged reading bytes lines line old new logs given most took knows same (Some DiskFault) more =
       record {
         bytes = bytes;
         lines = lines;
@@ -156,12 +165,35 @@ module _ (law : LinesAreHeard) (givens : LinesAreGiven) where
         );
         options_are = same;
         knows = tt;
+        heard = lines ++ line ∷ [];
+        first = (are_first first now reading bytes (lines ++ line ∷ []) given).first;
+        logs = logs;
       }
-  answered first now before told told_now reading bytes lines line old new given most took knows same (Some TooLong) none = absurd none
-  answered first now before told told_now reading bytes lines line old new given most took knows same (Some ReadFault) none = absurd none
+  answered first now before told told_now logged reading bytes lines line old new logs given most took knows same (Some OutOfMemory) more =
+      record {
+        bytes = bytes;
+        lines = lines;
+        gives = given.given;
+        most = most;
+        stops = (
+          (
+            length lines,
+            sym (ap (take (length lines)) (given.all ∙ append_assoc lines (line ∷ []) (lines_in reading.kept))
+                ∙ take-append_seam lines (line ∷ lines_in reading.kept)),
+          ),
+          Takes-next before told told_now (served old.options lines) [] (served old.options lines) took more (sym (append-nil (served old.options lines))),
+        );
+        options_are = same;
+        knows = tt;
+        heard = lines ++ line ∷ [];
+        first = (are_first first now reading bytes (lines ++ line ∷ []) given).first;
+        logs = logs;
+      }
+  answered first now before told told_now logged reading bytes lines line old new logs given most took knows same (Some TooLong) none = absurd none
+  answered first now before told told_now logged reading bytes lines line old new logs given most took knows same (Some ReadFault) none = absurd none
 
-  module _ (options : Options) (first rest before told : Option (List ℕ)) (was : Reading) (server : ServerData)
-      (served_so : HasServed options first rest before told was server) (now : Option (List ℕ)) (reading : Reading)
+  module _ (options : Options) (first rest before told : Option (List ℕ)) (was_logged logged : List (List ℕ) → Type 0) (was : Reading) (server : ServerData)
+      (served_so : HasServed options first rest before told was_logged was server) (now : Option (List ℕ)) (reading : Reading)
       (within : reading.taken ≤ MOST_BYTES + 1) where
     -- what was given with an answer
     given_with : (result : Result Heard NextError) (heard : hearing.Hears rest now was reading result)
@@ -179,20 +211,22 @@ module _ (law : LinesAreHeard) (givens : LinesAreGiven) where
     pub line_goes_on : (line : Vec ℕ Global) → hearing.Hears rest now was reading (Ok (heard_.Line line))
         → (new : ServerData) (told_now : Option (List ℕ)) (result : Option Stop)
         → new.options ≡ server.options → ((lines : List (List ℕ)) → Knows lines server → Answers lines line.items server new told told_now result)
-        → GoesOn options first now before told_now reading new result
-    line_goes_on line heard new told_now result same hears =
+        → ((lines : List (List ℕ)) → Knows lines server → was_logged lines → logged (lines ++ line.items ∷ []))
+        → GoesOn options first now before told_now logged reading new result
+    line_goes_on line heard new told_now result same hears logs =
         let given = given_with (Ok (heard_.Line line)) heard in
-        subst (λ (o : Options). GoesOn o first now before told_now reading new result) served_so.options_are
-        (answered first now before told told_now reading (served_so.bytes ++ heard.bytes) served_so.lines line.items server new given
+        subst (λ (o : Options). GoesOn o first now before told_now logged reading new result) served_so.options_are
+        (answered first now before told told_now logged reading (served_so.bytes ++ heard.bytes) served_so.lines line.items server new
+        (logs served_so.lines served_so.knows served_so.logs) given
         (omega (arith, given.count, within))
         (subst (λ (o : Options). Takes before told (served o served_so.lines)) (sym served_so.options_are) served_so.told)
         served_so.knows same result (hears served_so.lines served_so.knows))
 
     -- no line
     stops_at : (stop : Stop) (bytes : List ℕ) → HasGiven first now reading bytes served_so.lines
-        → IsStop options first now before told bytes served_so.lines stop → KnowsUnless served_so.lines server stop
-        → HasStopped options first now before told server stop
-    stops_at stop bytes given is knows = record {
+        → IsStop options first now before told bytes served_so.lines stop → UnlessCut stop (Knows served_so.lines server)
+        → logged served_so.lines → HasStopped options first now before told logged server stop
+    stops_at stop bytes given is knows logs = record {
       bytes = bytes;
       lines = served_so.lines;
       gives = given.given;
@@ -200,36 +234,43 @@ module _ (law : LinesAreHeard) (givens : LinesAreGiven) where
       stops = is;
       options_are = served_so.options_are;
       knows = knows;
+      heard = served_so.lines;
+      first = (are_first first now reading bytes served_so.lines given).first;
+      logs = logs;
     }
 
-    pub at_end : hearing.Hears rest now was reading (Ok heard_.End) → HasStopped options first now before told server End
-    at_end heard =
+    pub at_end : hearing.Hears rest now was reading (Ok heard_.End) → logged served_so.lines
+        → HasStopped options first now before told logged server End
+    at_end heard logs =
         let bytes : List ℕ = served_so.bytes ++ heard.bytes in
         let given : HasGiven first now reading bytes served_so.lines = given_none (Ok heard_.End) heard refl in
         let same : served_so.lines ≡ lines_in bytes = givens.end first now reading bytes served_so.lines given heard.told.1 in
         stops_at End bytes given
-        (inr (given.ended heard.told.2), ap (served options) (sym same), ap (after options) (sym same), served_so.told) served_so.knows
+        (inr (given.ended heard.told.2), ap (served options) (sym same), ap (after options) (sym same), served_so.told) served_so.knows logs
 
-    pub at_limit : hearing.Hears rest now was reading (Ok heard_.TooLong) → HasStopped options first now before told server TooLong
-    at_limit heard =
+    pub at_limit : hearing.Hears rest now was reading (Ok heard_.TooLong) → logged served_so.lines
+        → HasStopped options first now before told logged server TooLong
+    at_limit heard logs =
         let bytes : List ℕ = served_so.bytes ++ heard.bytes in
         let given : HasGiven first now reading bytes served_so.lines = given_none (Ok heard_.TooLong) heard refl in
         let none : has_feed reading.kept ≡ false = ap has_feed heard.told.0 ∙ heard.told.1 in
         let same : served_so.lines ≡ whole_lines_in bytes = givens.whole first now reading bytes served_so.lines given heard.told.3 none in
         let still : is_ended_by options (whole_lines_in bytes) ≡ false =
         ap (is_ended_by options) (sym same) ∙ ap (λ (o : Options). is_ended_by o served_so.lines) (sym served_so.options_are) ∙ served_so.knows.no_end in
-        stops_at TooLong bytes given ((sym given.count ∙ heard.told.2, still), same, served_so.told) served_so.knows
+        stops_at TooLong bytes given ((sym given.count ∙ heard.told.2, still), same, served_so.told) served_so.knows logs
 
-    pub at_fault : hearing.Hears rest now was reading (Err error_.ReadFault) → HasStopped options first now before told server ReadFault
-    at_fault heard =
+    pub at_fault : hearing.Hears rest now was reading (Err error_.ReadFault) → logged served_so.lines
+        → HasStopped options first now before told logged server ReadFault
+    at_fault heard logs =
         let bytes : List ℕ = served_so.bytes ++ heard.bytes in
         let given : HasGiven first now reading bytes served_so.lines = given_none (Err error_.ReadFault) heard refl in
         let none : has_feed reading.kept ≡ false = ap has_feed heard.told.0 ∙ heard.told.1 in
         let same : served_so.lines ≡ whole_lines_in bytes = givens.whole first now reading bytes served_so.lines given heard.told.2 none in
-        stops_at ReadFault bytes given (same, served_so.told) served_so.knows
+        stops_at ReadFault bytes given (same, served_so.told) served_so.knows logs
 
-    pub at_want : hearing.Hears rest now was reading (Err error_.OutOfMemory) → HasStopped options first now before told server OutOfMemory
-    at_want heard =
+    pub at_want : hearing.Hears rest now was reading (Err error_.OutOfMemory) → logged served_so.lines
+        → HasStopped options first now before told logged server OutOfMemory
+    at_want heard logs =
         let bytes : List ℕ = served_so.bytes ++ heard.bytes in
         let given : HasGiven first now reading bytes served_so.lines = given_none (Err error_.OutOfMemory) heard refl in
-        stops_at OutOfMemory bytes given ((are_first first now reading bytes served_so.lines given).first, served_so.told) tt
+        stops_at OutOfMemory bytes given ((are_first first now reading bytes served_so.lines given).first, served_so.told) tt logs

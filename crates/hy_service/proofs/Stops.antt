@@ -20,7 +20,7 @@ use Rattle.hy_service.specs.Loops.{AreFirst, HasStopped}
 use Rattle.hy_service.specs.Serves.{IsOutcomeOf, IsTold, told_whole, told_long, told_part, IsTooLong, IsWhole, Serves, Writes, long_text, whole_text}
 use Rattle.hy_service.specs.Service.{IsSized, after, answers, closing, closing_of, heard_all, is_ended_by, opening, outcome_after, outcome_at, served}
 use Rattle.hy_service.specs.declared.serving.Stop.{Stop}
-use Rattle.hy_service.specs.declared.serving.Stop.TheVariants.{End, TooLong, ReadFault, WriteFault, OutOfMemory}
+use Rattle.hy_service.specs.declared.serving.Stop.TheVariants.{End, TooLong, ReadFault, WriteFault, DiskFault, OutOfMemory}
 use Rattle.hy_service.proofs.Answering.{Takes-next, TakesSome-longer, TakesSome-next, answers_longer, whole_lines_first}
 
 -- ---- what holds at each status
@@ -32,12 +32,12 @@ neither status m n not_one not_other is = absurd (⊎_elim not_one not_other is)
 some_is : {A : Type 0} (x : A) → IsSome (Some x)
 some_is x = refl
 
-none_if : (outcome : Option Outcome) (P : Outcome → Type 0) → IsNone outcome → IfSome outcome P
+pub none_if : (outcome : Option Outcome) (P : Outcome → Type 0) → IsNone outcome → IfSome outcome P
 none_if None P none = tt
 none_if (Some given) P none = absurd (cc none)
 
 -- what holds of one holds of the given one, which is that
-given_is : (outcome : Option Outcome) (one : Outcome) (P : Outcome → Type 0) → P one → IfSome outcome (λ given. given ≡ one) → IfSome outcome P
+pub given_is : (outcome : Option Outcome) (one : Outcome) (P : Outcome → Type 0) → P one → IfSome outcome (λ given. given ≡ one) → IfSome outcome P
 given_is None one P holds is = tt
 given_is (Some given) one P holds is = subst P (sym is) holds
 
@@ -54,6 +54,7 @@ serves_fault options old new before after bytes status outcome gives most is non
   read_fault = λ s. took;
   write_fault = λ s. absurd (omega arith);
   no_memory = λ s. absurd (omega arith);
+  disk_fault = λ s. absurd (omega arith);
   outcome_is = none_if outcome _ none;
   of_all = λ s. absurd (omega arith);
   of_whole = λ s. absurd (omega arith);
@@ -61,24 +62,26 @@ serves_fault options old new before after bytes status outcome gives most is non
   no_outcome = λ s. none;
 }
 
--- memory ran out
+-- memory ran out, or the disk failed
 pub serves_starved : (options : Options) (old new before after : Option (List ℕ)) (bytes : List ℕ) (status : ℕ) (outcome : Option Outcome)
     (lines : List (List ℕ))
-    → Gives old new bytes → length bytes ≤ MOST_BYTES + 1 → status ≡ 5 → IsNone outcome → (count : ℕ) → lines ≡ take count (lines_in bytes)
+    → Gives old new bytes → length bytes ≤ MOST_BYTES + 1 → (status ≡ 5) ⊎ (status ≡ 6) → IsNone outcome → (count : ℕ) → lines ≡ take count (lines_in bytes)
     → Takes before after (served options lines) → Serves options old new before after status outcome
 serves_starved options old new before after bytes status outcome lines gives most is none count first took = record {
   bytes = bytes;
   gives = gives;
   most = most;
-  done = λ s. absurd (omega arith);
-  too_long = λ s. absurd (omega arith);
-  read_fault = λ s. absurd (omega arith);
-  write_fault = λ s. absurd (omega arith);
+  done = λ s. absurd (⊎_elim (λ five. omega (arith, five, s)) (λ six. omega (arith, six, s)) is);
+  too_long = λ s. absurd (⊎_elim (λ five. omega (arith, five, s)) (λ six. omega (arith, six, s)) is);
+  read_fault = λ s. absurd (⊎_elim (λ five. omega (arith, five, s)) (λ six. omega (arith, six, s)) is);
+  write_fault = λ s. absurd (⊎_elim (λ five. omega (arith, five, s)) (λ six. omega (arith, six, s)) is);
   no_memory = λ s. (count, subst (λ (ls : List (List ℕ)). Takes before after (served options ls)) first took);
+  disk_fault = λ s. (count, subst (λ (ls : List (List ℕ)). Takes before after (served options ls)) first took);
   outcome_is = none_if outcome _ none;
-  of_all = λ s. absurd (omega arith);
-  of_whole = λ s. absurd (omega arith);
-  outcome_there = neither status 0 2 (λ s. omega arith) (λ s. omega arith);
+  of_all = λ s. absurd (⊎_elim (λ five. omega (arith, five, s)) (λ six. omega (arith, six, s)) is);
+  of_whole = λ s. absurd (⊎_elim (λ five. omega (arith, five, s)) (λ six. omega (arith, six, s)) is);
+  outcome_there = neither status 0 2 (λ s. ⊎_elim (λ five. omega (arith, five, s)) (λ six. omega (arith, six, s)) is)
+      (λ s. ⊎_elim (λ five. omega (arith, five, s)) (λ six. omega (arith, six, s)) is);
   no_outcome = λ s. none;
 }
 
@@ -96,11 +99,12 @@ serves_cut options old new before after bytes status outcome text gives most is 
   read_fault = λ s. absurd (omega arith);
   write_fault = λ s. (text, told, took);
   no_memory = λ s. absurd (omega arith);
+  disk_fault = λ s. absurd (omega arith);
   outcome_is = comes;
   of_all = λ s. absurd (omega arith);
   of_whole = λ s. absurd (omega arith);
   outcome_there = neither status 0 2 (λ s. omega arith) (λ s. omega arith);
-  no_outcome = neither status 3 5 (λ s. omega arith) (λ s. omega arith);
+  no_outcome = λ s. absurd (⊎_elim (λ three. omega (arith, three)) (λ more. ⊎_elim (λ five. omega (arith, five)) (λ six. omega (arith, six)) more) s);
 }
 
 -- how the end was told: these bytes and what is told of the lines, or memory ran out
@@ -131,12 +135,13 @@ module _ (lawful : OutcomesAreLawful) where
         read_fault = λ s. absurd (omega arith);
         write_fault = λ s. absurd (omega arith);
         no_memory = λ s. absurd (omega arith);
+        disk_fault = λ s. absurd (omega arith);
         outcome_is = subst (λ (o : Option Outcome). IfSome o (λ given. (count : ℕ) × IsOutcomeOf options (take count (lines_in bytes)) given)) (sym comes)
             (comes_to options bytes (lines_in bytes) (length (lines_in bytes)) sized (sym (take-length (lines_in bytes))));
         of_all = λ s. of_all;
         of_whole = λ s. absurd (omega arith);
         outcome_there = λ s. subst (λ (o : Option Outcome). IsSome o) (sym comes) (some_is (outcome_after options (lines_in bytes)));
-        no_outcome = neither status 3 5 (λ s. omega arith) (λ s. omega arith);
+        no_outcome = λ s. absurd (⊎_elim (λ three. omega (arith, three)) (λ more. ⊎_elim (λ five. omega (arith, five)) (λ six. omega (arith, six)) more) s);
       }
 
   -- there were too many bytes
@@ -156,12 +161,13 @@ module _ (lawful : OutcomesAreLawful) where
         read_fault = λ s. absurd (omega arith);
         write_fault = λ s. absurd (omega arith);
         no_memory = λ s. absurd (omega arith);
+        disk_fault = λ s. absurd (omega arith);
         outcome_is = subst (λ (o : Option Outcome). IfSome o (λ given. (count : ℕ) × IsOutcomeOf options (take count (lines_in bytes)) given)) (sym comes)
             (comes_to options bytes (whole_lines_in bytes) (length (whole_lines_in bytes)) sized (whole_lines_first bytes));
         of_all = λ s. absurd (omega arith);
         of_whole = λ s. of_whole;
         outcome_there = λ s. subst (λ (o : Option Outcome). IsSome o) (sym comes) (some_is (outcome_after options (whole_lines_in bytes)));
-        no_outcome = neither status 3 5 (λ s. omega arith) (λ s. omega arith);
+        no_outcome = λ s. absurd (⊎_elim (λ three. omega (arith, three)) (λ more. ⊎_elim (λ five. omega (arith, five)) (λ six. omega (arith, six)) more) s);
       }
 
   -- ---- the end
@@ -173,7 +179,7 @@ module _ (lawful : OutcomesAreLawful) where
       → served options (lines_in bytes) ≡ served options lines → after options (lines_in bytes) ≡ after options lines
       → Takes before mid (served options lines) → Ended options lines [] 0 mid final status outcome → Serves options old new before final status outcome
   end_told options old new before mid final bytes lines status outcome sized gives most all told same took (inl (five, still, none)) =
-      serves_starved options old new before final bytes status outcome (lines_in bytes) gives most five none (length (lines_in bytes))
+      serves_starved options old new before final bytes status outcome (lines_in bytes) gives most (inl five) none (length (lines_in bytes))
       (sym (take-length (lines_in bytes)))
       (subst (Takes before final) (sym told) (subst (λ (a : Option (List ℕ)). Takes before a (served options lines)) (sym still) took))
   end_told options old new before mid final bytes lines status outcome sized gives most all told same took (inr (comes, inl (zero, wrote))) =
@@ -196,7 +202,7 @@ module _ (lawful : OutcomesAreLawful) where
       → Takes before mid (served options lines) → Ended options lines (refusal (Script code.TooLong)) 2 mid final status outcome
       → Serves options old new before final status outcome
   limit_told options old new before mid final bytes lines status outcome sized gives most long_so same took (inl (five, still, none)) =
-      serves_starved options old new before final bytes status outcome lines gives most five none (length (whole_lines_in bytes))
+      serves_starved options old new before final bytes status outcome lines gives most (inl five) none (length (whole_lines_in bytes))
       (same ∙ whole_lines_first bytes)
       (subst (λ (a : Option (List ℕ)). Takes before a (served options lines)) (sym still) took)
   limit_told options old new before mid final bytes lines status outcome sized gives most long_so same took (inr (comes, inl (two, wrote))) =
@@ -298,13 +304,14 @@ ended_by written options lines first done mid after status outcome (inl (five, s
 ended_by written options lines first done mid after status outcome (inr told) = inr told
 
 module _ (law : LinesAreHeard) (lawful : OutcomesAreLawful) (options : Options) (sized : IsSized options) (known : Options) (same : known ≡ options)
-    (old new before : Option (List ℕ)) (server : ServerData) where
+    (old new before : Option (List ℕ)) (logged : List (List ℕ) → Type 0) (server : ServerData) where
   -- the same, of the options that serving was begun with
-  stopped_with : (mid : Option (List ℕ)) (stop : Stop) → HasStopped known old new before mid server stop → HasStopped options old new before mid server stop
-  stopped_with mid stop stopped = subst (λ (o : Options). HasStopped o old new before mid server stop) same stopped
+  stopped_with : (mid : Option (List ℕ)) (stop : Stop) → HasStopped known old new before mid logged server stop
+      → HasStopped options old new before mid logged server stop
+  stopped_with mid stop stopped = subst (λ (o : Options). HasStopped o old new before mid logged server stop) same stopped
 
   module _ {W : Type 0} (written : W → Option (List ℕ)) (mid after : W) (status : ℕ) (outcome : Option Outcome) where
-    pub serve_end : HasStopped known old new before (written mid) server End
+    pub serve_end : HasStopped known old new before (written mid) logged server End
         → ((lines : List (List ℕ)) → Knows lines server → ((status ≡ 5) × (after ≡ mid) × IsNone outcome)
         ⊎ ((outcome ≡ Some (outcome_after server.options lines)) × Writes 0 status (written mid) (written after) ([] ++ closing server.options lines)))
         → Serves options old new before (written after) status outcome
@@ -316,7 +323,7 @@ module _ (law : LinesAreHeard) (lawful : OutcomesAreLawful) (options : Options) 
         (subst (λ (o : Options). Ended o stopped.lines [] 0 (written mid) (written after) status outcome) stopped.options_are
         (ended_by written server.options stopped.lines [] 0 mid after status outcome (ends stopped.lines stopped.knows)))
 
-    pub serve_limit : HasStopped known old new before (written mid) server TooLong
+    pub serve_limit : HasStopped known old new before (written mid) logged server TooLong
         → ((lines : List (List ℕ)) → Knows lines server → ((status ≡ 5) × (after ≡ mid) × IsNone outcome)
         ⊎ ((outcome ≡ Some (outcome_after server.options lines))
         × Writes 2 status (written mid) (written after) (codes "refused E01\n" ++ closing server.options lines)))
@@ -331,21 +338,28 @@ module _ (law : LinesAreHeard) (lawful : OutcomesAreLawful) (options : Options) 
         (ended_by written server.options stopped.lines (codes "refused E01\n") 2 mid after status outcome (ends stopped.lines stopped.knows))))
 
   module _ (mid : Option (List ℕ)) (outcome : Option Outcome) where
-    pub serve_fault : HasStopped known old new before mid server ReadFault → IsNone outcome → (status : ℕ) → status ≡ 3
+    pub serve_fault : HasStopped known old new before mid logged server ReadFault → IsNone outcome → (status : ℕ) → status ≡ 3
         → Serves options old new before mid status outcome
     serve_fault stop none status three =
         let stopped = stopped_with mid ReadFault stop in
         serves_fault options old new before mid stopped.bytes status outcome stopped.gives stopped.most three none
         (subst (λ (ls : List (List ℕ)). Takes before mid (served options ls)) stopped.stops.0 stopped.stops.1)
 
-    pub serve_want : HasStopped known old new before mid server OutOfMemory → IsNone outcome → (status : ℕ) → status ≡ 5
+    pub serve_want : HasStopped known old new before mid logged server OutOfMemory → IsNone outcome → (status : ℕ) → status ≡ 5
         → Serves options old new before mid status outcome
     serve_want stop none status five =
         let stopped = stopped_with mid OutOfMemory stop in
-        serves_starved options old new before mid stopped.bytes status outcome stopped.lines stopped.gives stopped.most five none
+        serves_starved options old new before mid stopped.bytes status outcome stopped.lines stopped.gives stopped.most (inl five) none
         stopped.stops.0.0 stopped.stops.0.1 stopped.stops.1
 
-    pub serve_cut : HasStopped known old new before mid server WriteFault → {E : Type 0} (result : Result Outcome E) → outcome ≡ result_ok result
+    pub serve_lost : HasStopped known old new before mid logged server DiskFault → IsNone outcome → (status : ℕ) → status ≡ 6
+        → Serves options old new before mid status outcome
+    serve_lost stop none status six =
+        let stopped = stopped_with mid DiskFault stop in
+        serves_starved options old new before mid stopped.bytes status outcome stopped.lines stopped.gives stopped.most (inr six) none
+        stopped.stops.0.0 stopped.stops.0.1 stopped.stops.1
+
+    pub serve_cut : HasStopped known old new before mid logged server WriteFault → {E : Type 0} (result : Result Outcome E) → outcome ≡ result_ok result
         → ((lines : List (List ℕ)) → Knows lines server → IfOk result (λ given. given ≡ outcome_after server.options lines))
         → Serves options old new before mid 4 outcome
     serve_cut stop result is comes =

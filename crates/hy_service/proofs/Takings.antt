@@ -26,10 +26,9 @@ use Rattle.hy_session.specs.Latest.{last_of, latest_ending, latest_reply, open_p
 use Rattle.hy_setting.specs.Kinds.{catalog_kinds}
 use Rattle.hy_stepping.specs.Pushed.{AwaitedIsReady, FitsLine, IsTypedLine}
 use Rattle.hy_stepping.specs.Told.{SessionsTell}
-use Rattle.hy_world.specs.Follows.{Follows}
-use Rattle.hy_world.specs.Lines.{Awaits, Grows, HasLine, is_open_at, open_prefix_at, latest_reply_at, latest_ending_at}
+use Rattle.hy_world.specs.Lines.{Awaits, is_open_at, open_prefix_at, latest_reply_at, latest_ending_at}
 use Rattle.hy_world.specs.Worlds.{WorldData, ShowsState, parts_of}
-use Rattle.hy_service.specs.Knowing.{KnowsBy, KnowsSessions, ServerData, Takes, told_of}
+use Rattle.hy_service.specs.Knowing.{HasAnswered, KnowsBy, KnowsSessions, ServerData, Takes, told_of}
 use Rattle.hy_service.specs.Service.{Service, after_turn, is_begin, names_of, setting_of, settled, taken, told_at, told_by, told_in}
 use Rattle.hy_service.specs.Sound.{CanTake}
 
@@ -133,26 +132,18 @@ knows_either false options service number desk left names world knows left_is = 
   },
 )
 
--- what a world came to by the line and its session's turn
-pub record HasAnswered (number : ℕ) (line : SessionLine) (old grown now : WorldData) : Type 0 where
-  pub grows : Grows number line old grown
-  pub grown_kinds : grown.kinds ≡ old.kinds
-  pub follows : Follows (λ setting state. whole_of setting state number) grown now
-  pub now_kinds : now.kinds ≡ grown.kinds
-
-knows_turned : (options : Options) (service : Service) (number : ℕ) (line : SessionLine) (desk : Desk) (names : Names) (old grown now : WorldData)
-    → CanTake options service number line → KnowsSessions options service desk names old → HasAnswered number line old grown now
+knows_turned : (options : Options) (service : Service) (number : ℕ) (line : SessionLine) (desk : Desk) (names : Names) (old now : WorldData)
+    → CanTake options service number line → KnowsSessions options service desk names old → HasAnswered number line old now
     → KnowsBy options (after_turn (pushed (setting_of options service) number line) service number) desk names (Some now)
-knows_turned options service number line desk names old grown now can knows answered =
-    let setting : Setting = setting_of options service in (
-      can.named,
-      record {
-        desk_is = knows.desk_is;
-        names_are = knows.names_are;
-        kinds = answered.now_kinds ∙ answered.grown_kinds ∙ knows.kinds;
-        shows = answered.follows (pushed setting number line) service.state (answered.grows setting service.state knows.shows);
-      },
-    )
+knows_turned options service number line desk names old now can knows answered = (
+  can.named,
+  record {
+    desk_is = knows.desk_is;
+    names_are = knows.names_are;
+    kinds = answered.kinds ∙ knows.kinds;
+    shows = answered.shows (setting_of options service) service.state knows.shows;
+  },
+)
 
 tells_turned : SessionsTell → (options : Options) (service : Service) (number : ℕ) (line : SessionLine) (desk : Desk) (names : Names) (now : WorldData)
     → CanTake options service number line
@@ -165,17 +156,17 @@ tells_turned law options service number line desk names now can knows =
     tells_of law next (whole_of next service.state number) now number knows.1.shows (omega (arith, many, can.all, can.within))
 
 -- a session takes a line
-pub took : SessionsTell → (options : Options) (prunes : Bool) (service : Service) (number : ℕ) (line : SessionLine) (desk left : Desk) (names : Names)
-    (old grown now : WorldData) → CanTake options service number line → KnowsSessions options service desk names old
-    → HasAnswered number line old grown now → left ≡ cond (is_open_at now.sessions number) desk (ended number desk)
+pub took : SessionsTell → (options : Options) (service : Service) (number : ℕ) (line : SessionLine) (desk left : Desk) (names : Names)
+    (old now : WorldData) (server : ServerData) → CanTake options service number line → KnowsSessions options service desk names old
+    → HasAnswered number line old now → left ≡ cond (is_open_at now.sessions number) desk (ended number desk)
     → Takes service number line (fronted (prefix (slice_index_or names.sessions number [])) true (told_of names (is_begin line) now number))
-    (record { options = options; prunes = prunes; desk = left; names = names; world = Some now })
-took law options prunes service number line desk left names old grown now can knows answered left_is =
+    (record server { options = options; desk = left; names = names; world = Some now })
+took law options service number line desk left names old now server can knows answered left_is =
     let next : Setting = pushed (setting_of options service) number line in
     let turned : Service = after_turn next service number in
     let session : Session = session_at turned.state number in
     let so : Bool = is_some session.now in
-    let known = knows_turned options service number line desk names old grown now can knows answered in
+    let known = knows_turned options service number line desk names old now can knows answered in
     let tells = tells_turned law options service number line desk names now can known in
     let front : Names → List ℕ → List ℕ = λ (n : Names) (told : List ℕ). fronted (prefix (slice_index_or n.sessions number [])) true told in
     record {
@@ -188,27 +179,21 @@ took law options prunes service number line desk left names old grown now can kn
 
 -- ---- by the steps of a server
 
--- a line changes no types
-pub kinds_stay : (number : ℕ) (line : SessionLine) (old new : WorldData) → Awaits old number line → HasLine number line old new → new.kinds ≡ old.kinds
-kinds_stay number line old new awaits has = ap (λ (world : WorldData). world.kinds) (has awaits.session awaits.found)
-
 -- where the desk was settled, and the answer told, the server has taken the line
 pub takes_line : SessionsTell → (options : Options) (service : Service) (number : ℕ) (line : SessionLine) (server after : ServerData)
-    (old grown now : WorldData)
-    (begins : Bool) (told : List ℕ) → CanTake options service number line → KnowsSessions options service server.desk server.names old
-    → HasAnswered number line old grown now → server.options ≡ options
-    → after ≡ record server { desk = cond (is_open_at now.sessions number) server.desk (ended number server.desk) } → begins ≡ is_begin line
+    (old now : WorldData) (begins : Bool) (told : List ℕ) → CanTake options service number line
+    → KnowsSessions options service server.desk server.names old → HasAnswered number line old now
+    → after.options ≡ options → after.names ≡ server.names
+    → after.desk ≡ cond (is_open_at now.sessions number) server.desk (ended number server.desk) → begins ≡ is_begin line
     → told ≡ fronted (prefix (slice_index_or after.names.sessions number [])) true (told_of after.names begins now number)
     → Takes service number line told (record after { world = Some now })
-takes_line law options service number line server after old grown now begins told can knows answered same settled_is begins_is told_is =
-    let left : Desk = cond (is_open_at now.sessions number) server.desk (ended number server.desk) in
+takes_line law options service number line server after old now begins told can knows answered same names desk begins_is told_is =
     let text : Names → Bool → List ℕ =
     λ (names : Names) (is : Bool). fronted (prefix (slice_index_or names.sessions number [])) true (told_of names is now number) in
-    let takes = took law options server.prunes service number line server.desk left server.names old grown now can knows answered refl in
-    let here : Takes service number line (text server.names (is_begin line)) (record server { desk = left; world = Some now }) =
-    subst (λ (o : Options). Takes service number line (text server.names (is_begin line))
-    (record { options = o; prunes = server.prunes; desk = left; names = server.names; world = Some now })) (sym same) takes in
     let words : told ≡ text server.names (is_begin line) =
-    told_is ∙ ap (λ (s : ServerData). text s.names begins) settled_is ∙ ap (text server.names) begins_is in
-    subst (λ (s : ServerData). Takes service number line told (record s { world = Some now })) (sym settled_is)
-    (subst (λ (t : List ℕ). Takes service number line t (record server { desk = left; world = Some now })) (sym words) here)
+    told_is ∙ ap (λ (n : Names). text n begins) names ∙ ap (text server.names) begins_is in
+    let takes = took law options service number line server.desk after.desk server.names old now after can knows answered desk in
+    let here : Takes service number line told (record after { options = options; names = server.names; world = Some now }) =
+    subst (λ (t : List ℕ). Takes service number line t (record after { options = options; names = server.names; world = Some now })) (sym words) takes in
+    subst (λ (n : Names). Takes service number line told (record after { names = n; world = Some now })) (sym names)
+    (subst (λ (o : Options). Takes service number line told (record after { options = o; names = server.names; world = Some now })) (sym same) here)

@@ -1,10 +1,12 @@
 -- What contracts see of a server, and which service it knows.
 use Rattle.std.specs.Prelude.{◌≡◌, ℕ, Bool, true, false, List, [], ◌∷◌, ◌++◌, Option, Some, None, map, refl}
-use Rattle.std.specs.Coded.{Coded, code_by, coded×, coded_bool, coded_option}
+use Rattle.std.specs.Coded.{Coded, code_by, coded×, coded_ℕ, coded_bool, coded_option}
 use Rattle.hy_event.specs.declared.lines.SessionLine.{SessionLine}
-use Rattle.hy_growing.specs.Growing.{open_before, whole_item}
+use Rattle.hy_growing.specs.Growing.{open_before, pushed, whole_item}
 use Rattle.hy_limits.specs.declared.TheConstants.{MOST_SESSIONS}
-use Rattle.hy_machine.specs.Runs.{items_of}
+use Rattle.hy_machine.specs.declared.Setting.{Setting}
+use Rattle.hy_machine.specs.States.{State}
+use Rattle.hy_machine.specs.Runs.{items_of, whole_of}
 use Rattle.hy_script.specs.declared.Options.{Options}
 use Rattle.hy_script.specs.contracts.Options as options_data
 use Rattle.hy_render.specs.declared.Names.{Names}
@@ -15,26 +17,31 @@ use Rattle.hy_serving.specs.Saying.{fresh, saying, without_rows}
 use Rattle.hy_setting.specs.Kinds.{catalog_kinds}
 use Rattle.hy_world.specs.Lines.{open_prefix_at, latest_reply_at, latest_ending_at}
 use Rattle.hy_world.specs.Worlds.{WorldData, ShowsState, world_code}
-use Rattle.hy_service.specs.Sound.{has_sessions}
-use Rattle.hy_service.specs.Service.{IsSized, Service, after, answer, ends, is_ended_by, names_of, dropped_lines, setting_of, taken, told_at, told_by, is_begin}
+use Rattle.hy_service.specs.declared.Next.{Next}
+use Rattle.hy_service.specs.declared.Next.TheVariants as nexts
+use Rattle.hy_service.specs.Sound.{CanTake, has_sessions}
+use Rattle.hy_service.specs.Service.{IsSized, Service, after, answer, ends, is_begin, is_ended_by, names_of, noted, dropped_lines, session_line, setting_of, taken, told_at, told_by}
 
--- a server's options, desk and world
+-- a server's options, desk and world, and where it keeps a log the offset of its closed gate
 pub record ServerData : Type 0 where
   pub options : Options
   pub prunes : Bool
   pub desk : Desk
   pub names : Names
   pub world : Option WorldData
+  pub log : Option ℕ
 
 abbrev pub server_code : Coded ServerData
 server_code =
-    code_by (Options × (Bool × (Desk × (Names × Option WorldData))))
-    (coded× options_data.the_row.coded (coded× coded_bool (coded× desk_data.the_row.coded (coded× names_data.the_row.coded (coded_option world_code)))))
-    (λ s. (s.options, (s.prunes, (s.desk, (s.names, s.world)))))
-    (λ p. record { options = p.0; prunes = p.1.0; desk = p.1.1.0; names = p.1.1.1.0; world = p.1.1.1.1 }) (λ _. refl)
+    code_by (Options × (Bool × (Desk × (Names × (Option WorldData × Option ℕ)))))
+    (coded× options_data.the_row.coded (coded× coded_bool (coded× desk_data.the_row.coded (coded× names_data.the_row.coded
+    (coded× (coded_option world_code) (coded_option coded_ℕ))))))
+    (λ s. (s.options, (s.prunes, (s.desk, (s.names, (s.world, s.log))))))
+    (λ p. record { options = p.0; prunes = p.1.0; desk = p.1.1.0; names = p.1.1.1.0; world = p.1.1.1.1.0; log = p.1.1.1.1.1 }) (λ _. refl)
 
-abbrev pub fresh_server : Options → Bool → ServerData
-fresh_server options prunes = record { options = options; prunes = prunes; desk = fresh; names = record { tables = []; sessions = [] }; world = None }
+abbrev pub fresh_server : Options → Bool → Option ℕ → ServerData
+fresh_server options prunes log =
+    record { options = options; prunes = prunes; desk = fresh; names = record { tables = []; sessions = [] }; world = None; log = log }
 
 -- Before the first line of a session all is on the desk.
 pub record KnowsDefinitions (service : Service) (desk : Desk) (names : Names) : Type 0 where
@@ -69,6 +76,12 @@ abbrev pub listed : Option (List ℕ) → List (List ℕ)
 listed None = []
 listed (Some name) = name ∷ []
 
+-- A session of a world took a line, and its turn up to the answer.
+pub record HasAnswered (number : ℕ) (line : SessionLine) (old new : WorldData) : Type 0 where
+  pub kinds : new.kinds ≡ old.kinds
+  pub shows : (setting : Setting) (state : State) → ShowsState setting state old
+      → ShowsState (pushed setting number line) (whole_of (pushed setting number line) state number) new
+
 -- A server takes a line of a session: what is told is what the session is told, and then the server knows the service after it.
 pub record Takes (service : Service) (number : ℕ) (line : SessionLine) (told : List ℕ) (server : ServerData) : Type 0 where
   pub told_is : told ≡ told_at (taken server.options service (Some (number, line))) number (is_begin line)
@@ -86,3 +99,21 @@ Hears lines line old new None =
     (ends (saying old.options (after old.options lines).desk line) ≡ true) × Knows lines new
 Hears lines line old new (Some told) =
     (told ≡ answer old.options (after old.options lines) line) × Knows (lines ++ line ∷ []) new
+
+-- a line's text alone gave this answer
+abbrev pub IsAnswer : List ℕ → Next → Type 0
+IsAnswer text nexts.End = ⊥
+IsAnswer text (nexts.Answer told) = told.items ≡ text
+IsAnswer text (nexts.Turn number told) = ⊥
+
+-- After these lines one was noted that this session is to take.
+pub record IsToTake (lines : List (List ℕ)) (line : List ℕ) (old new : ServerData) (number : ℕ) (told : SessionLine) : Type 0 where
+  pub says : session_line (saying old.options (after old.options lines).desk line) ≡ Some (number, told)
+  pub can : CanTake old.options (noted old.options (after old.options lines) line) number told
+  pub knows : KnowsBy old.options (noted old.options (after old.options lines) line) new.desk new.names new.world
+
+-- so it is with what was noted of a line
+abbrev pub HasNoted : List (List ℕ) → List ℕ → ServerData → ServerData → Next → Type 0
+HasNoted lines line old new nexts.End = Hears lines line old new None
+HasNoted lines line old new (nexts.Answer told) = Hears lines line old new (Some told.items)
+HasNoted lines line old new (nexts.Turn number told) = IsToTake lines line old new number told

@@ -5,6 +5,9 @@ use Rattle.hy_lawful.specs.Lawful.{Lawful}
 use Rattle.hy_lawful.specs.Serial.{IsSerial}
 use Rattle.hy_script.specs.declared.Options.{Options}
 use Rattle.hy_serving.specs.Saying.{saying}
+use Rattle.hy_redo.specs.Logs.{IsLogOf}
+use Rattle.hy_service.specs.Knowing.{Knows, ServerData}
+use Rattle.hy_service.specs.Logging.{CanLog, IsWholeLogAt, entries_in}
 use Rattle.hy_service.specs.Serves.{IsOutcomeOf}
 use Rattle.hy_service.specs.Service.{IsSized, Service, after, answers, answer, ends, has_end, heard, heard_all, noted, opening, outcome_after, session_line}
 use Rattle.hy_service.specs.Sound.{CanTake, IsSound}
@@ -34,6 +37,10 @@ TakingStaysSound = (options : Options) (service : Service) (line : List ℕ) (nu
 abbrev pub ServicesAreSound : Type 0
 ServicesAreSound = (options : Options) (lines : List (List ℕ)) → IsSized options → IsSound options (after options lines)
 
+-- and each can be kept in a log: its values are of the types of the tables' columns, and its texts are UTF-8
+abbrev pub ServicesCanBeLogged : Type 0
+ServicesCanBeLogged = (options : Options) (lines : List (List ℕ)) → IsSized options → CanLog options (after options lines)
+
 -- ---- lines, one after another
 
 -- where there is no END among some lines, the others are heard after them
@@ -50,3 +57,9 @@ pub record LinesAreHeard : Type 0 where
 -- what lines come to is lawful, and serializable in its order
 abbrev pub OutcomesAreLawful : Type 0
 OutcomesAreLawful = (options : Options) (lines : List (List ℕ)) → IsSized options → IsOutcomeOf options lines (outcome_after options lines)
+
+-- where a server knows these lines, the log of its entries is that of the outcome's commit order, and recovers to its tables
+abbrev pub LogsTellOutcomes : Type 0
+LogsTellOutcomes = (lines : List (List ℕ)) (server : ServerData) (gate : ℕ) (bytes : List ℕ) → Knows lines server
+    → IsLogOf (entries_in server.world) gate bytes
+    → IsWholeLogAt server.options (after server.options lines) (outcome_after server.options lines) bytes

@@ -9,10 +9,12 @@ use Rattle.hy_service.specs.Knowing.{Hears, Knows, ServerData}
 use Rattle.hy_service.specs.Serves.{IsTooLong, IsWhole}
 use Rattle.hy_service.specs.Service.{after, answer, served}
 use Rattle.hy_service.specs.declared.serving.Stop.{Stop}
-use Rattle.hy_service.specs.declared.serving.Stop.TheVariants.{End, TooLong, ReadFault, WriteFault, OutOfMemory}
+use Rattle.hy_service.specs.declared.serving.Stop.TheVariants.{End, TooLong, ReadFault, WriteFault, DiskFault, OutOfMemory}
 
--- By calls, one after another, bytes were taken of a source and lines given; each was answered, and the server knows them.
-pub record HasServed (options : Options) (old new before after : Option (List ℕ)) (reading : Reading) (server : ServerData) : Type 0 where
+-- By calls, one after another, bytes were taken of a source and lines given; each was answered, and the server knows them, of which this
+-- was logged.
+pub record HasServed (options : Options) (old new before after : Option (List ℕ)) (logged : List (List ℕ) → Type 0) (reading : Reading)
+    (server : ServerData) : Type 0 where
   pub bytes : List ℕ
   pub lines : List (List ℕ)
   pub given : HasGiven old new reading bytes lines
@@ -20,6 +22,7 @@ pub record HasServed (options : Options) (old new before after : Option (List �
   pub told : Takes before after (served options lines)
   pub options_are : server.options ≡ options
   pub knows : Knows lines server
+  pub logs : logged lines
 
 -- Of these bytes these are the first lines, all of them whole where the source did not give all that it had.
 pub record AreFirst (old new : Option (List ℕ)) (bytes : List ℕ) (lines : List (List ℕ)) : Type 0 where
@@ -34,26 +37,37 @@ IsStop options old new before now bytes lines End =
 IsStop options old new before now bytes lines TooLong = IsTooLong options bytes × (lines ≡ whole_lines_in bytes) × Takes before now (served options lines)
 IsStop options old new before now bytes lines ReadFault = (lines ≡ whole_lines_in bytes) × Takes before now (served options lines)
 IsStop options old new before now bytes lines WriteFault = AreFirst old new bytes lines × TakesSome before now (served options lines)
+IsStop options old new before now bytes lines DiskFault =
+    ((count : ℕ) × (lines ≡ take count (lines_in bytes))) × Takes before now (served options lines)
 IsStop options old new before now bytes lines OutOfMemory =
     ((count : ℕ) × (lines ≡ take count (lines_in bytes))) × Takes before now (served options lines)
 
--- where memory ran out it may know no line
-abbrev pub KnowsUnless : List (List ℕ) → ServerData → Stop → Type 0
-KnowsUnless lines server OutOfMemory = Unit {0}
-KnowsUnless lines server End = Knows lines server
-KnowsUnless lines server TooLong = Knows lines server
-KnowsUnless lines server ReadFault = Knows lines server
-KnowsUnless lines server WriteFault = Knows lines server
+-- this holds, unless a session's turn may have broken off
+abbrev pub UnlessCut : Stop → Type 0 → Type 0
+UnlessCut End holds = holds
+UnlessCut TooLong holds = holds
+UnlessCut ReadFault holds = holds
+UnlessCut WriteFault holds = holds
+UnlessCut DiskFault holds = Unit {0}
+UnlessCut OutOfMemory holds = Unit {0}
 
--- no further line is heard
-pub record HasStopped (options : Options) (old new before after : Option (List ℕ)) (server : ServerData) (stop : Stop) : Type 0 where
+abbrev pub UnlessStopped : Option Stop → Type 0 → Type 0
+UnlessStopped None holds = holds
+UnlessStopped (Some stop) holds = UnlessCut stop holds
+
+-- no further line is heard. The log is of the first lines, with the one too at which it stopped.
+pub record HasStopped (options : Options) (old new before after : Option (List ℕ)) (logged : List (List ℕ) → Type 0) (server : ServerData)
+    (stop : Stop) : Type 0 where
   pub bytes : List ℕ
   pub lines : List (List ℕ)
   pub gives : Gives old new bytes
   pub most : length bytes ≤ MOST_BYTES + 1
   pub stops : IsStop options old new before after bytes lines stop
   pub options_are : server.options ≡ options
-  pub knows : KnowsUnless lines server stop
+  pub knows : UnlessCut stop (Knows lines server)
+  pub heard : List (List ℕ)
+  pub first : (count : ℕ) × (heard ≡ take count (lines_in bytes))
+  pub logs : logged heard
 
 -- a line that is heard after these is answered to a sink, or no further one is heard
 abbrev pub Answers : List (List ℕ) → List ℕ → ServerData → ServerData → Option (List ℕ) → Option (List ℕ) → Option Stop → Type 0
@@ -62,11 +76,13 @@ Answers lines line old new before now None = Hears lines line old new (Some (ans
 Answers lines line old new before now (Some End) = Hears lines line old new None × Takes before now []
 Answers lines line old new before now (Some WriteFault) = Hears lines line old new (Some (answer old.options (after old.options lines) line))
     × TakesSome before now (answer old.options (after old.options lines) line)
+Answers lines line old new before now (Some DiskFault) = Takes before now []
 Answers lines line old new before now (Some OutOfMemory) = Takes before now []
 Answers lines line old new before now (Some TooLong) = ⊥
 Answers lines line old new before now (Some ReadFault) = ⊥
 
 -- what became of a line, if there was one
-abbrev pub GoesOn : Options → Option (List ℕ) → Option (List ℕ) → Option (List ℕ) → Option (List ℕ) → Reading → ServerData → Option Stop → Type 0
-GoesOn options old new before after reading server None = HasServed options old new before after reading server
-GoesOn options old new before after reading server (Some stop) = HasStopped options old new before after server stop
+abbrev pub GoesOn : Options → Option (List ℕ) → Option (List ℕ) → Option (List ℕ) → Option (List ℕ) → (List (List ℕ) → Type 0) → Reading → ServerData
+    → Option Stop → Type 0
+GoesOn options old new before after logged reading server None = HasServed options old new before after logged reading server
+GoesOn options old new before after logged reading server (Some stop) = HasStopped options old new before after logged server stop

@@ -57,9 +57,11 @@ pub record Serves (options : Options) (old new before after : Option (List ℕ))
   pub write_fault : status ≡ 4 → (text : List ℕ) × IsTold options old new bytes text × TakesSome before after text
   -- memory ran out: the first lines are answered, each whole
   pub no_memory : status ≡ 5 → (count : ℕ) × Takes before after (served options (take count (lines_in bytes)))
+  -- so they are where the disk of the log failed
+  pub disk_fault : status ≡ 6 → (count : ℕ) × Takes before after (served options (take count (lines_in bytes)))
   -- where there is an outcome, it is that of all lines, or where a write failed of those before it
   pub outcome_is : IfSome outcome (λ given. (count : ℕ) × IsOutcomeOf options (take count (lines_in bytes)) given)
   pub of_all : status ≡ 0 → IfSome outcome (λ given. IsOutcomeOf options (lines_in bytes) given)
   pub of_whole : status ≡ 2 → IfSome outcome (λ given. IsOutcomeOf options (whole_lines_in bytes) given)
   pub outcome_there : (status ≡ 0) ⊎ (status ≡ 2) → IsSome outcome
-  pub no_outcome : (status ≡ 3) ⊎ (status ≡ 5) → IsNone outcome
+  pub no_outcome : (status ≡ 3) ⊎ ((status ≡ 5) ⊎ (status ≡ 6)) → IsNone outcome

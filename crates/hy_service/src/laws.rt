@@ -2,11 +2,11 @@
 //! is lawful.
 
 ghost use Rattle.hy_service.specs.Laws.{OpeningsAreSound, DefinitionsStaySound, LinesCanBeTaken, TakingStaysSound, ServicesAreSound};
-ghost use Rattle.hy_service.specs.Laws.{LinesAreHeard, OutcomesAreLawful};
+ghost use Rattle.hy_service.specs.Laws.{LinesAreHeard, OutcomesAreLawful, ServicesCanBeLogged, LogsTellOutcomes};
 
 use hy_growing::{lines_are_answered, lines_go_on, sessions_stay_between_lines};
 use hy_serving::{what_lines_come_to_fits, what_lines_say_suits};
-use hy_setting::what_is_bound_is_typed;
+use hy_setting::{what_is_bound_is_typed, what_is_parsed_is_utf8};
 use hy_stepping::lines_are_shown;
 
 /// Before the first line a service is sound.
@@ -68,4 +68,23 @@ pub(crate) fn outcomes_are_lawful()
 {
     services_are_sound();
     hy_lawful::runs_are_lawful();
+}
+
+/// Each service that lines lead to can be kept in a log.
+pub(crate) fn services_can_be_logged()
+    ensures { ServicesCanBeLogged }
+{
+    services_are_sound();
+    what_is_parsed_is_utf8();
+}
+
+/// The log of what a server has entered is that of the commit order which its lines come to, and recovers to the tables.
+pub(crate) fn logs_tell_outcomes()
+    ensures { LogsTellOutcomes }
+{
+    services_are_sound();
+    services_can_be_logged();
+    hy_growing::open_ones_are_dropped();
+    hy_world::logs_tell_orders();
+    hy_redo::crashes_recover();
 }

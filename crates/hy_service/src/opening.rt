@@ -1,9 +1,10 @@
 //! The world that is opened at the first line of a session.
 
-ghost use Rattle.std.specs.Prelude.{◌≡◌, IfNone, IfOk, IsNone, OnOk, map};
+ghost use Rattle.std.specs.Prelude.{◌≡◌, [], IfNone, IfOk, IsNone, OnOk, map};
 ghost use Rattle.hy_bind.specs.Shapes.{catalog_shapes};
 ghost use Rattle.hy_machine.specs.Runs.{opening_of};
 ghost use Rattle.hy_service.specs.Knowing.{KnowsBy, KnowsSessions};
+ghost use Rattle.hy_service.specs.Logging.{entries_in};
 ghost use Rattle.hy_service.specs.Service.{Service, no_programs, setting_with};
 ghost use Rattle.hy_service.specs.Sound.{IsUnused};
 ghost use Rattle.hy_serving.specs.Saying.{first_rows, without_rows};
@@ -41,11 +42,13 @@ impl Server {
         ensures shows { IfOk result (λ world. ShowsState (setting_with self.old.options self.old.desk no_programs)
             (opening_of (setting_with self.old.options self.old.desk no_programs)) world) }
         ensures kinds { IfOk result (λ world. world.kinds ≡ catalog_kinds self.old.desk.sofar.catalog) }
+        ensures entries { IfOk result (λ world. world.core.entries ≡ []) }
         ensures opened { OnOk result (self.new ≡ record self.old {
           desk = without_rows self.old.desk;
           names = record self.old.names { tables = map (λ table. table.name) self.old.desk.sofar.catalog };
         }) }
-        ensures same { (self.new.options ≡ self.old.options) × (self.new.prunes ≡ self.old.prunes) × (self.new.world ≡ self.old.world) }
+        ensures same { (self.new.options ≡ self.old.options) × (self.new.prunes ≡ self.old.prunes) × (self.new.world ≡ self.old.world)
+            × (self.new.log ≡ self.old.log) }
     {
         let tables = self.desk.sofar.catalog.tables();
         let shapes = shapes_of(alloc, tables)?;
@@ -70,8 +73,9 @@ impl Server {
         ensures knows { (service : Service) → IsUnused self.old.options service
             → KnowsBy self.old.options service self.old.desk self.old.names self.old.world
             → IfOk result (λ world. KnowsSessions self.old.options service self.new.desk self.new.names world) }
+        ensures entries { IfOk result (λ world. world.core.entries ≡ entries_in self.old.world) }
         ensures none { IsNone self.new.world }
-        ensures same { (self.new.options ≡ self.old.options) × (self.new.prunes ≡ self.old.prunes) }
+        ensures same { (self.new.options ≡ self.old.options) × (self.new.prunes ≡ self.old.prunes) × (self.new.log ≡ self.old.log) }
     {
         match self.world.take() {
             Some(world) => Ok(world),

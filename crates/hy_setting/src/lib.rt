@@ -1,13 +1,15 @@
 //! What the engine is given of tables that are defined: their shapes, the types of their columns, and their names. What is bound
-//! over them is of these types.
+//! over them is of these types, and its texts are UTF-8.
 #![tactic(auto)]
 
 ghost use Rattle.std.specs.Prelude.{◌≡◌, ◌++◌, IfOk, map, drop};
 ghost use Rattle.hy_bind.specs.Shapes.{defined_shape, catalog_shapes};
 ghost use Rattle.hy_setting.specs.Kinds.{catalog_kinds};
+ghost use Rattle.hy_setting.specs.Texts.{PiecesAreTokens, WhatIsParsedIsUtf8};
 ghost use Rattle.hy_setting.specs.Typing.{WhatIsBoundIsTyped};
 
 use hy_bound::{Shape, Shapes};
+use hy_parse::scripts_are_parsed;
 use hy_schema::{Column, TableDef};
 use hy_value::{Kind, Seq, Text};
 use std::alloc::{AllocError, Global};
@@ -73,3 +75,16 @@ pub fn table_names(alloc: Global, tables: &[TableDef]) -> Result<Seq<Text>, Allo
 pub fn what_is_bound_is_typed()
     ensures { WhatIsBoundIsTyped }
 {}
+
+/// A law: the pieces of a statement are tokens of its script.
+pub fn pieces_are_tokens()
+    ensures { PiecesAreTokens }
+{}
+
+/// A law: the texts that a statement writes are UTF-8, where the script is.
+pub fn what_is_parsed_is_utf8()
+    ensures { WhatIsParsedIsUtf8 }
+{
+    pieces_are_tokens();
+    scripts_are_parsed();
+}

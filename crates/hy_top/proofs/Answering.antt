@@ -175,7 +175,7 @@ few_of : (command : Command) → IsWithin command → AreFew (options_by command
 few_of (Run threads prune log chunks rows) within = record { some_chunk = within.0; few_chunks = within.1; some_row = within.2; few_rows = within.3 }
 few_of (Check chunks rows) within = record { some_chunk = within.0; few_chunks = within.1; some_row = within.2; few_rows = within.3 }
 few_of (Recover chunks rows) within = record { some_chunk = within.0; few_chunks = within.1; some_row = within.2; few_rows = within.3 }
-few_of (Serve chunks rows) within = record { some_chunk = within.0; few_chunks = within.1; some_row = within.2; few_rows = within.3 }
+few_of (Serve log chunks rows) within = record { some_chunk = within.0; few_chunks = within.1; some_row = within.2; few_rows = within.3 }
 few_of (Gen seed sessions txns threads) within = record { some_chunk = omega arith; few_chunks = omega arith; some_row = omega arith; few_rows = omega arith }
 
 few_runnable : (script : Script) → AreFew script.options
@@ -271,7 +271,7 @@ did_otherwise (Check chunks rows) script found status given before after done =
     done_otherwise 0 status before after _ (λ two. omega (arith, two)) done.writes
 did_otherwise (Recover chunks rows) script found status given before after done =
     done_otherwise (restored_status done.restored) status before after _ (restored_otherwise done.restored) done.writes
-did_otherwise (Serve chunks rows) script found status given before after never = absurd never
+did_otherwise (Serve log chunks rows) script found status given before after never = absurd never
 
 pub done_is_no_refusal : (command : Command) (script : Script) (found : Option (List ℕ)) (status : ℕ) (given : Option Outcome)
     (before after : Option (List ℕ)) → (GaveUp status × IsNone given) ⊎ Does command script found status given before after → IsNoRefusal status
@@ -299,7 +299,7 @@ done_answers (Check chunks rows) bytes found script status given before after on
 done_answers (Recover chunks rows) bytes found script status given before after once law fit s (inr done) =
     quiet_answers (Recover chunks rows) bytes found script status given before after once s done.nothing_is_run
     (did_otherwise (Recover chunks rows) script found status given before after done) (inr done)
-done_answers (Serve chunks rows) bytes found script status given before after once law fit s (inr never) = absurd never
+done_answers (Serve log chunks rows) bytes found script status given before after once law fit s (inr never) = absurd never
 
 whole_is_read : (all : List ℕ) → length all ≤ MOST_BYTES → bytes_read all ≡ all
 whole_is_read all h = take_all (MOST_BYTES + 1) all (omega arith)

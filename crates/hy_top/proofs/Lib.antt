@@ -3,7 +3,6 @@ pub mod Logging
 pub mod ServingCalls
 pub mod NameWords
 pub mod NamedScripts
-pub mod QuotedTexts
 pub mod Texts
 pub mod Telling
 pub mod ReadTypes

@@ -168,6 +168,11 @@ pub same_syncs : {D : Type 0} (held : D → Option (List ℕ)) (clock : D → �
 same_syncs held clock image image_since disk =
     record { later = le_refl (clock disk); images = λ bytes left. left; moments = λ time bytes le left. inl left }
 
+pub still_syncs : {D : Type 0} (held : D → Option (List ℕ)) (clock : D → ℕ) (image : D → List ℕ → Type 0) (image_since : D → ℕ → List ℕ → Type 0)
+    (old new : D) → new ≡ old → Syncs held clock image image_since old new
+still_syncs {D} held clock image image_since old new same =
+    subst (λ (disk : D). Syncs held clock image image_since old disk) (sym same) (same_syncs held clock image image_since old)
+
 pub asked_syncs : {D : Type 0} (held : D → Option (List ℕ)) (clock : D → ℕ) (image : D → List ℕ → Type 0) (image_since : D → ℕ → List ℕ → Type 0)
     (asked : Option Command) (disk : D) → IfSome asked (λ command. keeps_log command ≡ false → Syncs held clock image image_since disk disk)
 asked_syncs held clock image image_since None disk = tt

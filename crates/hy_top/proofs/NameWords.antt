@@ -21,8 +21,8 @@ use Rattle.hy_ast.specs.declared.ColumnDef.{ColumnDef}
 use Rattle.hy_ast.specs.Trees as tree
 use Rattle.hy_parse.specs.declared.Piece.{Piece}
 use Rattle.hy_parse.specs.Grammar.{Match, marks}
-use Rattle.hy_parse.specs.Pieces.{ended, continued, pieces_within, pieces_of, most_pieces}
 use Rattle.hy_bind.specs.Literals.{text_of_span}
+use Rattle.hy_setting.specs.Texts.{IsToken}
 use Rattle.hy_top.specs.Naming.{IsWord}
 
 -- ---- a token that is a name is a word
@@ -103,32 +103,6 @@ token_is_word bytes at span e =
     let found = placed_is_word (at + space) (drop space rest) (first_token (drop space rest)) span refl e in
     let behind : drop space rest ≡ drop span.start bytes = drop-drop space at bytes ∙ ap (λ (n : ℕ). drop n bytes) (sym found.0) in
     subst (λ (rest : List ℕ). IsWord (take (span.end - span.start) rest)) behind found.1
-
--- ---- the pieces of a statement are tokens of the script
-
-abbrev pub IsToken : List ℕ → Piece → Type 0
-IsToken bytes piece = (at : ℕ) × (token_at bytes at ≡ Ok (piece.token, piece.span))
-
-none_ended : (bytes : List ℕ) (found : Result (Token × Span) Bad) → AllByRecursion (IsToken bytes) (ended found).pieces
-none_ended bytes (Ok found) = tt
-none_ended bytes (Err bad) = tt
-
-tokens_within : (most : ℕ) (bytes : List ℕ) (at : ℕ) → AllByRecursion (IsToken bytes) (pieces_within most bytes at).pieces
-unfolding pieces_within
-tokens_within zero bytes at = none_ended bytes (token_at bytes at)
-tokens_within (suc most) bytes at = by_found (token_at bytes at) refl (tokens_within most bytes)
-  where
-    by_found : (found : Result (Token × Span) Bad) → token_at bytes at ≡ found
-        → ((next : ℕ) → AllByRecursion (IsToken bytes) (pieces_within most bytes next).pieces)
-        → AllByRecursion (IsToken bytes) (continued found (λ next. pieces_within most bytes next)).pieces
-    by_found (Ok (token.Sign Semicolon, span)) e more = ((at, e), tt)
-    by_found (Ok (token.End, span)) e more = tt
-    by_found (Ok (t, span)) e more = ((at, e), more span.end)
-    by_found (Err bad) e more = tt
-
--- the pieces of a statement are
-pub pieces_are_tokens : (bytes : List ℕ) (at : ℕ) → AllByRecursion (IsToken bytes) (pieces_of bytes at).pieces
-pieces_are_tokens bytes at = tokens_within (most_pieces (length bytes) (token_at bytes at)) bytes at
 
 -- ---- the names of tables and sessions
 

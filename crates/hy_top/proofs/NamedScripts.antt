@@ -33,8 +33,9 @@ use Rattle.hy_script.specs.declared.codes.Code.{Code}
 use Rattle.hy_script.specs.Codes.{rank, first_of_two, code_if_so}
 use Rattle.hy_script.specs.Refusals.{name_in, refusal_in, create_code, session_code}
 use Rattle.hy_script.specs.Sentences.{SpellsFrom, NoneIsRefused, after_all, IsAccepted}
+use Rattle.hy_setting.specs.Texts.{PiecesAreTokens}
 use Rattle.hy_top.specs.Naming.{IsWord, AreNames, session_names, IsNamed}
-use Rattle.hy_top.proofs.NameWords.{pieces_are_tokens, table_is_word, session_is_word}
+use Rattle.hy_top.proofs.NameWords.{table_is_word, session_is_word}
 
 -- ---- names
 
@@ -195,24 +196,24 @@ insert_named script sofar (Between session) s table values so = row_named script
 insert_named script sofar (Within session txn) s table values so = statement_named script sofar s so
 insert_named script sofar Scheduled s table values so = row_named script sofar table values so
 
-kept : (script : List ℕ) (options : Options) (at end : ℕ) (sofar : SoFar) (s : Statement) → Parses script at s end → refusal_in script options sofar s ≡ None
+kept : PiecesAreTokens → (script : List ℕ) (options : Options) (at end : ℕ) (sofar : SoFar) (s : Statement) → Parses script at s end → refusal_in script options sofar s ≡ None
     → NamedSoFar sofar → NamedSoFar (after script sofar s)
-kept script options at end sofar (tree.Create table columns) parses h so =
-    table_named script sofar table columns h (table_is_word script _ table columns parses.written.matches (pieces_are_tokens script at)) so
-kept script options at end sofar (tree.Insert table values) parses h so = insert_named script sofar sofar.section (tree.Insert table values) table values so
-kept script options at end sofar (tree.Session name) parses h so =
-    session_named script sofar name h (session_is_word script _ name parses.written.matches (pieces_are_tokens script at)) so
-kept script options at end sofar (tree.Begin only) parses h so = at_section sofar (begun only sofar.section) (begun_same sofar.sessions only sofar.section) so
-kept script options at end sofar tree.Commit parses h so = at_section sofar (closed true sofar.section) (closed_same sofar.sessions true sofar.section) so
-kept script options at end sofar tree.Rollback parses h so = at_section sofar (closed false sofar.section) (closed_same sofar.sessions false sofar.section) so
-kept script options at end sofar (tree.Savepoint name) parses h so = statement_named script sofar (tree.Savepoint name) so
-kept script options at end sofar (tree.RollbackTo name) parses h so = statement_named script sofar (tree.RollbackTo name) so
-kept script options at end sofar (tree.Release name) parses h so = statement_named script sofar (tree.Release name) so
-kept script options at end sofar (tree.Select selection) parses h so = statement_named script sofar (tree.Select selection) so
-kept script options at end sofar (tree.Update table sets test) parses h so = statement_named script sofar (tree.Update table sets test) so
-kept script options at end sofar (tree.Delete table test) parses h so = statement_named script sofar (tree.Delete table test) so
-kept script options at end sofar (tree.Schedule turns) parses h so = schedule_named script sofar turns so
-kept script options at end sofar tree.End parses h so = so
+kept tokens script options at end sofar (tree.Create table columns) parses h so =
+    table_named script sofar table columns h (table_is_word script _ table columns parses.written.matches (tokens script at)) so
+kept tokens script options at end sofar (tree.Insert table values) parses h so = insert_named script sofar sofar.section (tree.Insert table values) table values so
+kept tokens script options at end sofar (tree.Session name) parses h so =
+    session_named script sofar name h (session_is_word script _ name parses.written.matches (tokens script at)) so
+kept tokens script options at end sofar (tree.Begin only) parses h so = at_section sofar (begun only sofar.section) (begun_same sofar.sessions only sofar.section) so
+kept tokens script options at end sofar tree.Commit parses h so = at_section sofar (closed true sofar.section) (closed_same sofar.sessions true sofar.section) so
+kept tokens script options at end sofar tree.Rollback parses h so = at_section sofar (closed false sofar.section) (closed_same sofar.sessions false sofar.section) so
+kept tokens script options at end sofar (tree.Savepoint name) parses h so = statement_named script sofar (tree.Savepoint name) so
+kept tokens script options at end sofar (tree.RollbackTo name) parses h so = statement_named script sofar (tree.RollbackTo name) so
+kept tokens script options at end sofar (tree.Release name) parses h so = statement_named script sofar (tree.Release name) so
+kept tokens script options at end sofar (tree.Select selection) parses h so = statement_named script sofar (tree.Select selection) so
+kept tokens script options at end sofar (tree.Update table sets test) parses h so = statement_named script sofar (tree.Update table sets test) so
+kept tokens script options at end sofar (tree.Delete table test) parses h so = statement_named script sofar (tree.Delete table test) so
+kept tokens script options at end sofar (tree.Schedule turns) parses h so = schedule_named script sofar turns so
+kept tokens script options at end sofar tree.End parses h so = so
 
 -- ---- all statements
 
@@ -220,12 +221,12 @@ kept script options at end sofar tree.End parses h so = so
 abbrev pub ParsesSentences : Type 0
 ParsesSentences = (bytes : List ℕ) (at : ℕ) (s : Statement) (end : ℕ) → (parsed bytes at ≡ Ok (s, end)) ↔ Parses bytes at s end
 
-all_kept : ParsesSentences → (script : List ℕ) (options : Options) (at : ℕ) (sofar : SoFar) (all : List Statement) → SpellsFrom script at all
+all_kept : PiecesAreTokens → ParsesSentences → (script : List ℕ) (options : Options) (at : ℕ) (sofar : SoFar) (all : List Statement) → SpellsFrom script at all
     → NoneIsRefused script options sofar all → NamedSoFar sofar → NamedSoFar (after_all script sofar all)
-all_kept sentences script options at sofar [] spelled free so = so
-all_kept sentences script options at sofar (s ∷ rest) spelled free so =
-    all_kept sentences script options spelled.0 (after script sofar s) rest spelled.2 free.1
-    (kept script options at spelled.0 sofar s ((sentences script at s spelled.0).0 spelled.1) free.0 so)
+all_kept tokens sentences script options at sofar [] spelled free so = so
+all_kept tokens sentences script options at sofar (s ∷ rest) spelled free so =
+    all_kept tokens sentences script options spelled.0 (after script sofar s) rest spelled.2 free.1
+    (kept tokens script options at spelled.0 sofar s ((sentences script at s spelled.0).0 spelled.1) free.0 so)
 
 whole : (options : Options) (sofar : SoFar) → NamedSoFar sofar → IsNamed (script_of options sofar)
 whole options sofar so = record {
@@ -234,8 +235,8 @@ whole options sofar so = record {
 }
 
 -- a script that the bytes spell is named
-pub reads_named : ParsesSentences → ((bytes : List ℕ) (options : Options) (read : Script) → Reads bytes options (Ok read) ↔ IsAccepted bytes options read)
+pub reads_named : PiecesAreTokens → ParsesSentences → ((bytes : List ℕ) (options : Options) (read : Script) → Reads bytes options (Ok read) ↔ IsAccepted bytes options read)
     → (bytes : List ℕ) (options : Options) (read : Script) → Reads bytes options (Ok read) → IsNamed read
-reads_named sentences accepted bytes options read reads =
+reads_named tokens sentences accepted bytes options read reads =
     let is = (accepted bytes options read).0 reads in
-    subst IsNamed (sym is.says) (whole options _ (all_kept sentences bytes options 0 nothing is.statements is.spelled is.free nothing_named))
+    subst IsNamed (sym is.says) (whole options _ (all_kept tokens sentences bytes options 0 nothing is.statements is.spelled is.free nothing_named))

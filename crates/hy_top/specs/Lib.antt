@@ -5,3 +5,4 @@ pub mod Reports
 pub mod Naming
 pub mod Telling
 pub mod Typing
+pub mod Served

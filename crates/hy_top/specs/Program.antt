@@ -30,7 +30,7 @@ abbrev pub options_by : Command → Options
 options_by (Run threads prune log chunks rows) = record { chunks = chunks; rows = rows }
 options_by (Check chunks rows) = record { chunks = chunks; rows = rows }
 options_by (Recover chunks rows) = record { chunks = chunks; rows = rows }
-options_by (Serve chunks rows) = record { chunks = chunks; rows = rows }
+options_by (Serve log chunks rows) = record { chunks = chunks; rows = rows }
 options_by (Gen seed sessions txns threads) = record { chunks = 4; rows = 16 }
 
 -- what a command serves by, if it is one that serves
@@ -38,7 +38,7 @@ abbrev pub served_by : Command → Option Options
 served_by (Run threads prune log chunks rows) = None
 served_by (Check chunks rows) = None
 served_by (Recover chunks rows) = None
-served_by (Serve chunks rows) = Some (record { chunks = chunks; rows = rows })
+served_by (Serve log chunks rows) = Some (record { chunks = chunks; rows = rows })
 served_by (Gen seed sessions txns threads) = None
 
 abbrev pub does_serve : Option Command → Bool
@@ -49,7 +49,7 @@ abbrev pub reads_script : Command → Bool
 reads_script (Run threads prune log chunks rows) = true
 reads_script (Check chunks rows) = true
 reads_script (Recover chunks rows) = true
-reads_script (Serve chunks rows) = false
+reads_script (Serve log chunks rows) = false
 reads_script (Gen seed sessions txns threads) = false
 
 -- the script that a command makes; one that reads a script, or serves, makes none
@@ -57,15 +57,15 @@ abbrev pub made_by : Command → Option Script
 made_by (Run threads prune log chunks rows) = None
 made_by (Check chunks rows) = None
 made_by (Recover chunks rows) = None
-made_by (Serve chunks rows) = None
+made_by (Serve log chunks rows) = None
 made_by (Gen seed sessions txns threads) = Some (made seed sessions txns)
 
--- whether a command keeps a redo log of what it runs
+-- whether a command keeps a redo log of what it runs or serves
 abbrev pub keeps_log : Command → Bool
 keeps_log (Run threads prune log chunks rows) = log
 keeps_log (Check chunks rows) = false
 keeps_log (Recover chunks rows) = false
-keeps_log (Serve chunks rows) = false
+keeps_log (Serve log chunks rows) = log
 keeps_log (Gen seed sessions txns threads) = false
 
 -- whether a command has to do with the disk: it keeps a log there, or reads one; no command has nothing to do with it
@@ -74,7 +74,7 @@ uses_disk None = false
 uses_disk (Some (Run threads prune log chunks rows)) = log
 uses_disk (Some (Check chunks rows)) = false
 uses_disk (Some (Recover chunks rows)) = true
-uses_disk (Some (Serve chunks rows)) = false
+uses_disk (Some (Serve log chunks rows)) = log
 uses_disk (Some (Gen seed sessions txns threads)) = false
 
 -- the names that its outcome is printed with

@@ -47,7 +47,7 @@ abbrev pub IsRun : Command → Type 0
 IsRun (Run threads prune log chunks rows) = Unit {0}
 IsRun (Check chunks rows) = ⊥
 IsRun (Recover chunks rows) = ⊥
-IsRun (Serve chunks rows) = ⊥
+IsRun (Serve log chunks rows) = ⊥
 IsRun (Gen seed sessions txns threads) = Unit {0}
 
 -- a text was written whole, and the status is the one for that, or its first bytes were, and the status is 4
@@ -128,7 +128,7 @@ Does (Run threads prune true chunks rows) script held status outcome before afte
     RunsLogged script held status outcome before after ⊎ FindsALog held status outcome before after
 Does (Check chunks rows) script held status outcome before after = Checks script status outcome before after
 Does (Recover chunks rows) script held status outcome before after = Restores script held status outcome before after
-Does (Serve chunks rows) script held status outcome before after = ⊥
+Does (Serve log chunks rows) script held status outcome before after = ⊥
 Does (Gen seed sessions txns threads) script held status outcome before after = Summarizes threads script status outcome before after
 
 -- nothing came of it, since memory ran out or the disk failed

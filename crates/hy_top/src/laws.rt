@@ -14,12 +14,14 @@ use hy_parse::scripts_are_parsed;
 use hy_render::text_tells_the_outcome;
 use hy_script::{sentences_are_accepted, what_is_read_fits};
 use hy_serial::what_an_outcome_mentions_has_a_name;
+use hy_setting::{pieces_are_tokens, what_is_parsed_is_utf8};
 
 /// A law: the names of the tables of a script that is read are words, and no two are the same; so are those of its
 /// sessions.
 pub fn what_is_read_is_named()
     ensures { (bytes : List ℕ) (options : Options) (script : Script) → Reads bytes options (Ok script) → IsNamed script }
 {
+    pieces_are_tokens();
     scripts_are_parsed();
     sentences_are_accepted();
 }
@@ -28,7 +30,7 @@ pub fn what_is_read_is_named()
 pub fn what_is_read_is_utf8()
     ensures { (bytes : List ℕ) (options : Options) (script : Script) → Reads bytes options (Ok script) → IsUtf8Script script }
 {
-    scripts_are_parsed();
+    what_is_parsed_is_utf8();
     sentences_are_accepted();
 }
 

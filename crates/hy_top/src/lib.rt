@@ -13,14 +13,15 @@ ghost use Rattle.hy_words.specs.Words.{IsWithin, command_of};
 ghost use Rattle.hy_gen.specs.Made.{made};
 ghost use Rattle.hy_script.specs.declared.Script.{Script};
 ghost use Rattle.hy_top.specs.Lines.{usage_line, refusal_line_of, checked_line};
-ghost use Rattle.hy_service.specs.Serves.{Serves};
 ghost use Rattle.hy_top.specs.Program.{MayCome, bytes_left, does_serve, keeps_log, options_by, made_by, names_at, reads_script, served_by, uses_disk};
+ghost use Rattle.hy_top.specs.Served.{IsServed, LeavesServed};
 ghost use Rattle.hy_top.specs.Settings.{CanRun, IsUtf8Script};
 ghost use Rattle.hy_top.specs.Reports.{Writes, Answers, IsAnswered, Leaves, LeavesLog, Runs, Checks, Summarizes, GaveUp, Does, Makes};
 
 mod laws;
 mod lines;
 mod logs;
+mod serving;
 mod settings;
 mod typing;
 
@@ -33,12 +34,12 @@ use hy_machine::runs_are_steps;
 use hy_outside::{ReadAllError, Sink, Source, read_all, write_all};
 use hy_render::{Names, Outcome, render, summarize};
 use hy_script::{Code, Options, ReadError, Refused, Script, read_once, what_is_read_fits};
-use hy_service::{Served, serve};
 use hy_threads::Gate;
 use hy_words::{Command, WordsError};
 pub use laws::{one_text_is_of_one_outcome, what_is_read_is_named, what_is_read_is_utf8};
 use lines::{check_line, refusal_line};
 use logs::{recover_script, run_logged};
+use serving::serve_source;
 use settings::{Given, given_of};
 use std::alloc::{AllocError, Global};
 use std::sync::Wait;
@@ -90,7 +91,8 @@ const USAGE: &[u8] = b"usage: hy run|check|gen\n";
 /// of its own, and the gate is told of each of its visits; then the call waits for locks and for the threads' ends. With
 /// `--log` a redo log is made on the disk, and has each entry of the commit order before another step is taken; `recover`
 /// reads a script, and writes the tables that the log on the disk makes of its first rows. `serve` answers each line of the
-/// source before it reads the next. What is said of a sink's bytes and of crashes holds where the sink and the disk tell them.
+/// source before it reads the next, and keeps a log too with `--log`. What is said of a sink's bytes and of crashes holds where
+/// the sink and the disk tell them.
 pub fn run<T: Threads + Wait + Sync, R: Source, W: Sink, G: Gate, D: Disk>(
     rt: &T,
     alloc: Global,
@@ -128,27 +130,38 @@ pub fn run<T: Threads + Wait + Sync, R: Source, W: Sink, G: Gate, D: Disk>(
         (source.new ≡ source.old) × Makes command script result.status result.outcome (W.written sink.old) (W.written sink.new))) }
 
     // A command that serves answers the lines that the source gives, each before the next is read, up to END, its end or one
-    // byte past the limit. By the status the sink has all answers and what is told at the end, or the first of them.
+    // byte past the limit. By the status the sink has all answers and what is told at the end, or the first of them. Where it was
+    // to keep a log and the disk has bytes, it says so, and reads nothing.
     ensures serves { IfSome (command_of (map string_bytes words.now)) (λ command. IfSome (served_by command) (λ options.
-        Serves options (R.rest source.old) (R.rest source.new) (W.written sink.old) (W.written sink.new) result.status result.outcome)) }
+        IsServed (D.held disk.old) (keeps_log command) options (R.rest source.old) (R.rest source.new) (W.written sink.old) (W.written sink.new)
+        result.status result.outcome)) }
 
-    // A fault has its cause in the source or in the sink. At 3 and 5 there is no outcome, and but by a command that serves
-    // nothing is written.
+    // Where it keeps a log, what a crash leaves after it recovers to the outcome's tables, over those that the lines define. Whatever
+    // the status, what a crash leaves at any moment is what one could leave before, what the making of the log may leave, or the
+    // log of some first entries of the order that some first lines come to.
+    ensures leaves { IfSome (command_of (map string_bytes words.now)) (λ command. IfSome (served_by command) (λ options. keeps_log command ≡ true
+        → LeavesServed D.held D.clock D.image D.image_since options (R.rest source.old) (R.rest source.new) result.status result.outcome
+        disk.old disk.new)) }
+
+    // A fault has its cause in the source, the sink or the disk. At 3, 5 and 6 there is no outcome, and but by a command that
+    // serves nothing is written.
     ensures read_fault { result.status ≡ 3 → Rose (R.faults source.old) (R.faults source.new) × IsNone result.outcome }
     ensures write_fault { result.status ≡ 4 → Rose (W.faults sink.old) (W.faults sink.new) }
     ensures no_memory { result.status ≡ 5 → IsNone result.outcome }
-    ensures unwritten { (result.status ≡ 3) ⊎ (result.status ≡ 5) → does_serve (command_of (map string_bytes words.now)) ≡ false
-        → sink.new ≡ sink.old }
-    ensures disk_fault { result.status ≡ 6 → Rose (D.faults disk.old) (D.faults disk.new) × (sink.new ≡ sink.old) × IsNone result.outcome }
+    ensures unwritten { (result.status ≡ 3) ⊎ ((result.status ≡ 5) ⊎ (result.status ≡ 6))
+        → does_serve (command_of (map string_bytes words.now)) ≡ false → sink.new ≡ sink.old }
+    ensures disk_fault { result.status ≡ 6 → Rose (D.faults disk.old) (D.faults disk.new) × IsNone result.outcome }
 
     // And a fault is told: at every other status the count of faults is as it was.
     ensures source_steady { result.status ≢ 3 → R.faults source.new ≡ R.faults source.old }
     ensures sink_steady { result.status ≢ 4 → W.faults sink.new ≡ W.faults sink.old }
     ensures disk_steady { result.status ≢ 6 → D.faults disk.new ≡ D.faults disk.old }
 
-    // Where the words or the script are refused, or a read failed, the disk is as it was. Other commands than those that keep
-    // a log or read one leave it so, and to recover leaves its bytes, and makes sure no others; at 7 they stay whatever the command.
-    ensures refused_disk { (result.status ≡ 1) ⊎ (result.status ≡ 2) ⊎ (result.status ≡ 3) → disk.new ≡ disk.old }
+    // But by a command that serves, the disk is as it was where the words or the script are refused, or a read failed. Other
+    // commands than those that keep a log or read one leave it so, and to recover leaves its bytes, and makes sure no others; at 7
+    // they stay whatever the command.
+    ensures refused_disk { (result.status ≡ 1) ⊎ (result.status ≡ 2) ⊎ (result.status ≡ 3)
+        → does_serve (command_of (map string_bytes words.now)) ≡ false → disk.new ≡ disk.old }
     ensures untouched { uses_disk (command_of (map string_bytes words.now)) ≡ false → disk.new ≡ disk.old }
     ensures held { IfSome (command_of (map string_bytes words.now)) (λ command. keeps_log command ≡ false → D.held disk.new ≡ D.held disk.old) }
     ensures syncs { IfSome (command_of (map string_bytes words.now)) (λ command. keeps_log command ≡ false
@@ -179,10 +192,9 @@ pub fn run<T: Threads + Wait + Sync, R: Source, W: Sink, G: Gate, D: Disk>(
             },
             sink,
         ),
-        Ok(Command::Serve { chunks, rows }) => {
+        Ok(Command::Serve { log, chunks, rows }) => {
             let options = Options { chunks, rows };
-            let Served { status, outcome } = serve(alloc, options, true, source, sink);
-            Report { status, outcome }
+            serve_source(alloc, options, log, source, sink, disk)
         }
         Ok(command) => run_command(&crew, command, source, sink, disk),
         Err(WordsError::Refused) => without_outcome(write(sink, USAGE, 1)),
@@ -328,7 +340,7 @@ fn options_of(command: Command) -> Options
         Command::Run { chunks, rows, .. } => Options { chunks, rows },
         Command::Check { chunks, rows } => Options { chunks, rows },
         Command::Recover { chunks, rows } => Options { chunks, rows },
-        Command::Serve { chunks, rows } => Options { chunks, rows },
+        Command::Serve { chunks, rows, .. } => Options { chunks, rows },
         Command::Gen { .. } => Options {
             chunks: 4,
             rows: 16,

@@ -27,10 +27,10 @@ use hy_world::World;
 use std::alloc::Global;
 
 /// What is written where a log was to be made on a disk that has bytes.
-const NOT_EMPTY: &[u8] = b"log: not empty\n";
+pub(crate) const NOT_EMPTY: &[u8] = b"log: not empty\n";
 
 /// The status where the disk has bytes already, or bytes that are no log of the script's tables.
-const BAD_LOG: u8 = 7;
+pub(crate) const BAD_LOG: u8 = 7;
 
 /// Makes a log on the disk, runs a script by its schedule with each entry of the commit order in the log, and writes the
 /// text of its outcome. Where the disk has bytes it says so, nothing is run, and the disk stays.

@@ -56,7 +56,7 @@ abbrev pub recover : Shape
 recover = sized (new_shape (codes "recover"))
 
 abbrev pub serve : Shape
-serve = sized (new_shape (codes "serve"))
+serve = sized (record (new_shape (codes "serve")) { rules = log_flag ∷ [] })
 
 abbrev pub seed : Rule
 seed = needed_number (codes "seed") 0 4294967295

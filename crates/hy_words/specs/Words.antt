@@ -51,6 +51,11 @@ run_with (Some threads) (Some keeps) (Some log) (Some (chunks, rows)) =
     if threads && log then None else Some (Run threads (not keeps) log chunks rows)
 run_with _ _ _ _ = None
 
+-- `serve` with these, where the matches have each
+abbrev pub serve_with : Option Bool → Option (ℕ × ℕ) → Option Command
+serve_with (Some log) (Some (chunks, rows)) = Some (Serve log chunks rows)
+serve_with _ _ = None
+
 -- `gen` with these, where the matches have each
 abbrev pub gen_with : Option ℕ → Option ℕ → Option ℕ → Option Bool → Option Command
 gen_with (Some seed) (Some sessions) (Some txns) (Some threads) = Some (Gen seed sessions txns threads)
@@ -69,7 +74,7 @@ abbrev pub recover_by : List Row → Option Command
 recover_by matches = option_map (λ sizes. Recover sizes.0 sizes.1) (sizes_in matches)
 
 abbrev pub serve_by : List Row → Option Command
-serve_by matches = option_map (λ sizes. Serve sizes.0 sizes.1) (sizes_in matches)
+serve_by matches = serve_with (truth_in (codes "log") matches) (sizes_in matches)
 
 abbrev pub gen_by : List Row → Option Command
 gen_by matches =
@@ -98,7 +103,7 @@ abbrev pub IsWithin : Command → Type 0
 IsWithin (Run threads prune log chunks rows) = AreSizes chunks rows
 IsWithin (Check chunks rows) = AreSizes chunks rows
 IsWithin (Recover chunks rows) = AreSizes chunks rows
-IsWithin (Serve chunks rows) = AreSizes chunks rows
+IsWithin (Serve log chunks rows) = AreSizes chunks rows
 IsWithin (Gen seed sessions txns threads) = (0 < sessions) × (sessions ≤ 64) × (0 < txns) × (txns ≤ 1000)
 
 -- what a failed parse comes to

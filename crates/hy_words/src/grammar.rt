@@ -79,7 +79,8 @@ fn serve<'a>(alloc: Global) -> Result<Command<'a>, AllocError>
     ensures shape { IfOk result (λ c. shape_of c ≡ serve) }
     ensures local { IfOk result (λ c. (fields_of c).has_globals ≡ false) }
 {
-    sized(alloc, Command::new(alloc, "serve"))
+    let flags = Command::new(alloc, "serve").arg(flag(alloc, "log"))?;
+    sized(alloc, flags)
 }
 
 /// A subcommand with the options for the sizes of a table added, behind its own.

@@ -39,6 +39,8 @@ pub enum Command {
     },
     /// Serve sessions line by line.
     Serve {
+        /// Whether each entry of the commit order is kept in a redo log.
+        log: bool,
         /// How many chunks a table has.
         chunks: u32,
         /// How many positions a chunk has.
@@ -167,8 +169,9 @@ fn serve_asked(given: &ArgMatches<'_>) -> Option<Command>
     ensures asked { result ≡ serve_by (rows_of (found_of given.now)) }
     ensures within { IfSome result (λ command. IsWithin command) }
 {
+    let log = truth(given, "log")?;
     let (chunks, rows) = sizes(given)?;
-    Some(Command::Serve { chunks, rows })
+    Some(Command::Serve { log, chunks, rows })
 }
 
 /// What the matches of `gen` ask for.

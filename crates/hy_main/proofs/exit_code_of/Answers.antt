@@ -10,4 +10,6 @@ pub returns-clause-made : goal.returns-clause-made
 returns-clause-made g c = made_by_code _ _ _ _ _ _ _ _ c.from.ensures c.run-report.ensures.made
 
 pub returns-clause-serves : goal.returns-clause-serves
-returns-clause-serves g c = served_by_code _ _ _ _ _ _ _ _ c.from.ensures c.run-report.ensures.serves
+returns-clause-serves g c =
+    let d = g.D.Disk in
+    served_by_code d.held d.clock d.image d.image_since _ _ _ _ _ _ _ _ _ _ c.from.ensures c.run-report.ensures.serves c.run-report.ensures.leaves

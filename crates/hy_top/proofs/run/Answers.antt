@@ -1,10 +1,10 @@
-use Rattle.std.proofs.Common.{◌∙◌, Some, refl, ap, inl, inr, subst}
+use Rattle.std.proofs.Common.{◌∙◌, Some, refl, ap, arith, subst}
 use Rattle.std.proofs.Math.Logic.{⊎_elim}
 use Rattle.hy_words.specs.Words.{IsWithin}
 use Rattle.hy_words.specs.declared.Command.TheVariants.{Serve, Gen}
 use Rattle.hy_top.proofs.Answering.{nothing_read, nothing_answered, nothing_made}
-use Rattle.hy_top.proofs.Logging.{asked_syncs}
-use Rattle.hy_top.proofs.ServingCalls.{gives_at_most, makes_none, nothing_asked_served, reads_none, reads_so, served_otherwise, served_so, serves_so}
+use Rattle.hy_top.proofs.Logging.{asked_syncs, still_syncs}
+use Rattle.hy_top.proofs.ServingCalls.{keeps_so, makes_none, nothing_asked_left, nothing_asked_served, reads_none, reads_so, served_otherwise, served_so, serves_so, uses_so}
 use Rattle.hy_top.proofs.run.Goals as goal
 
 -- ---- memory runs out before the words are read
@@ -21,7 +21,12 @@ pub returns-in-Err-OutOfMemory-clause-made : goal.returns-in-Err-OutOfMemory-cla
 returns-in-Err-OutOfMemory-clause-made g c = nothing_made _ _ _
 
 pub returns-in-Err-OutOfMemory-clause-serves : goal.returns-in-Err-OutOfMemory-clause-serves
-returns-in-Err-OutOfMemory-clause-serves g c = nothing_asked_served _ _ _
+returns-in-Err-OutOfMemory-clause-serves g c = nothing_asked_served _ _ _ _
+
+pub returns-in-Err-OutOfMemory-clause-leaves : goal.returns-in-Err-OutOfMemory-clause-leaves
+returns-in-Err-OutOfMemory-clause-leaves g c =
+    let d = g.D.Disk in
+    nothing_asked_left d.held d.clock d.image d.image_since _ _ _ _
 
 pub returns-in-Err-OutOfMemory-clause-syncs : goal.returns-in-Err-OutOfMemory-clause-syncs
 returns-in-Err-OutOfMemory-clause-syncs g c =
@@ -45,56 +50,74 @@ returns-in-Ok-Gen-clause-serves g c =
     let arm = c.in-Ok-Gen in
     served_otherwise _ (Gen arm.seed arm.sessions arm.txns arm.threads) _ (arm.ensures.accepted ∙ ap Some arm.field-0-is) refl
 
+pub returns-in-Ok-Gen-clause-leaves : goal.returns-in-Ok-Gen-clause-leaves
+returns-in-Ok-Gen-clause-leaves g c =
+    let arm = c.in-Ok-Gen in
+    served_otherwise _ (Gen arm.seed arm.sessions arm.txns arm.threads) _ (arm.ensures.accepted ∙ ap Some arm.field-0-is) refl
+
 pub returns-in-Ok-Gen-clause-unwritten : goal.returns-in-Ok-Gen-clause-unwritten
 returns-in-Ok-Gen-clause-unwritten g c =
-    λ short other. ⊎_elim (λ three. absurd (c.run_made.ensures.statuses.2 three)) (λ five. (c.run_made.ensures.no_memory five).0) short
+    λ short other. ⊎_elim (λ three. absurd (c.run_made.ensures.statuses.2 three))
+    (λ more. ⊎_elim (λ five. (c.run_made.ensures.no_memory five).0) (λ six. absurd (omega (arith, six, c.run_made.ensures.statuses.3))) more) short
 
 -- ---- a command that serves
 
-pub serve-status-requires : goal.serve-status-requires
-serve-status-requires g c =
+pub serve_source-requires : goal.serve_source-requires
+serve_source-requires g c =
     let arm = c.in-Ok-Serve in
     subst IsWithin arm.field-0-is arm.ensures.within
 
 pub returns-in-Ok-Serve-clause-bytes : goal.returns-in-Ok-Serve-clause-bytes
 returns-in-Ok-Serve-clause-bytes g c =
     let arm = c.in-Ok-Serve in
-    reads_none _ (Serve arm.chunks arm.rows) _ (arm.ensures.accepted ∙ ap Some arm.field-0-is) refl
-
-pub returns-in-Ok-Serve-clause-given : goal.returns-in-Ok-Serve-clause-given
-returns-in-Ok-Serve-clause-given g c = gives_at_most _ _ _ _ _ _ _ c.serve-status.ensures.serves
+    reads_none _ (Serve arm.log arm.chunks arm.rows) _ (arm.ensures.accepted ∙ ap Some arm.field-0-is) refl
 
 pub returns-in-Ok-Serve-clause-answers : goal.returns-in-Ok-Serve-clause-answers
 returns-in-Ok-Serve-clause-answers g c =
     let arm = c.in-Ok-Serve in
-    reads_none _ (Serve arm.chunks arm.rows) _ (arm.ensures.accepted ∙ ap Some arm.field-0-is) refl
+    reads_none _ (Serve arm.log arm.chunks arm.rows) _ (arm.ensures.accepted ∙ ap Some arm.field-0-is) refl
 
 pub returns-in-Ok-Serve-clause-made : goal.returns-in-Ok-Serve-clause-made
 returns-in-Ok-Serve-clause-made g c =
     let arm = c.in-Ok-Serve in
-    makes_none _ arm.chunks arm.rows _ (arm.ensures.accepted ∙ ap Some arm.field-0-is)
+    makes_none _ arm.log arm.chunks arm.rows _ (arm.ensures.accepted ∙ ap Some arm.field-0-is)
 
 pub returns-in-Ok-Serve-clause-serves : goal.returns-in-Ok-Serve-clause-serves
 returns-in-Ok-Serve-clause-serves g c =
     let arm = c.in-Ok-Serve in
-    served_so _ arm.chunks arm.rows _ (arm.ensures.accepted ∙ ap Some arm.field-0-is) c.serve-status.ensures.serves
+    served_so _ arm.log arm.chunks arm.rows _ (arm.ensures.accepted ∙ ap Some arm.field-0-is) c.serve_source.ensures.served
 
-pub returns-in-Ok-Serve-clause-read_fault : goal.returns-in-Ok-Serve-clause-read_fault
-returns-in-Ok-Serve-clause-read_fault g c =
-    λ three. (c.serve-status.ensures.read_fault three, c.serve-status.ensures.serves.no_outcome (inl three))
-
-pub returns-in-Ok-Serve-clause-no_memory : goal.returns-in-Ok-Serve-clause-no_memory
-returns-in-Ok-Serve-clause-no_memory g c = λ five. c.serve-status.ensures.serves.no_outcome (inr five)
+pub returns-in-Ok-Serve-clause-leaves : goal.returns-in-Ok-Serve-clause-leaves
+returns-in-Ok-Serve-clause-leaves g c =
+    let arm = c.in-Ok-Serve in
+    served_so _ arm.log arm.chunks arm.rows _ (arm.ensures.accepted ∙ ap Some arm.field-0-is) c.serve_source.ensures.leaves
 
 pub returns-in-Ok-Serve-clause-unwritten : goal.returns-in-Ok-Serve-clause-unwritten
 returns-in-Ok-Serve-clause-unwritten g c =
     let arm = c.in-Ok-Serve in
-    λ short none. absurd (serves_so _ arm.chunks arm.rows (arm.ensures.accepted ∙ ap Some arm.field-0-is) none)
+    λ short none. absurd (serves_so _ arm.log arm.chunks arm.rows (arm.ensures.accepted ∙ ap Some arm.field-0-is) none)
+
+pub returns-in-Ok-Serve-clause-refused_disk : goal.returns-in-Ok-Serve-clause-refused_disk
+returns-in-Ok-Serve-clause-refused_disk g c =
+    let arm = c.in-Ok-Serve in
+    λ refused none. absurd (serves_so _ arm.log arm.chunks arm.rows (arm.ensures.accepted ∙ ap Some arm.field-0-is) none)
+
+pub returns-in-Ok-Serve-clause-untouched : goal.returns-in-Ok-Serve-clause-untouched
+returns-in-Ok-Serve-clause-untouched g c =
+    let arm = c.in-Ok-Serve in
+    λ none. c.serve_source.ensures.untouched (uses_so _ arm.log arm.chunks arm.rows (arm.ensures.accepted ∙ ap Some arm.field-0-is) none)
+
+pub returns-in-Ok-Serve-clause-held : goal.returns-in-Ok-Serve-clause-held
+returns-in-Ok-Serve-clause-held g c =
+    let arm = c.in-Ok-Serve in
+    keeps_so _ arm.log arm.chunks arm.rows _ (arm.ensures.accepted ∙ ap Some arm.field-0-is) (λ none. ap g.D.Disk.held (c.serve_source.ensures.untouched none))
 
 pub returns-in-Ok-Serve-clause-syncs : goal.returns-in-Ok-Serve-clause-syncs
 returns-in-Ok-Serve-clause-syncs g c =
+    let arm = c.in-Ok-Serve in
     let d = g.D.Disk in
-    asked_syncs d.held d.clock d.image d.image_since _ _
+    keeps_so _ arm.log arm.chunks arm.rows _ (arm.ensures.accepted ∙ ap Some arm.field-0-is)
+    (λ none. still_syncs d.held d.clock d.image d.image_since c.args.disk.now c.serve_source.new.disk (c.serve_source.ensures.untouched none))
 
 -- ---- a command that reads a script
 
@@ -103,4 +126,5 @@ returns-in-Ok-clause-answers g c = reads_so _ c.in-Ok.command _ c.in-Ok.ensures.
 
 pub returns-in-Ok-clause-unwritten : goal.returns-in-Ok-clause-unwritten
 returns-in-Ok-clause-unwritten g c =
-    λ short other. ⊎_elim (λ three. (c.run_command.ensures.read_fault three).1) (λ five. (c.run_command.ensures.no_memory five).0) short
+    λ short other. ⊎_elim (λ three. (c.run_command.ensures.read_fault three).1)
+    (λ more. ⊎_elim (λ five. (c.run_command.ensures.no_memory five).0) (λ six. (c.run_command.ensures.disk_fault six).1) more) short

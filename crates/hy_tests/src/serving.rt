@@ -1,7 +1,7 @@
 //! Lines that are served. The expected text comes from an independent program.
 
 use crate::runs::words_of;
-use hy_disk::NoDisk;
+use hy_disk::{MemDisk, NoDisk};
 use hy_outside::{MemSink, MemSource, StdSink, StdSource};
 use hy_threads::OpenGate;
 use std::alloc::{AllocError, Global};
@@ -249,5 +249,75 @@ fn too_many_bytes_are_an_end_of_their_own(rt: HostRuntime) -> Result<(), Fail> {
         text.as_slice(),
         b"a: begun 0\nrefused E01\na: dropped\norder 0\nend\n".as_slice()
     );
+    Ok(())
+}
+
+/// Two commits, between which a session reads the table as it was, and an open transaction at the end.
+const LOGGED: &str =
+    "CREATE TABLE t (n INT);\nINSERT INTO t VALUES (1);\na: BEGIN;\na: UPDATE t SET n = 5;\n\
+a: COMMIT;\nb: BEGIN;\nb: INSERT INTO t VALUES (2);\nb: COMMIT;\na: BEGIN;\na: DELETE FROM t;\n";
+
+/// What is answered.
+const LOGGED_ANSWERS: &str =
+    "ok\nok\na: begun 0\na: updated 1\na: committed 0\nb: begun 1\nb: inserted\nb: committed 1\n\
+a: begun 2\na: deleted 2\na: dropped\norder 2\nentry 0 a.1\nchange t 0 from 1 to 5\nentry 1 b.1\n\
+change t 1 from none to 2\ntable t 2\nrow 2\nrow 5\nend\n";
+
+/// The script of the lines that define something.
+const DEFINED: &str = "CREATE TABLE t (n INT); INSERT INTO t VALUES (1); END;";
+
+/// The status and the text of a command over this input, with a disk.
+fn with_disk<T: Threads + Wait + Sync + AllocGlobal>(
+    rt: &T,
+    words: &[&str],
+    input: &str,
+    disk: &mut MemDisk,
+) -> Result<(u8, Vec<u8>), AllocError> {
+    let alloc = rt.alloc();
+    let words = words_of(alloc, words)?;
+    let bytes = input.as_bytes().to_vec(alloc)?;
+    let mut source = MemSource::new(bytes, 4096, Vec::new(alloc));
+    let mut sink = MemSink::new(alloc, 10_000, Vec::new(alloc))?;
+    let report = hy_top::run(rt, alloc, &words, &mut source, &mut sink, &OpenGate, disk);
+    Ok((report.status, sink.bytes().to_vec(alloc)?))
+}
+
+#[test]
+fn what_is_served_is_logged_and_recovered(rt: HostRuntime) -> Result<(), Fail> {
+    let alloc = rt.alloc();
+    let mut disk = MemDisk::new(alloc, Vec::new(alloc), Vec::new(alloc))?;
+    let (status, text) = with_disk(&rt, &["hy", "serve", "--log"], LOGGED, &mut disk)?;
+    assert_eq!(rt; status, 0);
+    assert_eq!(rt; text.as_slice(), LOGGED_ANSWERS.as_bytes());
+    let (status, text) = with_disk(&rt, &["hy", "recover"], DEFINED, &mut disk)?;
+    assert_eq!(rt; status, 0);
+    assert_eq!(rt;
+        text.as_slice(),
+        "table t 2\nrow 2\nrow 5\nend\n".as_bytes()
+    );
+    let (status, text) = with_disk(&rt, &["hy", "serve", "--log"], LOGGED, &mut disk)?;
+    assert_eq!(rt; status, 7);
+    assert_eq!(rt; text.as_slice(), "log: not empty\n".as_bytes());
+    Ok(())
+}
+
+#[test]
+fn a_line_whose_entry_is_not_logged_is_not_answered(rt: HostRuntime) -> Result<(), Fail> {
+    // The log is made by three calls, and each of the two entries is appended by four.
+    let alloc = rt.alloc();
+    let told = LOGGED_ANSWERS.as_bytes();
+    for call in 1..=11u64 {
+        let mut disk = MemDisk::new(alloc, Vec::new(alloc), [call].to_vec(alloc)?)?;
+        let (status, text) = with_disk(&rt, &["hy", "serve", "--log"], LOGGED, &mut disk)?;
+        assert_eq!(rt; status, 6);
+        let answered = if call <= 3 {
+            0
+        } else if call <= 7 {
+            4
+        } else {
+            7
+        };
+        assert_eq!(rt; text.as_slice(), first_lines(told, answered));
+    }
     Ok(())
 }

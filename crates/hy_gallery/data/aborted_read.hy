@@ -1,6 +1,8 @@
 -- Aborted read: a writes a row and rolls back. Were b to see what a wrote, it would have read a value that
 -- never was.
 -- b reads before and after the ROLLBACK, and reads the old row each time.
+--
+--   ./hy run examples/anomalies/aborted_read.hy
 
 CREATE TABLE test (id INT PRIMARY KEY, value INT);
 INSERT INTO test VALUES (1,10);

@@ -2,6 +2,8 @@
 -- each to see the other's write, each would have to come after the other.
 -- Neither sees the other's write here. But then each has to come before the other: b, the second to commit,
 -- read the row that a changed, and is refused as invalid. `statement 2` is its SELECT.
+--
+--   ./hy run examples/anomalies/circular_information_flow.hy
 
 CREATE TABLE test (id INT PRIMARY KEY, value INT);
 INSERT INTO test VALUES (1,10);

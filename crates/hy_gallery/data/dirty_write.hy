@@ -2,6 +2,8 @@
 -- a's value and the other b's, as in no serial order.
 -- b meets a row that a has written and not yet committed: b is refused at once as a conflict, and both rows
 -- end with a's values.
+--
+--   ./hy run examples/anomalies/dirty_write.hy
 
 CREATE TABLE test (id INT PRIMARY KEY, value INT);
 INSERT INTO test VALUES (1,10);

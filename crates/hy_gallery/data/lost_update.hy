@@ -1,6 +1,8 @@
 -- Lost update: two transactions read one row, and each writes it by what it read. Were both to commit, the
 -- first write would be lost.
 -- b is refused as a conflict where it writes the row that a has written.
+--
+--   ./hy run examples/anomalies/lost_update.hy
 
 CREATE TABLE test (id INT PRIMARY KEY, value INT);
 INSERT INTO test VALUES (1,10);

@@ -1,6 +1,8 @@
 -- Observed transaction vanishes: a and b write the same two rows, c reads them twice. Were c to see a's value
 -- in one row and b's in the other, a's transaction would have vanished in part.
 -- b is refused as a conflict. c began before a's commit, and reads both rows as they were, twice.
+--
+--   ./hy run examples/anomalies/observed_transaction_vanishes.hy
 
 CREATE TABLE test (id INT PRIMARY KEY, value INT);
 INSERT INTO test VALUES (1,10);

@@ -1,5 +1,7 @@
 -- Two transactions write different rows of one table, by turns.
 -- Writes are told apart by row, and an UPDATE has read no more than its WHERE: both commit.
+--
+--   ./hy run examples/anomalies/other_rows_of_the_same_table.hy
 
 CREATE TABLE test (id INT PRIMARY KEY, value INT);
 INSERT INTO test VALUES (1,10);

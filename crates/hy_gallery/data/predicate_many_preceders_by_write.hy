@@ -2,6 +2,8 @@
 -- 10, so that another row has the value 20 when a has committed. Were b to delete none, or the row that its SELECT
 -- did not find, its two statements would speak of two states.
 -- The row that b sees and selects has a's uncommitted version: b is refused as a conflict.
+--
+--   ./hy run examples/anomalies/predicate_many_preceders_by_write.hy
 
 CREATE TABLE test (id INT PRIMARY KEY, value INT);
 INSERT INTO test VALUES (1,10);

@@ -1,6 +1,8 @@
 -- The read-only transaction anomaly: w and d alone are well in the order w, d, under snapshot isolation too.
 -- The reader r, which only reads, spoils it: it sees d's deposit and not w's withdrawal.
 -- r is not refused, and is told what d left. So w is: what it read is hit by d's change.
+--
+--   ./hy run examples/anomalies/read_only_transaction_anomaly.hy
 
 CREATE TABLE acc (id INT PRIMARY KEY, bal INT);
 INSERT INTO acc VALUES (1,100);

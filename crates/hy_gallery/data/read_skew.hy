@@ -1,6 +1,8 @@
 -- Read skew: a reads one row before b's commit and another after it. Were a to see b's value in the second,
 -- it would have read halves of two states.
 -- a reads both rows as they were at its BEGIN, and a reader is never refused.
+--
+--   ./hy run examples/anomalies/read_skew.hy
 
 CREATE TABLE test (id INT PRIMARY KEY, value INT);
 INSERT INTO test VALUES (1,10);

@@ -1,6 +1,8 @@
 -- Read skew, and then a write by it: a reads a row, b changes both rows and commits, and a deletes the rows
 -- of which value = 20, which it still sees so.
 -- The row was committed anew after a's BEGIN: a is refused as a conflict, though b has ended.
+--
+--   ./hy run examples/anomalies/read_skew_then_write.hy
 
 CREATE TABLE test (id INT PRIMARY KEY, value INT);
 INSERT INTO test VALUES (1,10);

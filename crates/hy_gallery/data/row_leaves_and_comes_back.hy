@@ -2,6 +2,8 @@
 -- gives it back, so that b's count is right again when b commits.
 -- Each commit is tested by itself: a's change hits b's read, and b is refused as invalid. Another engine may
 -- let b commit here, and be right.
+--
+--   ./hy run examples/anomalies/row_leaves_and_comes_back.hy
 
 CREATE TABLE acc (id INT PRIMARY KEY, bal INT);
 INSERT INTO acc VALUES (1,100);

@@ -1,5 +1,7 @@
 -- Two transactions insert rows with different keys, by turns.
 -- Each INSERT has read whether its own key was there, and no more: both commit.
+--
+--   ./hy run examples/anomalies/two_different_keys.hy
 
 CREATE TABLE test (id INT PRIMARY KEY, value INT);
 INSERT INTO test VALUES (1,10);

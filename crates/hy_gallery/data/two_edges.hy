@@ -1,6 +1,8 @@
 -- Two edges: a reads all rows; b changes one of them and commits; c reads after that; then a writes another
 -- row. c comes after b, b comes after a, and c did not see a's write: a would have to come after c.
 -- a is the last to commit, and its read is hit by b's change: it is refused as invalid.
+--
+--   ./hy run examples/anomalies/two_edges.hy
 
 CREATE TABLE test (id INT PRIMARY KEY, value INT);
 INSERT INTO test VALUES (1,10);

@@ -1,6 +1,8 @@
 -- Write skew by predicate: both transactions find no row of which value = 30, and each inserts one. There is
 -- no row that both touch; but the second in a serial order would have found the first one's row.
 -- b's SELECT is kept as its WHERE. The row that a inserted makes it true, and b is refused as invalid.
+--
+--   ./hy run examples/anomalies/write_skew_by_predicate.hy
 
 CREATE TABLE test (id INT PRIMARY KEY, value INT);
 INSERT INTO test VALUES (1,10);

@@ -2,6 +2,8 @@
 -- written twice, so that snapshot isolation lets both commit; but in no serial order do both read what they
 -- read here.
 -- a commits. b read the row that a changed, and is refused as invalid: `statement 1` is its SELECT.
+--
+--   ./hy run examples/anomalies/write_skew_on_items.hy
 
 CREATE TABLE test (id INT PRIMARY KEY, value INT);
 INSERT INTO test VALUES (1,10);

@@ -1,3 +1,4 @@
+pub mod Alone
 pub mod Few
 pub mod Ordinals
 pub mod Firsts

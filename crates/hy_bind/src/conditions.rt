@@ -1,68 +1,53 @@
 //! Conditions with their names resolved.
 
-ghost use Rattle.std.specs.Prelude.{◌≡◌, IfOk};
+ghost use Rattle.std.specs.Prelude.{◌≡◌, not, is_none, IfOk};
 ghost use Rattle.std.specs.Option.{option_map, option_copied};
 ghost use Rattle.hy_ast.specs.Trees.{test_of};
-ghost use Rattle.hy_bound.specs.Condition.{Compare, IsNull, Not};
-ghost use Rattle.hy_bind.specs.Scope.{scope_of, column_of, operand_side};
+ghost use Rattle.hy_bound.specs.Condition.{Compare};
+ghost use Rattle.hy_bind.specs.Literals.{literal_value};
+ghost use Rattle.hy_bind.specs.Refusals.{first_of, fault_if, agree};
+ghost use Rattle.hy_bind.specs.Scope.{scope_of, column_of, column_fault, operand_side};
 ghost use Rattle.hy_bind.specs.Conditions.{compare_fault, test_fault, test_bound, where_fault, where_bound, null_bound};
 
+use crate::literals::{kind_of, plain, value};
 use crate::refusals::{BindFault, agree, fault_if, first_of};
-use crate::scope::{
-    Scope, column, column_fault, column_kind, compared, operand_fault, operand_kind,
-};
-use hy_ast::{ColumnRef, Operand, Test};
-use hy_bound::Pred;
-use hy_value::Cmp;
+use crate::scope::{Found, Scope, kind_in, missing, number, resolve};
+use hy_ast::{ColumnRef, Literal, Operand, Test};
+use hy_bound::{Pred, Side, SideView};
+use hy_value::{Cmp, Kind};
 use std::alloc::{AllocError, Global};
 
-/// Why WHERE is refused.
-pub fn where_fault(scope: &Scope, condition: Option<&Test>) -> Option<BindFault>
-    ensures { result ≡ where_fault (scope_of scope.now) (option_map test_of (option_copied condition.entry)) }
+/// A condition as it is bound: why it is refused, and what the engine runs.
+#[derive(Drop)]
+pub struct BoundTest {
+    /// Why it is refused, if it is.
+    pub fault: Option<BindFault>,
+    /// What the engine runs, if it is not refused.
+    pub pred: Pred,
+}
+
+/// WHERE with its names resolved, each once.
+pub fn tested(
+    alloc: Global,
+    scope: &Scope,
+    condition: Option<&Test>,
+) -> Result<BoundTest, AllocError>
+    ensures fault { IfOk result (λ tested. tested.fault ≡ where_fault (scope_of scope.now) (option_map test_of (option_copied condition.entry))) }
+    ensures pred { IfOk result (λ tested. tested.pred ≡ where_bound (scope_of scope.now) (option_map test_of (option_copied condition.entry))) }
 {
     match condition {
-        Some(condition) => condition_fault(scope, condition),
-        None => None,
+        Some(condition) => test(alloc, scope, condition),
+        None => Ok(BoundTest {
+            fault: None,
+            pred: Pred::always(),
+        }),
     }
 }
 
-/// Why a condition is refused.
-fn condition_fault(scope: &Scope, condition: &Test) -> Option<BindFault>
-    ensures { result ≡ test_fault (scope_of scope.now) (test_of condition.now) }
-{
-    match condition {
-        Test::Compare { left, right, .. } => compare_fault(scope, left, right),
-        Test::IsNull { column, .. } => column_fault(scope, column),
-        Test::Not { condition, .. } => condition_fault(scope, condition),
-        Test::And { left, right, .. } | Test::Or { left, right, .. } => {
-            first_of(condition_fault(scope, left), condition_fault(scope, right))
-        }
-        Test::Nested(condition) => condition_fault(scope, condition),
-    }
-}
-
-/// Why a comparison is refused.
-fn compare_fault(scope: &Scope, left: &ColumnRef, right: &Operand) -> Option<BindFault>
-    ensures { result ≡ compare_fault (scope_of scope.now) left.now right.now }
-{
-    let named = first_of(column_fault(scope, left), operand_fault(scope, right));
-    let same = agree(column_kind(scope, left), operand_kind(scope, right));
-    first_of(named, fault_if(!same, BindFault::WrongType))
-}
-
-/// WHERE as a predicate.
-pub fn predicate(alloc: Global, scope: &Scope, condition: Option<&Test>) -> Result<Pred, AllocError>
-    ensures { IfOk result (λ p. p ≡ where_bound (scope_of scope.now) (option_map test_of (option_copied condition.entry))) }
-{
-    match condition {
-        Some(condition) => condition_predicate(alloc, scope, condition),
-        None => Ok(Pred::always()),
-    }
-}
-
-/// A condition as a predicate.
-fn condition_predicate(alloc: Global, scope: &Scope, condition: &Test) -> Result<Pred, AllocError>
-    ensures { IfOk result (λ p. p ≡ test_bound (scope_of scope.now) (test_of condition.now)) }
+/// A condition with its names resolved.
+fn test(alloc: Global, scope: &Scope, condition: &Test) -> Result<BoundTest, AllocError>
+    ensures fault { IfOk result (λ tested. tested.fault ≡ test_fault (scope_of scope.now) (test_of condition.now)) }
+    ensures pred { IfOk result (λ tested. tested.pred ≡ test_bound (scope_of scope.now) (test_of condition.now)) }
 {
     match condition {
         Test::Compare {
@@ -77,21 +62,29 @@ fn condition_predicate(alloc: Global, scope: &Scope, condition: &Test) -> Result
             ..
         } => null_test(alloc, scope, column, *negated),
         Test::Not { condition, .. } => {
-            Pred::not(alloc, condition_predicate(alloc, scope, condition)?)
+            let BoundTest { fault, pred } = test(alloc, scope, condition)?;
+            let pred = Pred::not(alloc, pred)?;
+            Ok(BoundTest { fault, pred })
         }
         Test::And { left, right, .. } => {
-            let left = condition_predicate(alloc, scope, left)?;
-            Pred::and(alloc, left, condition_predicate(alloc, scope, right)?)
+            let left = test(alloc, scope, left)?;
+            let right = test(alloc, scope, right)?;
+            let fault = first_of(left.fault, right.fault);
+            let pred = Pred::and(alloc, left.pred, right.pred)?;
+            Ok(BoundTest { fault, pred })
         }
         Test::Or { left, right, .. } => {
-            let left = condition_predicate(alloc, scope, left)?;
-            Pred::or(alloc, left, condition_predicate(alloc, scope, right)?)
+            let left = test(alloc, scope, left)?;
+            let right = test(alloc, scope, right)?;
+            let fault = first_of(left.fault, right.fault);
+            let pred = Pred::or(alloc, left.pred, right.pred)?;
+            Ok(BoundTest { fault, pred })
         }
-        Test::Nested(condition) => condition_predicate(alloc, scope, condition),
+        Test::Nested(condition) => test(alloc, scope, condition),
     }
 }
 
-/// A comparison as a predicate. It stands by itself, so that a chain of conditions takes little room for
+/// A comparison with its names resolved. It stands by itself, so that a chain of conditions takes little room for
 /// each.
 #[inline(never)]
 fn comparison(
@@ -100,26 +93,85 @@ fn comparison(
     left: &ColumnRef,
     op: Cmp,
     right: &Operand,
-) -> Result<Pred, AllocError>
-    ensures { IfOk result (λ p. p ≡ Compare (column_of (scope_of scope.now) left.now) op (operand_side (scope_of scope.now) right.now)) }
+) -> Result<BoundTest, AllocError>
+    ensures fault { IfOk result (λ tested. tested.fault ≡ compare_fault (scope_of scope.now) left.now right.now) }
+    ensures pred { IfOk result (λ tested. tested.pred
+        ≡ Compare (column_of (scope_of scope.now) left.now) op (operand_side (scope_of scope.now) right.now)) }
 {
-    let left = column(scope, left)?;
-    compared(alloc, scope, left, op, right)
+    let left = resolve(scope, left);
+    let column = number(left)?;
+    match right {
+        Operand::Column(reference) => {
+            let right = resolve(scope, reference);
+            let fault = unequal(left, missing(right), kind_in(right));
+            let side = SideView::Column(number(right)?);
+            let pred = Pred::compare_view(alloc, column, op, side)?;
+            Ok(BoundTest { fault, pred })
+        }
+        Operand::Literal(literal) => {
+            let right = plain(scope.script, literal);
+            let fault = unequal(left, right.fault, kind_of(literal));
+            let pred = match right.side {
+                Some(side) => Pred::compare_view(alloc, column, op, side)?,
+                None => compared_text(alloc, scope.script, column, op, literal)?,
+            };
+            Ok(BoundTest { fault, pred })
+        }
+    }
 }
 
-/// IS NULL, or IS NOT NULL.
+/// Why two sides of one type are refused: one of them is, or they have two types.
+pub fn unequal(
+    left: Option<Found>,
+    right: Option<BindFault>,
+    kind: Option<Kind>,
+) -> Option<BindFault>
+    ensures { result ≡ first_of (first_of (fault_if (is_none left) BindFault.UnknownColumn) right)
+        (fault_if (not (agree (option_map (λ column. column.kind) left) kind)) BindFault.WrongType) }
+{
+    let same = agree(kind_in(left), kind);
+    first_of(
+        first_of(missing(left), right),
+        fault_if(!same, BindFault::WrongType),
+    )
+}
+
+/// A comparison with a text; one that is refused, as any.
+fn compared_text(
+    alloc: Global,
+    script: &[u8],
+    column: u32,
+    op: Cmp,
+    right: &Literal,
+) -> Result<Pred, AllocError>
+    ensures { IfOk result (λ p. p ≡ Compare column op (Side.Literal (literal_value script.now right.now))) }
+{
+    Pred::compare(
+        alloc,
+        column,
+        op,
+        Side::Literal(value(alloc, script, right)?),
+    )
+}
+
+/// IS NULL, or IS NOT NULL, with its column resolved.
 fn null_test(
     alloc: Global,
     scope: &Scope,
     reference: &ColumnRef,
     negated: bool,
-) -> Result<Pred, AllocError>
-    ensures { IfOk result (λ p. p ≡ null_bound (column_of (scope_of scope.now) reference.now) negated) }
+) -> Result<BoundTest, AllocError>
+    ensures fault { IfOk result (λ tested. tested.fault ≡ column_fault (scope_of scope.now) reference.now) }
+    ensures pred { IfOk result (λ tested. tested.pred ≡ null_bound (column_of (scope_of scope.now) reference.now) negated) }
 {
-    let is_null = Pred::is_null(column(scope, reference)?);
-    if negated {
-        Pred::not(alloc, is_null)
-    } else {
-        Ok(is_null)
-    }
+    let column = resolve(scope, reference);
+    let is_null = Pred::is_null(number(column)?);
+    Ok(BoundTest {
+        fault: missing(column),
+        pred: if negated {
+            Pred::not(alloc, is_null)?
+        } else {
+            is_null
+        },
+    })
 }

@@ -8,11 +8,11 @@ ghost use Rattle.hy_bind.specs.Refusals.{fault_if, first_of};
 ghost use Rattle.hy_bind.specs.Scope.{scope_of, operand_fault, operand_kind};
 ghost use Rattle.hy_bind.specs.Expressions.{formula_kind, formula_fault, formula_bound, operand_bound, binary_bound, is_number};
 
-use crate::literals::{kind_of, literal_expression, literal_fault};
+use crate::literals::{kind_of, plain, value};
 use crate::refusals::{BindFault, agree, fault_if, first_of};
-use crate::scope::{Found, Scope, number, resolve};
+use crate::scope::{Found, Scope, kind_in, missing, number, resolve};
 use hy_ast::{Formula, Operand, Operator};
-use hy_bound::SetExpr;
+use hy_bound::{SetExpr, SideView};
 use hy_value::Kind;
 use std::alloc::{AllocError, Global};
 
@@ -34,7 +34,7 @@ pub fn expression(alloc: Global, scope: &Scope, tree: &Formula) -> Result<Judged
     ensures value { IfOk result (λ judged. judged.value ≡ formula_bound (scope_of scope.now) (formula_of tree.now)) }
 {
     match tree {
-        Formula::Plain(operand) => plain(alloc, scope, operand),
+        Formula::Plain(operand) => single(alloc, scope, operand),
         Formula::Binary {
             left,
             op,
@@ -52,18 +52,24 @@ pub fn expression(alloc: Global, scope: &Scope, tree: &Formula) -> Result<Judged
 /// A column or a literal as an expression. It stands by itself, so that a chain of operators takes little
 /// room for each.
 #[inline(never)]
-fn plain(alloc: Global, scope: &Scope, operand: &Operand) -> Result<Judged, AllocError>
+fn single(alloc: Global, scope: &Scope, operand: &Operand) -> Result<Judged, AllocError>
     ensures fault { IfOk result (λ judged. judged.fault ≡ operand_fault (scope_of scope.now) operand.now) }
     ensures kind { IfOk result (λ judged. judged.kind ≡ operand_kind (scope_of scope.now) operand.now) }
     ensures value { IfOk result (λ judged. judged.value ≡ operand_bound (scope_of scope.now) operand.now) }
 {
     match operand {
         Operand::Column(reference) => named(resolve(scope, reference)),
-        Operand::Literal(literal) => Ok(Judged {
-            fault: literal_fault(scope.script, literal),
-            kind: kind_of(literal),
-            value: literal_expression(alloc, scope.script, literal)?,
-        }),
+        Operand::Literal(literal) => {
+            let seen = plain(scope.script, literal);
+            Ok(Judged {
+                fault: seen.fault,
+                kind: kind_of(literal),
+                value: match seen.side {
+                    Some(SideView::Int(number)) => SetExpr::number(number),
+                    _ => SetExpr::literal(alloc, value(alloc, scope.script, literal)?)?,
+                },
+            })
+        }
     }
 }
 
@@ -73,13 +79,9 @@ fn named(found: Option<Found>) -> Result<Judged, AllocError>
     ensures kind { IfOk result (λ judged. judged.kind ≡ option_map (λ column. column.kind) found) }
     ensures value { IfOk result (λ judged. judged.value ≡ Column (option_map_or (λ column. column.column) found 0)) }
 {
-    let kind = match found {
-        Some(found) => Some(found.kind),
-        None => None,
-    };
     Ok(Judged {
-        fault: fault_if(found.is_none(), BindFault::UnknownColumn),
-        kind,
+        fault: missing(found),
+        kind: kind_in(found),
         value: SetExpr::column(number(found)?),
     })
 }

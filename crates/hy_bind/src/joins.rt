@@ -4,8 +4,9 @@ ghost use Rattle.std.specs.Prelude.{◌≡◌, IfOk};
 ghost use Rattle.hy_bind.specs.Scope.{scope_of};
 ghost use Rattle.hy_bind.specs.Statements.{visible, join_fault, joins_fault, ons_bound, on_bound};
 
-use crate::refusals::{BindFault, agree, fault_if, first_of};
-use crate::scope::{Scope, column, column_fault, column_kind};
+use crate::conditions::unequal;
+use crate::refusals::{BindFault, first_of};
+use crate::scope::{Scope, kind_in, missing, number, resolve};
 use hy_ast::Join;
 use hy_bound::{On, Ons};
 use hy_value::Seq;
@@ -23,45 +24,35 @@ fn visible<'a>(scope: &Scope<'a>, count: usize) -> Scope<'a>
     }
 }
 
-/// Why the ONs are refused. In each the tables up to the one just joined are visible.
-pub fn joins_fault(scope: &Scope, joins: &[Join]) -> Option<BindFault>
-    ensures { result ≡ joins_fault (scope_of scope.now) 2 joins.now }
+/// Why the ONs are refused, and these as the engine runs them. In each the tables up to the one just joined are visible.
+pub fn ons(
+    alloc: Global,
+    scope: &Scope,
+    joins: &[Join],
+) -> Result<(Option<BindFault>, Ons), AllocError>
+    ensures fault { IfOk result (λ found. found.0 ≡ joins_fault (scope_of scope.now) 2 joins.now) }
+    ensures ons { IfOk result (λ found. found.1 ≡ ons_bound (scope_of scope.now) 2 joins.now) }
 {
     let mut fault = None;
-    for (i, join) in joins.iter().enumerate() {
-        fault = first_of(fault, join_fault(&visible(scope, i + 2), join));
-    }
-    fault
-}
-
-/// Why an ON is refused.
-fn join_fault(scope: &Scope, join: &Join) -> Option<BindFault>
-    ensures { result ≡ join_fault (scope_of scope.now) join.now }
-{
-    let left = column_fault(scope, &join.left);
-    let unknown = first_of(left, column_fault(scope, &join.right));
-    let left_kind = column_kind(scope, &join.left);
-    let same = agree(left_kind, column_kind(scope, &join.right));
-    first_of(unknown, fault_if(!same, BindFault::WrongType))
-}
-
-/// The equalities of the joins.
-pub fn ons(alloc: Global, scope: &Scope, joins: &[Join]) -> Result<Ons, AllocError>
-    ensures { IfOk result (λ all. all ≡ ons_bound (scope_of scope.now) 2 joins.now) }
-{
     let mut all = Vec::with_capacity(alloc, joins.len())?;
     for (i, join) in joins.iter().enumerate() {
-        all.push(on(&visible(scope, i + 2), join)?)?;
+        let (unfit, equal) = on(&visible(scope, i + 2), join)?;
+        fault = first_of(fault, unfit);
+        all.push(equal)?;
     }
-    Ok(Seq::from_vec(all))
+    Ok((fault, Seq::from_vec(all)))
 }
 
-/// The equality of a join.
-fn on(scope: &Scope, join: &Join) -> Result<On, AllocError>
-    ensures { IfOk result (λ on. on ≡ on_bound (scope_of scope.now) join.now) }
+/// Why an ON is refused, and the equality that it is.
+fn on(scope: &Scope, join: &Join) -> Result<(Option<BindFault>, On), AllocError>
+    ensures fault { IfOk result (λ found. found.0 ≡ join_fault (scope_of scope.now) join.now) }
+    ensures on { IfOk result (λ found. found.1 ≡ on_bound (scope_of scope.now) join.now) }
 {
-    Ok(On {
-        left: column(scope, &join.left)?,
-        right: column(scope, &join.right)?,
-    })
+    let left = resolve(scope, &join.left);
+    let right = resolve(scope, &join.right);
+    let on = On {
+        left: number(left)?,
+        right: number(right)?,
+    };
+    Ok((unequal(left, missing(right), kind_in(right)), on))
 }

@@ -7,65 +7,70 @@ ghost use Rattle.hy_bind.specs.Statements.{sum_fault, columns_fault, listed_faul
 
 use crate::expressions::is_number;
 use crate::refusals::{BindFault, fault_if, first_of};
-use crate::scope::{Scope, column, column_fault, column_kind, width};
+use crate::scope::{Scope, kind_in, missing, number, resolve, width};
 use hy_ast::{ColumnRef, Listed, Total};
 use hy_bound::{Aggregate, Items, Numbers};
 use hy_value::Seq;
 use std::alloc::{AllocError, Global};
 
-/// Why what is listed is refused.
-pub fn listed_fault(scope: &Scope, listed: &Listed) -> Option<BindFault>
-    ensures { result ≡ listed_fault (scope_of scope.now) listed.now }
+/// What a SELECT shows, as it is bound: why it is refused, and what the engine shows.
+#[derive(Drop)]
+pub struct Shown {
+    /// Why it is refused, if it is.
+    pub fault: Option<BindFault>,
+    /// What the engine shows, if it is not refused.
+    pub items: Items,
+}
+
+/// What is listed, each name resolved once.
+pub fn items(alloc: Global, scope: &Scope, listed: &Listed) -> Result<Shown, AllocError>
+    ensures fault { IfOk result (λ shown. shown.fault ≡ listed_fault (scope_of scope.now) listed.now) }
+    ensures items { IfOk result (λ shown. shown.items ≡ items_bound (scope_of scope.now) listed.now) }
 {
     match listed {
-        Listed::All => None,
-        Listed::Sum(reference) => sum_fault(scope, reference),
-        Listed::Columns(references) => columns_fault(scope, references.as_slice()),
-    }
-}
-
-/// Why the total of a group is refused.
-pub fn total_fault(scope: &Scope, total: &Total) -> Option<BindFault>
-    ensures { result ≡ total_fault (scope_of scope.now) total.now }
-{
-    match total {
-        Total::Count => None,
-        Total::Sum(reference) => sum_fault(scope, reference),
-    }
-}
-
-/// Why a sum is refused.
-fn sum_fault(scope: &Scope, reference: &ColumnRef) -> Option<BindFault>
-    ensures { result ≡ sum_fault (scope_of scope.now) reference.now }
-{
-    let number = is_number(column_kind(scope, reference));
-    let wrong_type = fault_if(!number, BindFault::WrongType);
-    first_of(column_fault(scope, reference), wrong_type)
-}
-
-/// Why columns are refused.
-fn columns_fault(scope: &Scope, references: &[ColumnRef]) -> Option<BindFault>
-    ensures { result ≡ columns_fault (scope_of scope.now) references.now }
-{
-    let mut fault = None;
-    for reference in references {
-        fault = first_of(fault, column_fault(scope, reference));
-    }
-    fault
-}
-
-/// What is listed.
-pub fn items(alloc: Global, scope: &Scope, listed: &Listed) -> Result<Items, AllocError>
-    ensures { IfOk result (λ items. items ≡ items_bound (scope_of scope.now) listed.now) }
-{
-    match listed {
-        Listed::All => Ok(Items::Columns(all_columns(alloc, scope)?)),
-        Listed::Sum(reference) => Ok(Items::Sum(column(scope, reference)?)),
+        Listed::All => Ok(Shown {
+            fault: None,
+            items: Items::Columns(all_columns(alloc, scope)?),
+        }),
+        Listed::Sum(reference) => {
+            let (fault, column) = summed(scope, reference)?;
+            Ok(Shown {
+                fault,
+                items: Items::Sum(column),
+            })
+        }
         Listed::Columns(references) => {
-            let numbers = columns(alloc, scope, references.as_slice())?;
-            Ok(Items::Columns(numbers))
+            let (fault, numbers) = columns(alloc, scope, references.as_slice())?;
+            Ok(Shown {
+                fault,
+                items: Items::Columns(numbers),
+            })
         }
     }
+}
+
+/// Why the total of a group is refused, and how the engine makes it.
+pub fn aggregate(scope: &Scope, total: &Total) -> Result<(Option<BindFault>, Aggregate), AllocError>
+    ensures fault { IfOk result (λ found. found.0 ≡ total_fault (scope_of scope.now) total.now) }
+    ensures aggregate { IfOk result (λ found. found.1 ≡ total_bound (scope_of scope.now) total.now) }
+{
+    match total {
+        Total::Count => Ok((None, Aggregate::Count)),
+        Total::Sum(reference) => {
+            let (fault, column) = summed(scope, reference)?;
+            Ok((fault, Aggregate::Sum(column)))
+        }
+    }
+}
+
+/// Why a sum is refused, and the number of its column.
+fn summed(scope: &Scope, reference: &ColumnRef) -> Result<(Option<BindFault>, u32), AllocError>
+    ensures fault { IfOk result (λ found. found.0 ≡ sum_fault (scope_of scope.now) reference.now) }
+    ensures column { IfOk result (λ found. found.1 ≡ column_of (scope_of scope.now) reference.now) }
+{
+    let found = resolve(scope, reference);
+    let wrong_type = fault_if(!is_number(kind_in(found)), BindFault::WrongType);
+    Ok((first_of(missing(found), wrong_type), number(found)?))
 }
 
 /// The numbers of all columns of the joined row.
@@ -91,23 +96,21 @@ fn joined_width(scope: &Scope) -> u128
     total
 }
 
-/// The numbers of columns.
-fn columns(alloc: Global, scope: &Scope, references: &[ColumnRef]) -> Result<Numbers, AllocError>
-    ensures { IfOk result (λ numbers. numbers ≡ map (column_of (scope_of scope.now)) references.now) }
+/// Why columns are refused, and their numbers.
+fn columns(
+    alloc: Global,
+    scope: &Scope,
+    references: &[ColumnRef],
+) -> Result<(Option<BindFault>, Numbers), AllocError>
+    ensures fault { IfOk result (λ found. found.0 ≡ columns_fault (scope_of scope.now) references.now) }
+    ensures numbers { IfOk result (λ found. found.1 ≡ map (column_of (scope_of scope.now)) references.now) }
 {
+    let mut fault = None;
     let mut numbers = Vec::with_capacity(alloc, references.len())?;
     for reference in references {
-        numbers.push(column(scope, reference)?)?;
+        let found = resolve(scope, reference);
+        fault = first_of(fault, missing(found));
+        numbers.push(number(found)?)?;
     }
-    Ok(Seq::from_vec(numbers))
-}
-
-/// The total of a group as the engine runs it.
-pub fn aggregate(scope: &Scope, total: &Total) -> Result<Aggregate, AllocError>
-    ensures { IfOk result (λ aggregate. aggregate ≡ total_bound (scope_of scope.now) total.now) }
-{
-    match total {
-        Total::Count => Ok(Aggregate::Count),
-        Total::Sum(reference) => Ok(Aggregate::Sum(column(scope, reference)?)),
-    }
+    Ok((fault, Seq::from_vec(numbers)))
 }

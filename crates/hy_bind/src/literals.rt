@@ -4,13 +4,12 @@ ghost use Rattle.std.specs.Prelude.{◌≡◌, ◌<◌, ◌≤◌, ◌∷◌, []
 ghost use Rattle.hy_value.specs.TextBytes.{text_of};
 ghost use Rattle.hy_bind.specs.Literals.{text_of_span, number_of, in_reach, integer_of, unquoted, unquoted_rest, literal_kind, literal_fault};
 ghost use Rattle.hy_bind.specs.Literals.{literal_value, integer_value};
-ghost use Rattle.hy_bound.specs.Expression.{Expression};
 ghost use Rattle.hy_bound.specs.PredView.{viewed_side};
 ghost use Rattle.hy_bound.specs.declared.predicate.Side.{Side};
 
 use crate::refusals::{BindFault, fault_if};
 use hy_ast::Literal;
-use hy_bound::{SetExpr, SideView};
+use hy_bound::SideView;
 use hy_token::Span;
 use hy_value::{Kind, Text, Value};
 use std::alloc::{AllocError, Global};
@@ -27,14 +26,17 @@ pub fn text_in(script: &[u8], span: Span) -> &[u8]
 fn number(digits: &[u8]) -> Option<u64>
     ensures { result ≡ in_reach (number_of digits.now) }
 {
-    let mut number: u128 = 0;
+    let mut number: u64 = 0;
     for digit in digits {
-        number = 10 * number + u128::from(digit.saturating_sub(b'0'));
+        if number > 922337203685477580 {
+            return None;
+        }
+        number = 10 * number + u64::from(digit.saturating_sub(b'0'));
         if number > 9223372036854775808 {
             return None;
         }
     }
-    Some(number as u64)
+    Some(number)
 }
 
 /// A number with its sign, if it lies within 64 bits.
@@ -110,23 +112,6 @@ pub fn kind_of(literal: &Literal) -> Option<Kind>
     }
 }
 
-/// Why a literal is refused.
-pub fn literal_fault(script: &[u8], literal: &Literal) -> Option<BindFault>
-    ensures { result ≡ literal_fault script.now literal.now }
-{
-    match literal {
-        Literal::Null(_) => None,
-        Literal::Integer { minus, digits } => {
-            let integer = integer(minus.is_some(), text_in(script, *digits));
-            fault_if(integer.is_none(), BindFault::TooBig)
-        }
-        Literal::Text(span) => {
-            let length = unquoted_len(text_in(script, *span));
-            fault_if(length > 255, BindFault::Limit)
-        }
-    }
-}
-
 /// The value of an integer; of one that is outside 64 bits, any.
 fn integer_value(integer: Option<i64>) -> Value
     ensures { result ≡ integer_value integer }
@@ -164,17 +149,39 @@ pub fn value(alloc: Global, script: &[u8], literal: &Literal) -> Result<Value, A
     }
 }
 
-/// A literal that is no text, as a side of a comparison; one that is refused, as any.
-pub fn plain_side(script: &[u8], literal: &Literal) -> Option<SideView<'static>>
-    ensures { IfSome result (λ side. viewed_side side ≡ Side.Literal (literal_value script.now literal.now)) }
+/// A literal as it is looked at once: why it is refused, and the side of a comparison that it is, where it is no text.
+#[derive(Clone, Copy)]
+pub struct PlainLiteral {
+    /// Why it is refused, if it is.
+    pub fault: Option<BindFault>,
+    /// What it is, unless it is a text; of one that is refused, any.
+    pub side: Option<SideView<'static>>,
+}
+
+/// A literal, its digits read once.
+pub fn plain(script: &[u8], literal: &Literal) -> PlainLiteral
+    ensures fault { result.fault ≡ literal_fault script.now literal.now }
+    ensures side { IfSome result.side (λ side. viewed_side side ≡ Side.Literal (literal_value script.now literal.now)) }
 {
     match literal {
-        Literal::Null(_) => Some(SideView::Null),
+        Literal::Null(_) => PlainLiteral {
+            fault: None,
+            side: Some(SideView::Null),
+        },
         Literal::Integer { minus, digits } => {
-            let digits = text_in(script, *digits);
-            Some(integer_side(integer(minus.is_some(), digits)))
+            let integer = integer(minus.is_some(), text_in(script, *digits));
+            PlainLiteral {
+                fault: fault_if(integer.is_none(), BindFault::TooBig),
+                side: Some(integer_side(integer)),
+            }
         }
-        Literal::Text(_) => None,
+        Literal::Text(span) => {
+            let length = unquoted_len(text_in(script, *span));
+            PlainLiteral {
+                fault: fault_if(length > 255, BindFault::Limit),
+                side: None,
+            }
+        }
     }
 }
 
@@ -185,19 +192,5 @@ fn integer_side(integer: Option<i64>) -> SideView<'static>
     match integer {
         Some(integer) => SideView::Int(integer),
         None => SideView::Null,
-    }
-}
-
-/// A literal as an expression; one that is refused, as any.
-pub fn literal_expression(
-    alloc: Global,
-    script: &[u8],
-    literal: &Literal,
-) -> Result<SetExpr, AllocError>
-    ensures { IfOk result (λ made. made ≡ Expression.Literal (literal_value script.now literal.now)) }
-{
-    match plain_side(script, literal) {
-        Some(SideView::Int(number)) => Ok(SetExpr::number(number)),
-        _ => SetExpr::literal(alloc, value(alloc, script, literal)?),
     }
 }

@@ -1,21 +1,18 @@
 //! The columns that a statement can name.
 
-ghost use Rattle.std.specs.Prelude.{◌≡◌, ◌<◌, ◌^◌, IfOk, map};
-ghost use Rattle.std.specs.Option.{option_and_then, option_map_or};
+ghost use Rattle.std.specs.Prelude.{◌≡◌, ◌<◌, ◌^◌, is_none, IfOk};
+ghost use Rattle.std.specs.Option.{option_and_then, option_map, option_map_or};
 ghost use Rattle.hy_schema.specs.Names.{column_number, table_at};
-ghost use Rattle.hy_bind.specs.Scope.{scope_of, width_at, may_mean, found_in, and_found, only, resolved, column_of, column_fault, column_kind};
-ghost use Rattle.hy_bind.specs.Scope.{operand_fault, operand_kind, operand_side};
-ghost use Rattle.hy_bind.specs.Literals.{literal_value};
-ghost use Rattle.hy_bound.specs.Condition.{Compare};
+ghost use Rattle.hy_bind.specs.Refusals.{fault_if};
+ghost use Rattle.hy_bind.specs.Scope.{scope_of, width_at, may_mean, found_in, and_found, only, resolved};
 
-use crate::literals::{kind_of, literal_fault, plain_side, text_in, value};
+use crate::literals::text_in;
 use crate::refusals::{BindFault, fault_if};
-use hy_ast::{ColumnRef, Literal, Operand};
-use hy_bound::{Pred, Side, SideView};
+use hy_ast::ColumnRef;
 use hy_schema::{Catalog, Column, TableDef};
 use hy_token::Span;
-use hy_value::{Cmp, Kind};
-use std::alloc::{AllocError, Global};
+use hy_value::Kind;
+use std::alloc::AllocError;
 
 /// A script and its tables, and the tables of a statement in FROM order, by number.
 #[derive(Clone, Copy)]
@@ -51,9 +48,13 @@ pub enum Search {
 }
 
 /// The column that a reference means, if it means a column of exactly one of the tables.
+#[tactic(auto, using(crate::proofs::Alone::alone))]
 pub fn resolve(scope: &Scope, reference: &ColumnRef) -> Option<Found>
     ensures { result ≡ resolved (scope_of scope.now) reference.now }
 {
+    if let [table] = scope.tables {
+        return found_in_table(scope, reference, *table, 0);
+    }
     let mut so_far = Search::Nowhere;
     let mut from = 0u128;
     for table in scope.tables {
@@ -147,26 +148,21 @@ pub fn column_ordinal(columns: &[Column], name: &[u8]) -> Option<usize>
         .position(|column| name == column.name.as_bytes())
 }
 
-/// Why a reference is refused.
-pub fn column_fault(scope: &Scope, reference: &ColumnRef) -> Option<BindFault>
-    ensures { result ≡ column_fault (scope_of scope.now) reference.now }
+/// Why a reference is refused that means this column.
+pub fn missing(found: Option<Found>) -> Option<BindFault>
+    ensures { result ≡ fault_if (is_none found) BindFault.UnknownColumn }
 {
-    let unknown = resolve(scope, reference).is_none();
-    fault_if(unknown, BindFault::UnknownColumn)
+    fault_if(found.is_none(), BindFault::UnknownColumn)
 }
 
-/// The type of the column that a reference means.
-pub fn column_kind(scope: &Scope, reference: &ColumnRef) -> Option<Kind>
-    ensures { result ≡ column_kind (scope_of scope.now) reference.now }
+/// The type of a column that was found.
+pub fn kind_in(found: Option<Found>) -> Option<Kind>
+    ensures { result ≡ option_map (λ column. column.kind) found }
 {
-    Some(resolve(scope, reference)?.kind)
-}
-
-/// The number in the joined row of the column that a reference means.
-pub fn column(scope: &Scope, reference: &ColumnRef) -> Result<u32, AllocError>
-    ensures { IfOk result (λ number. number ≡ column_of (scope_of scope.now) reference.now) }
-{
-    number(resolve(scope, reference))
+    match found {
+        Some(found) => Some(found.kind),
+        None => None,
+    }
 }
 
 /// The number of a column that was found. One beyond 32 bits would need more memory than there is.
@@ -176,59 +172,5 @@ pub fn number(found: Option<Found>) -> Result<u32, AllocError>
     match found {
         Some(found) => u32::try_from(found.column).map_err(|_| AllocError),
         None => Ok(0),
-    }
-}
-
-/// Why an operand is refused.
-pub fn operand_fault(scope: &Scope, operand: &Operand) -> Option<BindFault>
-    ensures { result ≡ operand_fault (scope_of scope.now) operand.now }
-{
-    match operand {
-        Operand::Column(reference) => column_fault(scope, reference),
-        Operand::Literal(literal) => literal_fault(scope.script, literal),
-    }
-}
-
-/// The type of an operand.
-pub fn operand_kind(scope: &Scope, operand: &Operand) -> Option<Kind>
-    ensures { result ≡ operand_kind (scope_of scope.now) operand.now }
-{
-    match operand {
-        Operand::Column(reference) => column_kind(scope, reference),
-        Operand::Literal(literal) => kind_of(literal),
-    }
-}
-
-/// A comparison of a column with an operand.
-pub fn compared(
-    alloc: Global,
-    scope: &Scope,
-    left: u32,
-    op: Cmp,
-    right: &Operand,
-) -> Result<Pred, AllocError>
-    ensures { IfOk result (λ p. p ≡ Compare left op (operand_side (scope_of scope.now) right.now)) }
-{
-    match right {
-        Operand::Column(reference) => {
-            Pred::compare_view(alloc, left, op, SideView::Column(column(scope, reference)?))
-        }
-        Operand::Literal(literal) => compared_literal(alloc, scope.script, left, op, literal),
-    }
-}
-
-/// A comparison of a column with a literal; one that is refused, as any.
-fn compared_literal(
-    alloc: Global,
-    script: &[u8],
-    left: u32,
-    op: Cmp,
-    right: &Literal,
-) -> Result<Pred, AllocError>
-    ensures { IfOk result (λ p. p ≡ Compare left op (Side.Literal (literal_value script.now right.now))) }
-{
-    match plain_side(script, right) {
-        Some(side) => Pred::compare_view(alloc, left, op, side),
-        None => Pred::compare(alloc, left, op, Side::Literal(value(alloc, script, right)?)),
     }
 }

@@ -5,22 +5,22 @@ ghost use Rattle.std.specs.Option.{option_map, option_map_or, option_copied};
 ghost use Rattle.hy_ast.specs.Trees.{set_clause_of, test_of};
 ghost use Rattle.hy_bound.specs.declared.Bound.TheVariants as bound;
 ghost use Rattle.hy_bind.specs.Conditions.{where_bound, where_fault};
-ghost use Rattle.hy_bind.specs.Literals.{literal_value};
+ghost use Rattle.hy_bind.specs.Literals.{literal_value, text_of_span};
 ghost use Rattle.hy_bind.specs.Scope.{scope_of};
 ghost use Rattle.hy_bind.specs.Statements.{table_of, columns_of, key_of, value_fault, values_fault, is_null, key_fault, insert_fault, is_key};
-ghost use Rattle.hy_bind.specs.Statements.{Binds, fault_of_set, kind_at, set_fault, set_column, sets_fault, update_fault, set_bound};
+ghost use Rattle.hy_bind.specs.Statements.{Binds, fault_of_set, kind_at, set_fault, set_column, sets_fault, update_fault, set_bound, repeats};
 
-use crate::conditions::{predicate, where_fault};
+use crate::conditions::tested;
 use crate::expressions::{Judged, expression};
-use crate::literals::{kind_of, literal_fault, text_in, value};
+use crate::literals::{kind_of, plain, text_in, value};
 use crate::refusals::{BindError, BindFault, agree, fault_if, first_of, refuse};
 use crate::scope::{Scope, column_ordinal};
 use crate::tables::repeats;
 use hy_ast::{Literal, SetClause, Test};
-use hy_bound::{Assign, Bound, Sets};
+use hy_bound::{Assign, Bound, Sets, SideView};
 use hy_schema::Column;
 use hy_token::Span;
-use hy_value::{Kind, Seq, StoredRow};
+use hy_value::{Kind, RowBuffer, Seq, StoredRow};
 use std::alloc::{AllocError, Global};
 
 /// The number of a statement's one table.
@@ -91,7 +91,7 @@ fn value_fault(script: &[u8], column: &Column, value: &Literal) -> Option<BindFa
 {
     let fits = agree(kind_of(value), Some(column.kind));
     first_of(
-        literal_fault(script, value),
+        plain(script, value).fault,
         fault_if(!fits, BindFault::WrongType),
     )
 }
@@ -117,6 +117,26 @@ fn is_null(literal: Option<&Literal>) -> bool
 fn row(alloc: Global, script: &[u8], literals: &[Literal]) -> Result<StoredRow, AllocError>
     ensures { IfOk result (λ row. row ≡ map (literal_value script.now) literals.now) }
 {
+    let mut row = RowBuffer::new(alloc);
+    row.make_room(literals.len(), 0)?;
+    for literal in literals {
+        match plain(script, literal).side {
+            Some(SideView::Int(number)) => row.push_number_reserved(number),
+            Some(SideView::Null) => row.push_null_reserved(),
+            _ => return row_with_texts(alloc, script, literals),
+        }
+    }
+    Ok(StoredRow::from_buffer(row))
+}
+
+/// The row of an INSERT that has texts.
+fn row_with_texts(
+    alloc: Global,
+    script: &[u8],
+    literals: &[Literal],
+) -> Result<StoredRow, AllocError>
+    ensures { IfOk result (λ row. row ≡ map (literal_value script.now) literals.now) }
+{
     let mut values = Vec::with_capacity(alloc, literals.len())?;
     for literal in literals {
         values.push(value(alloc, script, literal)?)?;
@@ -135,16 +155,14 @@ pub fn update(
         (bound.Update (table_of (scope_of scope.now)) (map (set_bound (scope_of scope.now)) (map set_clause_of sets.now))
         (where_bound (scope_of scope.now) (option_map test_of (option_copied condition.entry)))) }
 {
-    let columns = columns_set(alloc, sets)?;
-    let again = repeats(alloc, scope.script, columns.as_slice())?;
-    let twice = fault_if(again, BindFault::Twice);
-    let rest = first_of(twice, where_fault(scope, condition));
+    let twice = fault_if(sets_twice(alloc, scope, sets)?, BindFault::Twice);
+    let tested = tested(alloc, scope, condition)?;
     let (unfit, sets) = assignments(alloc, scope, sets)?;
-    refuse(first_of(unfit, rest))?;
+    refuse(first_of(unfit, first_of(twice, tested.fault)))?;
     Ok(Bound::Update {
         table: table(scope),
         sets,
-        pred: predicate(alloc, scope, condition)?,
+        pred: tested.pred,
     })
 }
 
@@ -153,11 +171,24 @@ pub fn delete(alloc: Global, scope: &Scope, condition: Option<&Test>) -> Result<
     ensures { Binds result (where_fault (scope_of scope.now) (option_map test_of (option_copied condition.entry)))
         (bound.Delete (table_of (scope_of scope.now)) (where_bound (scope_of scope.now) (option_map test_of (option_copied condition.entry)))) }
 {
-    refuse(where_fault(scope, condition))?;
+    let tested = tested(alloc, scope, condition)?;
+    refuse(tested.fault)?;
     Ok(Bound::Delete {
         table: table(scope),
-        pred: predicate(alloc, scope, condition)?,
+        pred: tested.pred,
     })
+}
+
+/// Whether a column comes twice on the left of SET.
+#[tactic(auto, using(crate::proofs::Few::few_sets))]
+fn sets_twice(alloc: Global, scope: &Scope, sets: &[SetClause]) -> Result<bool, AllocError>
+    ensures { IfOk result (λ twice. twice ≡ repeats (map (text_of_span scope.now.script.now) (map (λ set. set.column) (map set_clause_of sets.now)))) }
+{
+    if sets.len() < 2 {
+        return Ok(false);
+    }
+    let columns = columns_set(alloc, sets)?;
+    repeats(alloc, scope.script, columns.as_slice())
 }
 
 /// The spans of the columns on the left of SET.

@@ -13,3 +13,4 @@ pub mod Sentences
 pub mod Closings
 pub mod Spans
 pub mod Scripts
+pub mod Single

@@ -53,6 +53,7 @@ fn is_null<'a>(column: ColumnRef, pieces: &'a [Piece]) -> Result<(Test, &'a [Pie
 }
 
 /// A comparison and its right side behind a column.
+#[inline(always)]
 #[tactic(auto, unfolding(crate::specs::Reading::compared_at, crate::specs::Reading::piece_at))]
 fn compared<'a>(left: ColumnRef, pieces: &'a [Piece]) -> Result<(Test, &'a [Piece]), Halt<'a>>
     ensures { Gives (λ x. (test_of x.0, x.1.now)) result (compared_at left pieces.now) }
@@ -74,16 +75,16 @@ fn compared<'a>(left: ColumnRef, pieces: &'a [Piece]) -> Result<(Test, &'a [Piec
 }
 
 /// A column compared with a column or a literal, or tested for NULL.
+#[inline(always)]
 #[tactic(auto, unfolding(crate::specs::Reading::comparison_at))]
 fn comparison(pieces: &[Piece]) -> Result<(Test, &[Piece]), Halt>
     ensures { Gives (λ x. (test_of x.0, x.1.now)) result (comparison_at pieces.now) }
 {
     let (column, rest) = column(pieces)?;
     if begins(rest, Token::Reserved(Keyword::Is)) {
-        is_null(column, rest)
-    } else {
-        compared(column, rest)
+        return is_null(column, rest);
     }
+    compared(column, rest)
 }
 
 /// Two conditions with AND between.
@@ -164,8 +165,8 @@ fn unit(alloc: Global, levels: u32, pieces: &[Piece]) -> Result<(Test, &[Piece])
     comparison(pieces)
 }
 
-/// WHERE and its condition, if it comes first.
-#[tactic(auto, unfolding(crate::specs::Reading::condition_at))]
+/// WHERE and its condition, if it comes first. Most are one comparison, which is read without what a chain asks for.
+#[tactic(auto, unfolding(crate::specs::Reading::condition_at), using(crate::proofs::Single::single))]
 pub fn where_clause(alloc: Global, pieces: &[Piece]) -> Result<(Option<Test>, &[Piece]), Halt>
     ensures { Gives (λ x. (option_map test_of x.0, x.1.now)) result (condition_at pieces.now) }
 {
@@ -173,6 +174,9 @@ pub fn where_clause(alloc: Global, pieces: &[Piece]) -> Result<(Option<Test>, &[
         return Ok((None, pieces));
     }
     let rest = expect(pieces, &[Token::Reserved(Keyword::Where)])?;
-    let (condition, rest) = condition(alloc, MOST_LEVELS, rest)?;
+    let (condition, rest) = match comparison(rest) {
+        Ok((only, behind)) if !begins(behind, AND) && !begins(behind, OR) => (only, behind),
+        _chain => condition(alloc, MOST_LEVELS, rest)?,
+    };
     Ok((Some(condition), rest))
 }

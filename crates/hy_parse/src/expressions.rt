@@ -46,6 +46,7 @@ fn binary(
 }
 
 /// A column or a literal.
+#[inline(always)]
 #[tactic(auto, unfolding(crate::specs::Reading::plain_at))]
 fn plain(pieces: &[Piece]) -> Result<(Formula, &[Piece]), Halt>
     ensures { Gives (λ x. (formula_of x.0, x.1.now)) result (plain_at pieces.now) }
@@ -66,6 +67,7 @@ fn next_addition(pieces: &[Piece]) -> Option<(Operator, Span, &[Piece])>
 }
 
 /// A chain of `*`.
+#[inline(always)]
 #[cycle(expression)]
 #[tactic(auto, unfolding(crate::specs::Reading::term_by))]
 fn term(alloc: Global, levels: u32, pieces: &[Piece]) -> Result<(Formula, &[Piece]), Halt>
@@ -102,6 +104,7 @@ fn expression(alloc: Global, levels: u32, pieces: &[Piece]) -> Result<(Formula, 
 }
 
 /// An expression in parentheses, which opens a level, a column or a literal.
+#[inline(always)]
 #[cycle(expression)]
 #[tactic(auto, unfolding(crate::specs::Reading::factor_at))]
 fn factor(alloc: Global, levels: u32, pieces: &[Piece]) -> Result<(Formula, &[Piece]), Halt>
@@ -117,6 +120,7 @@ fn factor(alloc: Global, levels: u32, pieces: &[Piece]) -> Result<(Formula, &[Pi
 }
 
 /// An assignment.
+#[inline(always)]
 #[tactic(auto, unfolding(crate::specs::Reading::set_clause_at))]
 fn assignment(alloc: Global, pieces: &[Piece]) -> Result<(SetClause, &[Piece]), Halt>
     ensures { Gives (λ x. (set_clause_of x.0, x.1.now)) result (set_clause_at pieces.now) }

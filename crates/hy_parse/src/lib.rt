@@ -79,7 +79,6 @@ impl From<AllocError> for ParseError {
 
 /// The statement that begins at the first token from `at` on, which is `first`, and the offset right behind its
 /// `;`. What `room` holds doesn't matter: its memory serves for the pieces of one statement after another.
-#[tactic(auto, unfolding(crate::specs::Parsing::parsed))]
 pub fn parse_statement(
     alloc: Global,
     bytes: &[u8],
@@ -91,9 +90,28 @@ pub fn parse_statement(
     requires found { first ≡ token_at bytes.now at }
     ensures { Gives (λ x. (statement_of x.0, x.1)) result (parsed bytes.now at) }
 {
+    let mut statement = Statement::End;
+    let end = parse_into(alloc, bytes, at, first, room, &mut statement)?;
+    Ok((statement, end))
+}
+
+/// The same with a place for the statement, which is large to hand on: only the offset is answered.
+#[tactic(auto, unfolding(crate::specs::Parsing::parsed))]
+pub fn parse_into(
+    alloc: Global,
+    bytes: &[u8],
+    at: usize,
+    first: Result<(Token, Span), Bad>,
+    room: &mut Vec<Piece>,
+    into: &mut Statement,
+) -> Result<usize, ParseError>
+    requires in_range { at ≤ length bytes.now }
+    requires found { first ≡ token_at bytes.now at }
+    ensures { Gives (λ end. (statement_of into.new, end)) result (parsed bytes.now at) }
+{
     let ending = pieces::pieces(bytes, at, first, room)?;
-    match statements::statement(alloc, room) {
-        Ok((statement, _)) => Ok((statement, ending.offset())),
+    match statements::statement(alloc, room, into) {
+        Ok(_) => Ok(ending.offset()),
         Err(Halt::Stuck(rest)) => Err(ending.fault_of(rest)),
         Err(Halt::OutOfMemory) => Err(ParseError::OutOfMemory),
     }

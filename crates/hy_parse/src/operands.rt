@@ -84,11 +84,10 @@ pub fn operand(pieces: &[Piece]) -> Result<(Operand, &[Piece]), Halt>
 {
     if begins(pieces, Token::Name) {
         let (column, rest) = column(pieces)?;
-        Ok((Operand::Column(column), rest))
-    } else {
-        let (literal, rest) = literal(pieces)?;
-        Ok((Operand::Literal(literal), rest))
+        return Ok((Operand::Column(column), rest));
     }
+    let (literal, rest) = literal(pieces)?;
+    Ok((Operand::Literal(literal), rest))
 }
 
 impl Item for ColumnRef {

@@ -1,7 +1,9 @@
 // Statements. Each function gives what it read and the pieces behind it.
 
 ghost use Rattle.std.specs.Prelude.{◌≡◌, [], ◌∷◌};
+ghost use Rattle.hy_ast.specs.Trees as tree;
 ghost use Rattle.hy_ast.specs.Trees.{statement_of};
+ghost use Rattle.hy_token.specs.declared.Keyword.TheVariants as words;
 ghost use Rattle.hy_parse.specs.Reading.{Gives, piece_at, kind_of, column_def_at, create_at, insert_at, session_at, begin_at, alone_at, select_at};
 ghost use Rattle.hy_parse.specs.Reading.{savepoint_at, release_at, back_at, rollback_at};
 ghost use Rattle.hy_parse.specs.Reading.{update_at, delete_at, turns_at, schedule_at, body_at, read_statement};
@@ -20,24 +22,6 @@ use std::alloc::Global;
 const CREATE: Token = Token::Reserved(Keyword::Create);
 
 const INSERT: Token = Token::Reserved(Keyword::Insert);
-
-const SESSION: Token = Token::Reserved(Keyword::Session);
-
-const BEGIN: Token = Token::Reserved(Keyword::Begin);
-
-const SELECT: Token = Token::Reserved(Keyword::Select);
-
-const UPDATE: Token = Token::Reserved(Keyword::Update);
-
-const DELETE: Token = Token::Reserved(Keyword::Delete);
-
-const SCHEDULE: Token = Token::Reserved(Keyword::Schedule);
-
-const ROLLBACK: Token = Token::Reserved(Keyword::Rollback);
-
-const SAVEPOINT: Token = Token::Reserved(Keyword::Savepoint);
-
-const RELEASE: Token = Token::Reserved(Keyword::Release);
 
 const TO: Token = Token::Reserved(Keyword::To);
 
@@ -124,7 +108,7 @@ fn insert(alloc: Global, pieces: &[Piece]) -> Result<(Statement, &[Piece]), Halt
 fn session(pieces: &[Piece]) -> Result<(Statement, &[Piece]), Halt>
     ensures { Gives (λ x. (statement_of x.0, x.1.now)) result (session_at pieces.now) }
 {
-    let rest = expect(pieces, &[SESSION])?;
+    let rest = expect(pieces, &[Token::Reserved(Keyword::Session)])?;
     let (name, rest) = name(rest)?;
     Ok((Statement::Session { name }, rest))
 }
@@ -134,7 +118,7 @@ fn session(pieces: &[Piece]) -> Result<(Statement, &[Piece]), Halt>
 fn begin(pieces: &[Piece]) -> Result<(Statement, &[Piece]), Halt>
     ensures { Gives (λ x. (statement_of x.0, x.1.now)) result (begin_at pieces.now) }
 {
-    let rest = expect(pieces, &[BEGIN])?;
+    let rest = expect(pieces, &[Token::Reserved(Keyword::Begin)])?;
     let (read_only, rest) = flag(
         rest,
         Token::Reserved(Keyword::Read),
@@ -143,17 +127,22 @@ fn begin(pieces: &[Piece]) -> Result<(Statement, &[Piece]), Halt>
     Ok((Statement::Begin { read_only }, rest))
 }
 
-/// A statement of one word.
+/// COMMIT.
 #[tactic(auto, unfolding(crate::specs::Reading::alone_at))]
-fn alone<'a>(
-    word: Keyword,
-    statement: Statement,
-    pieces: &'a [Piece],
-) -> Result<(Statement, &'a [Piece]), Halt<'a>>
-    ensures { Gives (λ x. (statement_of x.0, x.1.now)) result (alone_at word (statement_of statement) pieces.now) }
+fn commit(pieces: &[Piece]) -> Result<(Statement, &[Piece]), Halt>
+    ensures { Gives (λ x. (statement_of x.0, x.1.now)) result (alone_at words.Commit tree.Commit pieces.now) }
 {
-    let rest = expect(pieces, &[Token::Reserved(word)])?;
-    Ok((statement, rest))
+    let rest = expect(pieces, &[Token::Reserved(Keyword::Commit)])?;
+    Ok((Statement::Commit, rest))
+}
+
+/// END.
+#[tactic(auto, unfolding(crate::specs::Reading::alone_at))]
+fn end(pieces: &[Piece]) -> Result<(Statement, &[Piece]), Halt>
+    ensures { Gives (λ x. (statement_of x.0, x.1.now)) result (alone_at words.End tree.End pieces.now) }
+{
+    let rest = expect(pieces, &[Token::Reserved(Keyword::End)])?;
+    Ok((Statement::End, rest))
 }
 
 /// SAVEPOINT.
@@ -161,7 +150,7 @@ fn alone<'a>(
 fn savepoint(pieces: &[Piece]) -> Result<(Statement, &[Piece]), Halt>
     ensures { Gives (λ x. (statement_of x.0, x.1.now)) result (savepoint_at pieces.now) }
 {
-    let rest = expect(pieces, &[SAVEPOINT])?;
+    let rest = expect(pieces, &[Token::Reserved(Keyword::Savepoint)])?;
     let (name, rest) = name(rest)?;
     Ok((Statement::Savepoint { name }, rest))
 }
@@ -171,7 +160,7 @@ fn savepoint(pieces: &[Piece]) -> Result<(Statement, &[Piece]), Halt>
 fn release(pieces: &[Piece]) -> Result<(Statement, &[Piece]), Halt>
     ensures { Gives (λ x. (statement_of x.0, x.1.now)) result (release_at pieces.now) }
 {
-    let rest = expect(pieces, &[RELEASE])?;
+    let rest = expect(pieces, &[Token::Reserved(Keyword::Release)])?;
     let (name, rest) = name(rest)?;
     Ok((Statement::Release { name }, rest))
 }
@@ -194,7 +183,7 @@ fn back(pieces: &[Piece]) -> Result<(Statement, &[Piece]), Halt>
 fn rollback(pieces: &[Piece]) -> Result<(Statement, &[Piece]), Halt>
     ensures { Gives (λ x. (statement_of x.0, x.1.now)) result (rollback_at pieces.now) }
 {
-    let rest = expect(pieces, &[ROLLBACK])?;
+    let rest = expect(pieces, &[Token::Reserved(Keyword::Rollback)])?;
     back(rest)
 }
 
@@ -203,7 +192,7 @@ fn rollback(pieces: &[Piece]) -> Result<(Statement, &[Piece]), Halt>
 fn select(alloc: Global, pieces: &[Piece]) -> Result<(Statement, &[Piece]), Halt>
     ensures { Gives (λ x. (statement_of x.0, x.1.now)) result (select_at pieces.now) }
 {
-    let rest = expect(pieces, &[SELECT])?;
+    let rest = expect(pieces, &[Token::Reserved(Keyword::Select)])?;
     let (query, rest) = query(alloc, rest)?;
     Ok((Statement::Select(query), rest))
 }
@@ -213,7 +202,7 @@ fn select(alloc: Global, pieces: &[Piece]) -> Result<(Statement, &[Piece]), Halt
 fn update(alloc: Global, pieces: &[Piece]) -> Result<(Statement, &[Piece]), Halt>
     ensures { Gives (λ x. (statement_of x.0, x.1.now)) result (update_at pieces.now) }
 {
-    let rest = expect(pieces, &[UPDATE])?;
+    let rest = expect(pieces, &[Token::Reserved(Keyword::Update)])?;
     let (table, rest) = name(rest)?;
     let rest = expect(rest, &[Token::Reserved(Keyword::Set)])?;
     let (sets, rest) = assignments(alloc, rest)?;
@@ -231,7 +220,7 @@ fn update(alloc: Global, pieces: &[Piece]) -> Result<(Statement, &[Piece]), Halt
 fn delete(alloc: Global, pieces: &[Piece]) -> Result<(Statement, &[Piece]), Halt>
     ensures { Gives (λ x. (statement_of x.0, x.1.now)) result (delete_at pieces.now) }
 {
-    let rest = expect(pieces, &[DELETE])?;
+    let rest = expect(pieces, &[Token::Reserved(Keyword::Delete)])?;
     let (table, rest) = from_table(rest)?;
     let (condition, rest) = where_clause(alloc, rest)?;
     Ok((Statement::Delete { table, condition }, rest))
@@ -260,7 +249,7 @@ fn turns(alloc: Global, pieces: &[Piece]) -> Result<(Seq<Turn>, &[Piece]), Halt>
 fn schedule(alloc: Global, pieces: &[Piece]) -> Result<(Statement, &[Piece]), Halt>
     ensures { Gives (λ x. (statement_of x.0, x.1.now)) result (schedule_at pieces.now) }
 {
-    let rest = expect(pieces, &[SCHEDULE])?;
+    let rest = expect(pieces, &[Token::Reserved(Keyword::Schedule)])?;
     let (turns, rest) = turns(alloc, rest)?;
     Ok((Statement::Schedule { turns }, rest))
 }
@@ -270,41 +259,36 @@ fn schedule(alloc: Global, pieces: &[Piece]) -> Result<(Statement, &[Piece]), Ha
 fn body(alloc: Global, pieces: &[Piece]) -> Result<(Statement, &[Piece]), Halt>
     ensures { Gives (λ x. (statement_of x.0, x.1.now)) result (body_at pieces.now) }
 {
-    if begins(pieces, CREATE) {
-        create(alloc, pieces)
-    } else if begins(pieces, INSERT) {
-        insert(alloc, pieces)
-    } else if begins(pieces, SESSION) {
-        session(pieces)
-    } else if begins(pieces, BEGIN) {
-        begin(pieces)
-    } else if begins(pieces, Token::Reserved(Keyword::Commit)) {
-        alone(Keyword::Commit, Statement::Commit, pieces)
-    } else if begins(pieces, ROLLBACK) {
-        rollback(pieces)
-    } else if begins(pieces, SELECT) {
-        select(alloc, pieces)
-    } else if begins(pieces, UPDATE) {
-        update(alloc, pieces)
-    } else if begins(pieces, DELETE) {
-        delete(alloc, pieces)
-    } else if begins(pieces, SCHEDULE) {
-        schedule(alloc, pieces)
-    } else if begins(pieces, SAVEPOINT) {
-        savepoint(pieces)
-    } else if begins(pieces, RELEASE) {
-        release(pieces)
-    } else {
-        alone(Keyword::End, Statement::End, pieces)
+    let [piece, ..] = pieces else {
+        return end(pieces);
+    };
+    match piece.token {
+        Token::Reserved(Keyword::Create) => create(alloc, pieces),
+        Token::Reserved(Keyword::Insert) => insert(alloc, pieces),
+        Token::Reserved(Keyword::Session) => session(pieces),
+        Token::Reserved(Keyword::Begin) => begin(pieces),
+        Token::Reserved(Keyword::Commit) => commit(pieces),
+        Token::Reserved(Keyword::Rollback) => rollback(pieces),
+        Token::Reserved(Keyword::Select) => select(alloc, pieces),
+        Token::Reserved(Keyword::Update) => update(alloc, pieces),
+        Token::Reserved(Keyword::Delete) => delete(alloc, pieces),
+        Token::Reserved(Keyword::Schedule) => schedule(alloc, pieces),
+        Token::Reserved(Keyword::Savepoint) => savepoint(pieces),
+        Token::Reserved(Keyword::Release) => release(pieces),
+        _ => end(pieces),
     }
 }
 
-/// A statement with its `;`.
+/// Puts a statement with its `;` where the caller has room for it, since it is large to hand on.
 #[tactic(auto, unfolding(crate::specs::Reading::read_statement))]
-pub fn statement(alloc: Global, pieces: &[Piece]) -> Result<(Statement, &[Piece]), Halt>
-    ensures { Gives (λ x. (statement_of x.0, x.1.now)) result (read_statement pieces.now) }
+pub fn statement<'a>(
+    alloc: Global,
+    pieces: &'a [Piece],
+    into: &mut Statement,
+) -> Result<&'a [Piece], Halt<'a>>
+    ensures { Gives (λ rest. (statement_of into.new, rest.now)) result (read_statement pieces.now) }
 {
     let (statement, rest) = body(alloc, pieces)?;
-    let rest = expect(rest, &[Token::Sign(Sign::Semicolon)])?;
-    Ok((statement, rest))
+    *into = statement;
+    expect(rest, &[Token::Sign(Sign::Semicolon)])
 }

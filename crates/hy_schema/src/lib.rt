@@ -160,10 +160,8 @@ impl Catalog {
     pub fn find(&self, name: &[u8]) -> Option<u32>
         ensures { result ≡ table_number self.now name.now }
     {
-        match self.tables.get_index_of(name) {
-            Some(number) => Some(number as u32),
-            None => None,
-        }
+        let number = table_index(self.tables.values().as_slice(), name)?;
+        Some(number as u32)
     }
 
     /// The table of this number.
@@ -189,6 +187,16 @@ impl Catalog {
     {
         self.tables.len()
     }
+}
+
+/// The index of the table of this name among a few: they are looked at one after the other, which takes less than a hash.
+fn table_index(tables: &[TableDef], name: &[u8]) -> Option<usize>
+    ensures number { result ≡ table_number tables.now name.now }
+    ensures within { IfSome result (λ number. number < length tables.now) }
+{
+    tables
+        .iter()
+        .position(|table| name == table.name.as_bytes())
 }
 
 impl From<AllocError> for AddError {

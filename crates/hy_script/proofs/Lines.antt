@@ -1,8 +1,7 @@
 -- The line of an offset.
 use Rattle.std.specs.Prelude.{IfOk}
 use Rattle.std.proofs.Common.{◌≡◌, ℕ, ◌<◌, ◌≤◌, List, Result, Ok, Err, length, take}
-use Rattle.hy_ast.specs.declared.Statement as boxed_statement
-use Rattle.hy_ast.specs.Trees.{Statement, statement_of}
+use Rattle.hy_ast.specs.Trees.{Statement}
 use Rattle.hy_parse.specs.declared.ParseError.{ParseError}
 use Rattle.hy_parse.specs.Parsing.{Gives, parsed}
 use Rattle.std.proofs.lemmas.List.{take_all}
@@ -12,8 +11,8 @@ pub whole : (script : List ℕ) (at : ℕ) → length script ≤ at → take at 
 whole script at h = take_all at script h
 
 -- what is parsed ends behind the offset where it begins, within the script
-pub moves : (script : List ℕ) (at : ℕ) (result : Result (boxed_statement.Statement × ℕ) ParseError) → at ≤ length script
+pub moves : (script : List ℕ) (at : ℕ) (statement : Statement) (result : Result ℕ ParseError) → at ≤ length script
     → ((bytes : List ℕ) (from : ℕ) (s : Statement) (end : ℕ) → from ≤ length bytes → parsed bytes from ≡ Ok (s, end) → (from < end) × (end ≤ length bytes))
-    → Gives (λ (found : boxed_statement.Statement × ℕ). (statement_of found.0, found.1)) result (parsed script at) → IfOk result (λ found. (at < found.1) × (found.1 ≤ length script))
-moves script at (Ok found) inside law gives = law script at (statement_of found.0) found.1 inside gives
-moves script at (Err error) inside law gives = tt
+    → Gives (λ (end : ℕ). (statement, end)) result (parsed script at) → IfOk result (λ end. (at < end) × (end ≤ length script))
+moves script at statement (Ok end) inside law gives = law script at statement end inside gives
+moves script at statement (Err error) inside law gives = tt

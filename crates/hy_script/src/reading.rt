@@ -6,6 +6,7 @@ ghost use Rattle.hy_script.specs.Refusals.{refusal_in, insert_code_at};
 ghost use Rattle.hy_script.specs.Growing.{nothing, after, with_insert, script_of, Takes};
 ghost use Rattle.hy_script.specs.Reading.{may_stand_at, next_at, judged, taken, unless_refused, is_last_of, is_feed, at_end_of, line_at, Comes, Goes, Ends};
 ghost use Rattle.hy_script.specs.declared.Script.{Script};
+ghost use Rattle.hy_script.specs.declared.reading.Halt.{Halt};
 ghost use Rattle.hy_token.specs.Token.{token_at};
 ghost use Rattle.hy_parse.specs.Parsing.{Gives, parsed};
 
@@ -13,7 +14,7 @@ use crate::Input;
 use crate::codes::Code;
 use crate::sofar::{Section, SoFar};
 use hy_ast::{Literal, Statement};
-use hy_parse::{ParseError, Piece, parse_statement, parsing_moves_on};
+use hy_parse::{ParseError, Piece, parse_into, parsing_moves_on};
 use hy_token::{Keyword, Span, Token, next};
 use std::alloc::{AllocError, Global};
 
@@ -40,6 +41,13 @@ impl From<AllocError> for Halt {
     fn from(_: AllocError) -> Halt {
         Halt::OutOfMemory
     }
+}
+
+/// The halt that a refusal is.
+fn refused(code: Code, at: usize) -> Halt
+    ensures { result ≡ Halt.Refused code at }
+{
+    Halt::Refused { code, at }
 }
 
 /// What follows a statement.
@@ -159,7 +167,7 @@ impl SoFar {
         ensures goes { IfOk result (λ step. Goes at (length input.now.script.now) step) }
     {
         if let Some(code) = self.take(alloc, input, ast)? {
-            return Err(Halt::Refused { code, at });
+            return Err(refused(code, at));
         }
         if is_last(ast) {
             at_end(input.script, end)?;
@@ -182,17 +190,11 @@ impl SoFar {
             (parsed input.now.script.now first.span.start)) input.now.options.now self.new }
         ensures goes { IfOk result (λ step. Goes first.span.start (length input.now.script.now) step) }
     {
-        let at = first.span.start;
-        match parse(alloc, input.script, first, room) {
-            Ok((ast, end)) => self.accept(alloc, input, &ast, at, end),
-            Err(ParseError::Syntax { at }) => Err(Halt::Refused {
-                code: Code::Syntax,
-                at,
-            }),
-            Err(ParseError::BadToken { at }) => Err(Halt::Refused {
-                code: Code::BadToken,
-                at,
-            }),
+        let mut ast = Statement::End;
+        match parse(alloc, input.script, first, room, &mut ast) {
+            Ok(end) => self.accept(alloc, input, &ast, first.span.start, end),
+            Err(ParseError::Syntax { at }) => Err(refused(Code::Syntax, at)),
+            Err(ParseError::BadToken { at }) => Err(refused(Code::BadToken, at)),
             Err(ParseError::OutOfMemory) => Err(Halt::OutOfMemory),
         }
     }
@@ -210,48 +212,37 @@ impl SoFar {
         ensures goes { IfOk result (λ step. Goes at (length input.now.script.now) step) }
     {
         match next(input.script, at) {
-            Err(bad) => Err(Halt::Refused {
-                code: Code::BadToken,
-                at: bad.at,
-            }),
+            Err(bad) => Err(refused(Code::BadToken, bad.at)),
             Ok((Token::Reserved(word), span)) => {
                 if self.section.may_stand(word) {
                     let token = Token::Reserved(word);
                     self.statement_at(alloc, input, Piece { token, span }, room)
                 } else {
-                    Err(Halt::Refused {
-                        code: Code::Syntax,
-                        at: span.start,
-                    })
+                    Err(refused(Code::Syntax, span.start))
                 }
             }
-            Ok((Token::End, span)) => Err(Halt::Refused {
-                code: Code::NoEnd,
-                at: span.start,
-            }),
-            Ok((_, span)) => Err(Halt::Refused {
-                code: Code::Syntax,
-                at: span.start,
-            }),
+            Ok((Token::End, span)) => Err(refused(Code::NoEnd, span.start)),
+            Ok((_, span)) => Err(refused(Code::Syntax, span.start)),
         }
     }
 }
 
-/// The statement that begins with this token, and where it ends.
+/// Reads the statement that begins with this token, and gives where it ends.
 fn parse(
     alloc: Global,
     script: &[u8],
     first: Piece,
     room: &mut Vec<Piece>,
-) -> Result<(Statement, usize), ParseError>
+    into: &mut Statement,
+) -> Result<usize, ParseError>
     requires in_range { first.span.start ≤ length script.now }
     requires found { token_at script.now first.span.start ≡ Ok (first.token, first.span) }
-    ensures statement { Gives (λ found. (statement_of found.0, found.1)) result (parsed script.now first.span.start) }
-    ensures moves { IfOk result (λ found. (first.span.start < found.1) × (found.1 ≤ length script.now)) }
+    ensures statement { Gives (λ end. (statement_of into.new, end)) result (parsed script.now first.span.start) }
+    ensures moves { IfOk result (λ end. (first.span.start < end) × (end ≤ length script.now)) }
 {
     parsing_moves_on();
     let Piece { token, span } = first;
-    parse_statement(alloc, script, span.start, Ok((token, span)), room)
+    parse_into(alloc, script, span.start, Ok((token, span)), room, into)
 }
 
 /// Whether a statement is END.
@@ -267,15 +258,9 @@ fn at_end(script: &[u8], end: usize) -> Result<(), Halt>
     ensures { (read : Script) → Ends result (at_end_of (token_at script.now end) read) read }
 {
     match next(script, end) {
-        Err(bad) => Err(Halt::Refused {
-            code: Code::NoEnd,
-            at: bad.at,
-        }),
+        Err(bad) => Err(refused(Code::NoEnd, bad.at)),
         Ok((Token::End, _)) => Ok(()),
-        Ok((_, span)) => Err(Halt::Refused {
-            code: Code::NoEnd,
-            at: span.start,
-        }),
+        Ok((_, span)) => Err(refused(Code::NoEnd, span.start)),
     }
 }
 

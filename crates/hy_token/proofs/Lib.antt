@@ -1,6 +1,7 @@
 pub mod Blanks
-pub mod ByLetter
+pub mod ByShape
 pub mod Progress
 pub mod RunSteps
 pub mod Texts
 pub mod FirstTwo
+pub mod WordBytes

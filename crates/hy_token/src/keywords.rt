@@ -1,61 +1,72 @@
 // The reserved words and their spelling.
 
-ghost use Rattle.std.specs.Prelude.{◌≡◌, find};
+ghost use Rattle.std.specs.Prelude.{◌≡◌};
+ghost use Rattle.std.specs.Char.{to_ascii_lowercase};
 ghost use Rattle.hy_token.specs.Keyword.{word_spelling, same_but_case, keyword_of};
-ghost use Rattle.hy_token.specs.Letters.{beginning_with};
+ghost use Rattle.hy_token.specs.Letters.{candidate};
 
 use crate::Keyword;
 
-/// The reserved words that begin with a letter, given in lower case.
-fn beginning_with(letter: u8) -> &'static [Keyword]
-    ensures { result.now ≡ beginning_with letter }
+/// The one reserved word that a word of this length with these first two bytes can be, in any ASCII case.
+fn candidate(len: usize, first: u8, second: u8) -> Option<Keyword>
+    ensures { result ≡ candidate len (to_ascii_lowercase first) (to_ascii_lowercase second) }
 {
-    match letter {
-        b'a' => &[Keyword::And],
-        b'b' => &[Keyword::Begin, Keyword::By],
-        b'c' => &[Keyword::Commit, Keyword::Count, Keyword::Create],
-        b'd' => &[Keyword::Delete],
-        b'e' => &[Keyword::End],
-        b'f' => &[Keyword::From],
-        b'g' => &[Keyword::Group],
-        b'i' => &[Keyword::Insert, Keyword::Int, Keyword::Into, Keyword::Is],
-        b'j' => &[Keyword::Join],
-        b'k' => &[Keyword::Key],
-        b'n' => &[Keyword::Not, Keyword::Null],
-        b'o' => &[Keyword::On, Keyword::Only, Keyword::Or],
-        b'p' => &[Keyword::Primary],
-        b'r' => &[Keyword::Read, Keyword::Release, Keyword::Rollback],
-        b's' => &[
-            Keyword::Savepoint,
-            Keyword::Schedule,
-            Keyword::Select,
-            Keyword::Session,
-            Keyword::Set,
-            Keyword::Sum,
-        ],
-        b't' => &[Keyword::Table, Keyword::Text, Keyword::To],
-        b'u' => &[Keyword::Update],
-        b'v' => &[Keyword::Values],
-        b'w' => &[Keyword::Where],
-        _ => &[],
+    match (len, first.to_ascii_lowercase(), second.to_ascii_lowercase()) {
+        (2, b'b', _) => Some(Keyword::By),
+        (2, b'i', _) => Some(Keyword::Is),
+        (2, b'o', b'n') => Some(Keyword::On),
+        (2, b'o', b'r') => Some(Keyword::Or),
+        (2, b't', _) => Some(Keyword::To),
+        (3, b'a', _) => Some(Keyword::And),
+        (3, b'e', _) => Some(Keyword::End),
+        (3, b'i', _) => Some(Keyword::Int),
+        (3, b'k', _) => Some(Keyword::Key),
+        (3, b'n', _) => Some(Keyword::Not),
+        (3, b's', b'e') => Some(Keyword::Set),
+        (3, b's', b'u') => Some(Keyword::Sum),
+        (4, b'f', _) => Some(Keyword::From),
+        (4, b'i', _) => Some(Keyword::Into),
+        (4, b'j', _) => Some(Keyword::Join),
+        (4, b'n', _) => Some(Keyword::Null),
+        (4, b'o', _) => Some(Keyword::Only),
+        (4, b'r', _) => Some(Keyword::Read),
+        (4, b't', _) => Some(Keyword::Text),
+        (5, b'b', _) => Some(Keyword::Begin),
+        (5, b'c', _) => Some(Keyword::Count),
+        (5, b'g', _) => Some(Keyword::Group),
+        (5, b't', _) => Some(Keyword::Table),
+        (5, b'w', _) => Some(Keyword::Where),
+        (6, b'c', b'o') => Some(Keyword::Commit),
+        (6, b'c', b'r') => Some(Keyword::Create),
+        (6, b'd', _) => Some(Keyword::Delete),
+        (6, b'i', _) => Some(Keyword::Insert),
+        (6, b's', _) => Some(Keyword::Select),
+        (6, b'u', _) => Some(Keyword::Update),
+        (6, b'v', _) => Some(Keyword::Values),
+        (7, b'p', _) => Some(Keyword::Primary),
+        (7, b'r', _) => Some(Keyword::Release),
+        (7, b's', _) => Some(Keyword::Session),
+        (8, b'r', _) => Some(Keyword::Rollback),
+        (8, b's', _) => Some(Keyword::Schedule),
+        (9, b's', _) => Some(Keyword::Savepoint),
+        _ => None,
     }
 }
 
-// Whether two words are the same but for the case of ASCII letters.
+/// Whether two words are the same but for the case of ASCII letters.
 fn is_same_but_case(a: &[u8], b: &[u8]) -> bool
     ensures { result ≡ same_but_case a.now b.now }
 {
-    a.eq_ignore_ascii_case(b)
-}
-
-/// The first of these that `word` is, in any ASCII case.
-fn spelled(keywords: &[Keyword], word: &[u8]) -> Option<Keyword>
-    ensures { result ≡ find (λ k. same_but_case (word_spelling k) word.now) keywords.now }
-{
-    keywords
-        .iter()
-        .copied()
-        .find(|k| is_same_but_case(k.spelling().as_bytes(), word))
+    if a.len() != b.len() {
+        return false;
+    }
+    for i in 0..a.len() {
+        // Most words are written in capital letters.
+        if a[i] != b[i] && !a[i].eq_ignore_ascii_case(&b[i]) {
+            return false;
+        }
+    }
+    true
 }
 
 impl Keyword {
@@ -108,7 +119,10 @@ impl Keyword {
     pub fn from_word(word: &[u8]) -> Option<Keyword>
         ensures { result ≡ keyword_of word.now }
     {
-        let first = word.first()?;
-        spelled(beginning_with(first.to_ascii_lowercase()), word)
+        let [first, second, ..] = word else {
+            return None;
+        };
+        let keyword = candidate(word.len(), *first, *second)?;
+        is_same_but_case(keyword.spelling().as_bytes(), word).then_some(keyword)
     }
 }

@@ -4,8 +4,8 @@ ghost use Rattle.std.specs.Prelude.{◌≡◌, IfOk, OnOk};
 ghost use Rattle.hy_ast.specs.Trees.{statement_of};
 ghost use Rattle.hy_bind.specs.Statements.{HasNames};
 ghost use Rattle.hy_script.specs.declared.sofar.Section.TheVariants as Section;
-ghost use Rattle.hy_script.specs.Refusals.{begin_code_at, session_code, standing_of, statement_code, statement_code_at};
-ghost use Rattle.hy_script.specs.Growing.{all_sessions, and_bound, begun, closed, with_session, with_statement, Takes};
+ghost use Rattle.hy_script.specs.Refusals.{begin_code_at, session_code, statement_code_at};
+ghost use Rattle.hy_script.specs.Growing.{all_sessions, begun, closed, with_session, with_statement, Takes};
 
 use crate::NamedTxns;
 use crate::codes::{Code, code_if, first_of};
@@ -118,36 +118,18 @@ impl SoFar {
         ensures { IfOk result (λ code. Takes code (statement_code_at script.now self.old self.old.section (statement_of ast.now)) self.new
             (with_statement script.now self.old (statement_of ast.now))) }
     {
-        match mem::replace(&mut self.section, Section::Scheduled) {
-            Section::Within(session, txn) => self.statement_of(alloc, script, ast, session, txn),
-            section => {
-                self.section = section;
-                Ok(None)
+        match &mut self.section {
+            Section::Within(_, txn) => {
+                match judge(alloc, script, &self.catalog, txn.standing(), ast)? {
+                    Ok(bound) => {
+                        keep_open(&mut txn.savepoints, &bound)?;
+                        txn.statements.push(bound)?;
+                        Ok(None)
+                    }
+                    Err(code) => Ok(Some(code)),
+                }
             }
-        }
-    }
-
-    /// A statement of this transaction, which was taken out of its session.
-    fn statement_of(
-        &mut self,
-        alloc: Global,
-        script: &[u8],
-        ast: &Statement,
-        session: NamedTxns,
-        mut txn: OpenTxn,
-    ) -> Result<Option<Code>, AllocError>
-        requires { HasNames (statement_of ast.now) }
-        ensures { IfOk result (λ code. Takes code (statement_code script.now self.old.catalog (standing_of txn) (statement_of ast.now)) self.new
-            (record self.old { section = and_bound (Section.Within session txn) script.now self.old.catalog (statement_of ast.now) })) }
-    {
-        match judge(alloc, script, &self.catalog, txn.standing(), ast)? {
-            Ok(bound) => {
-                keep_open(&mut txn.savepoints, &bound)?;
-                txn.statements.push(bound)?;
-                self.section = Section::Within(session, txn);
-                Ok(None)
-            }
-            Err(code) => Ok(Some(code)),
+            _ => Ok(None),
         }
     }
 }

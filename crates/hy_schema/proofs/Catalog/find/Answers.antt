@@ -1,16 +1,11 @@
-use Rattle.std.proofs.Common.{ap, ◌∙◌}
-use Rattle.hy_schema.specs.Names.{table_number}
-use Rattle.hy_schema.proofs.Entries.{index_is_number}
+use Rattle.std.proofs.Common.{◌≡◌, length, map, rules, arith}
+use Rattle.std.proofs.lemmas.List.{length-map}
 use Rattle.hy_schema.proofs.Catalog.find.Goals as goal
 
-pub returns-in-Some : goal.returns-in-Some
-returns-in-Some c =
-    c.in-Some.ensures.index
-    ∙ index_is_number c.self.inside.tables.entries c.args.name.now c.self.invariant.0
-    ∙ ap (λ tables. table_number tables c.args.name.now) c.self.view_is
-
-pub returns-in-None : goal.returns-in-None
-returns-in-None c =
-    c.in-None.ensures.index
-    ∙ index_is_number c.self.inside.tables.entries c.args.name.now c.self.invariant.0
-    ∙ ap (λ tables. table_number tables c.args.name.now) c.self.view_is
+-- what was found is below how many tables there are, and these are at most 16
+pub overflow_cast-result : goal.overflow_cast-result
+overflow_cast-result c =
+    let entries = c.self.inside.tables.entries in
+    let same : length c.as_slice.result.now ≡ length (map (λ entry. entry.1) entries) = search rules in
+    let few = length-map entries (λ entry. entry.1) in
+    omega (arith, c.in_ok-number.ensures.within, same, few, c.self.invariant.1)

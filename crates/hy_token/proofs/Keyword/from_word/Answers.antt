@@ -1,16 +1,18 @@
-use Rattle.std.proofs.Common.{ap, ◌∙◌}
-use Rattle.std.specs.Prelude.{find}
-use Rattle.hy_token.specs.Keyword.{same_but_case, word_spelling}
-use Rattle.hy_token.specs.Letters.{beginning_with}
-use Rattle.hy_token.proofs.ByLetter.{no_word, of_its_letter}
+use Rattle.std.proofs.Common.{ap, ◌∙◌, None, Some}
+use Rattle.std.specs.Bool.{then_some}
+use Rattle.hy_token.specs.Keyword.{same_but_case}
+use Rattle.hy_token.proofs.ByShape.{of_its_shape, too_short}
 use Rattle.hy_token.proofs.Keyword.from_word.Goals as goal
 
-pub returns-in_err-first : goal.returns-in_err-first
-returns-in_err-first c = c.from_residual.ensures ∙ no_word c.args.word.now c.in_err-first.ensures.value
+pub returns-in_default : goal.returns-in_default
+returns-in_default c = too_short c.args.word.now c.in_default.len_below
+
+pub returns-in_err-keyword : goal.returns-in_err-keyword
+returns-in_err-keyword c = c.from_residual.ensures ∙ of_its_shape c.args.word.now None c.in-len2-up.len_at_least c.in_err-keyword.ensures
 
 pub returns : goal.returns
 returns c =
     let word = c.args.word.now in
-    let lower = c.to_ascii_lowercase.ensures.value in
-    c.spelled.ensures ∙ ap (find (λ k. same_but_case (word_spelling k) word)) (c.beginning_with.ensures ∙ ap beginning_with lower)
-    ∙ of_its_letter word c.in_ok-first.first.now c.in_ok-first.ensures.value
+    let keyword = c.in_ok-keyword.keyword in
+    let same = c.is_same_but_case.ensures ∙ ap (λ spelling. same_but_case spelling word) (c.as_bytes.ensures.value ∙ c.spelling.ensures) in
+    c.then_some.ensures ∙ ap (λ t. then_some t keyword) same ∙ of_its_shape word (Some keyword) c.in-len2-up.len_at_least c.in_ok-keyword.ensures

@@ -1,9 +1,0 @@
-use Rattle.std.proofs.Common.{◌≡◌, drop}
-use Rattle.hy_bind.specs.Refusals.{first_of}
-use Rattle.hy_bind.specs.Scope.{scope_of}
-use Rattle.hy_bind.specs.Statements.{columns_fault}
-use Rattle.hy_bind.proofs.listed.columns_fault.Given as goal
-
--- what is left completes the refusal
-abbrev pub invariant-loop-reference : goal.invariant-loop-reference
-invariant-loop-reference l = first_of l.fault (columns_fault (scope_of l.scope) (drop l.reference-index l.references)) ≡ columns_fault (scope_of l.scope) l.references

@@ -224,4 +224,5 @@ def main():
         tell(name, *paths)
 
 
-main()
+if __name__ == "__main__":
+    main()

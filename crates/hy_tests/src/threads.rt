@@ -137,6 +137,48 @@ impl Gate for OldReader {
     }
 }
 
+/// Session 0 stands between its entry and its leave until session 1's BEGIN has come back unanswered: it was blocked.
+#[derive(Drop)]
+struct BlockedBegin {
+    /// The first session's entry was made.
+    has_entered: Flag,
+    /// The other session's BEGIN was blocked.
+    was_blocked: Flag,
+    /// A wait took too many turns.
+    is_late: Flag,
+}
+
+impl BlockedBegin {
+    fn new() -> BlockedBegin {
+        BlockedBegin {
+            has_entered: Flag::new(),
+            was_blocked: Flag::new(),
+            is_late: Flag::new(),
+        }
+    }
+
+    fn wait_for(&self, flag: &Flag) {
+        if !flag.wait() {
+            self.is_late.raise();
+        }
+    }
+}
+
+impl Gate for BlockedBegin {
+    fn pass(&self, point: &Point) {
+        match (point.session, point.statement, point.moment) {
+            // The first visit that its COMMIT makes enters it; those behind it wait for nothing.
+            (0, 2, Moment::After) if !point.answered => {
+                self.has_entered.raise();
+                self.wait_for(&self.was_blocked);
+            }
+            (1, 0, Moment::Before) => self.wait_for(&self.has_entered),
+            (1, 0, Moment::After) if !point.answered => self.was_blocked.raise(),
+            _ => {}
+        }
+    }
+}
+
 /// The status and the text of a run on threads of two accounts and this rest of a script. A table has so many chunks of so
 /// many rows.
 fn ran<T: Threads + Wait + Sync + AllocGlobal, G: Gate>(
@@ -225,6 +267,24 @@ SESSION b; BEGIN; UPDATE acc SET bal = 0 WHERE id = 2; COMMIT;";
         text.as_slice(),
         b"txn a.1 start 0\nvalue 200\nread\ntxn b.1 start 0\nupdated 1\ncommitted 0\nwrote acc 1\n\
 order 1\nentry 0 b.1\nchange acc 1 from 2|100 to 2|0\ntable acc 2\nrow 1|100\nrow 2|0\nend\n"
+            .as_slice()
+    );
+    Ok(())
+}
+
+#[test]
+fn a_blocked_session_goes_on_once_the_other_has_left(rt: HostRuntime) -> Result<(), Fail> {
+    let sessions = "SESSION c; BEGIN; UPDATE acc SET bal = 90 WHERE id = 1; COMMIT; \
+SESSION d; BEGIN; UPDATE acc SET bal = 110 WHERE id = 2; COMMIT;";
+    let blocked = BlockedBegin::new();
+    let (status, text) = ran(&rt, &blocked, ("1", "4"), sessions)?;
+    assert_eq!(rt; status, 0);
+    assert!(rt; blocked.was_blocked.is_raised());
+    assert!(rt; !blocked.is_late.is_raised());
+    assert_eq!(rt;
+        text.as_slice(),
+        b"txn c.1 start 0\nupdated 1\ncommitted 0\nwrote acc 0\ntxn d.1 start 1\nupdated 1\ncommitted 1\nwrote acc 1\n\
+order 2\nentry 0 c.1\nchange acc 0 from 1|100 to 1|90\nentry 1 d.1\nchange acc 1 from 2|100 to 2|110\ntable acc 2\nrow 1|90\nrow 2|110\nend\n"
             .as_slice()
     );
     Ok(())

@@ -1,5 +1,5 @@
 -- A give keeps the rule where it changes nothing, or by an event.
-use Rattle.std.proofs.Common.{◌≡◌, ◌⊎◌, ℕ, ◌<◌, arith, refl, sym, ap, ◌∙◌, subst, inl, inr, Option, Some}
+use Rattle.std.proofs.Common.{◌≡◌, ◌⊎◌, ℕ, ◌*◌, ◌<◌, arith, refl, sym, ap, ◌∙◌, subst, inl, inr, Option, Some}
 use Rattle.std.proofs.Common.{List, [], ◌∷◌, length, set, length-set, get_or-set_same}
 use mathlib.Core.Option.{none, some, some-injective}
 use lib.ListN.{get_elem?}
@@ -30,10 +30,10 @@ module _ {S D : Type 0} (fact : List D → List S → Type 0) where
       let session' : set sessions i t' ≡ sessions = ap (set sessions i) (same_t ∙ e.0) ∙ set_again sessions i s at_s in
       subst (λ (z : List D × List S). fact z.0 z.1) (λ j. (sym part j, sym session' j)) h
 
-  -- the word k becomes 0
+  -- the word of the part k becomes 0
   pub give_keeps : (slots id : ℕ) (me : Me (Slot D) (Knowledge S D)) (o : Visitor S D) (k : ℕ) (p : D) (y : CachePadded D) (t : S) (told : Option S)
       → me.0 ≡ Seated o → o.held ≡ Some (k, p) → me.1 ≡ (k, Some y) ∷ [] → told ≡ Some t → May o.number o.session k p t (padded_value y)
-      → Allows (IsAccounted fact) slots id me k (λ _. 0) (λ _. Gave told (step slots k 0 0 none) me 0)
+      → Allows (IsAccounted fact) slots id me (8 * k) (λ _. 0) (λ _. Gave told (step slots (8 * k) 0 0 none) me 0)
   give_keeps slots id me o k p y t told is held carried by may s r deep at' _ =
       let at : get_elem? s.views id ≡ some (Seated o) = at' ∙ ap some is in
       let mine = r.each_seat id (Seated o) at in let taken = mine.3 k p held in let word_each = r.word_each in let slot_each = r.slot_each in
@@ -43,7 +43,7 @@ module _ {S D : Type 0} (fact : List D → List S → Type 0) where
         w,
         gives,
         tt,
-        subst (λ (cs : List (ℕ × Slot D)). IsAccounted fact (stepped s k 0 id cs w gives)) (sym carried)
+        subst (λ (cs : List (ℕ × Slot D)). IsAccounted fact (stepped s (8 * k) 0 id cs w gives)) (sym carried)
             (move_keeps fact s r id o o₂ k 0 homes' (set r.parts k q) (set r.sessions o.number t) record {
               seat = at;
               number = refl;
@@ -57,7 +57,7 @@ module _ {S D : Type 0} (fact : List D → List S → Type 0) where
               other_homes = λ i other. set_else s.homes k i (some (Some y)) other;
               other_sessions = λ i other. set_else r.sessions o.number i t other;
               part_after = λ c e. inl (
-                get_or-set_same s.words k 0 0 (omega arith),
+                get_or-set_same s.words (8 * k) 0 0 (omega arith),
                 (y, set_here s.homes k (some (Some y)) (omega arith), some-injective q c (sym (set_here r.parts k q low) ∙ e)),
               );
               session_after = set_here r.sessions o.number t slow;

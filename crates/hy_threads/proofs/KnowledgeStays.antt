@@ -1,11 +1,11 @@
 -- What a seat knows stays so while another seat steps.
-use Rattle.std.proofs.Common.{◌≡◌, ◌≢◌, ◌⊎◌, ℕ, ◌+◌, arith, sym, ap, ◌∙◌, subst, ⊎_elim, Option, None, List, get_or, set, get_or-set_other}
+use Rattle.std.proofs.Common.{◌≡◌, ◌≢◌, ◌⊎◌, ℕ, ◌+◌, ◌*◌, arith, sym, ap, ◌∙◌, subst, ⊎_elim, Option, None, List, get_or, set, get_or-set_other}
 use mathlib.Core.Option.{some, some-injective}
 use lib.ListN.{get_elem?}
 use Rattle.atomic_table.proofs.Lists.{at_set, set_else}
 use Rattle.hy_threads.specs.Knowledge.{Keeper, Visitor, Knowledge, Spent, First, Seated}
 use Rattle.hy_threads.specs.Rule.{IsSo}
-use Rattle.hy_threads.proofs.Lists.{put, put_else}
+use Rattle.hy_threads.proofs.Lists.{put, put_else, words_apart}
 
 module _ {S D : Type 0} where
   abbrev visitor_or : Visitor S D → Knowledge S D → Visitor S D
@@ -37,9 +37,9 @@ module _ {S D : Type 0} where
   -- a take or a give changes the part k and the session of `me` alone, and another seat stays as it is
   pub others : (words : List ℕ) (k x me : ℕ) (parts parts' : List D) (sessions sessions' : List S) (kept : List (Option S)) (owner : ℕ → ℕ)
       (id j : ℕ) (v : Knowledge S D)
-      → owner me ≡ id → j ≢ id → (get_or words k 0 ≡ 0) ⊎ (get_or words k 0 ≡ 1 + me)
+      → owner me ≡ id → j ≢ id → (get_or words (8 * k) 0 ≡ 0) ⊎ (get_or words (8 * k) 0 ≡ 1 + me)
       → ((i : ℕ) → i ≢ k → get_elem? parts' i ≡ get_elem? parts i) → ((i : ℕ) → i ≢ me → get_elem? sessions' i ≡ get_elem? sessions i)
-      → IsSo words parts sessions kept owner j v → IsSo (set words k x) parts' sessions' kept owner j v
+      → IsSo words parts sessions kept owner j v → IsSo (set words (8 * k) x) parts' sessions' kept owner j v
   others words k x me parts parts' sessions sessions' kept owner id j Spent mine other old ps ss f = tt
   others words k x me parts parts' sessions sessions' kept owner id j (First r) mine other old ps ss f = f
   others words k x me parts parts' sessions sessions' kept owner id j (Seated o) mine other old ps ss f =
@@ -48,9 +48,9 @@ module _ {S D : Type 0} where
         ss o.number apart ∙ f.1,
         f.2,
         λ i p e. let g = f.3 i p e in
-            let away : i ≢ k = λ (same : i ≡ k). let w : get_or words k 0 ≡ 1 + o.number = ap (λ (z : ℕ). get_or words z 0) (sym same) ∙ g.1 in
-            ⊎_elim (λ (z : get_or words k 0 ≡ 0). absurd (omega arith)) (λ (z : get_or words k 0 ≡ 1 + me). absurd (apart (omega arith))) old in
-            (ps i away ∙ g.0, get_or-set_other words k i x 0 away ∙ g.1),
+            let away : i ≢ k = λ (same : i ≡ k). let w : get_or words (8 * k) 0 ≡ 1 + o.number = ap (λ (z : ℕ). get_or words (8 * z) 0) (sym same) ∙ g.1 in
+            ⊎_elim (λ (z : get_or words (8 * k) 0 ≡ 0). absurd (omega arith)) (λ (z : get_or words (8 * k) 0 ≡ 1 + me). absurd (apart (omega arith))) old in
+            (ps i away ∙ g.0, get_or-set_other words (8 * k) (8 * i) x 0 (words_apart i k away) ∙ g.1),
       )
 
   -- the first seat makes the seat of the session n, and another seat stays as it is

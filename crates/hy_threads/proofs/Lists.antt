@@ -1,5 +1,5 @@
 -- Options and lists: what stands where, and lists that have the same elements.
-use Rattle.std.proofs.Common.{◌≡◌, ◌≢◌, ◌⊎◌, ℕ, zero, suc, ◌+◌, ◌<◌, eqb, Bool, false, arith, refl, sym, ap, ◌∙◌, ⊎_elim, inl, inr, Option, Some, None}
+use Rattle.std.proofs.Common.{◌≡◌, ◌≢◌, ◌⊎◌, ℕ, zero, suc, ◌+◌, ◌*◌, ◌<◌, eqb, Bool, false, arith, refl, sym, ap, ◌∙◌, ⊎_elim, inl, inr, Option, Some, None}
 use Rattle.std.proofs.Common.{List, [], ◌∷◌, ◌++◌, map, length, replicate, get_or, set, get_or-set_other, get_or-set_same, eq-eqb, ne_eqb}
 use mathlib.Core.Logic.{dite}
 use mathlib.Core.Option.{some, some-injective, some-ne-none}
@@ -29,6 +29,10 @@ some_not_none x e = let h : ◌≡◌ {A = ℕ} 0 1 = ap is_none e in absurd (om
 pub held_inj : {D : Type 0} (k j : ℕ) (p q : D) → ◌≡◌ {A = Option (ℕ × D)} (Some (k, p)) (Some (j, q)) → (k ≡ j) × (p ≡ q)
 held_inj {D} k j p q e = let a : ℕ × D = (k, p) in let b : ℕ × D = (j, q) in let h : a ≡ b = some_inj a b e in
     (ap (λ (x : ℕ × D). x.0) h, ap (λ (x : ℕ × D). x.1) h)
+
+-- two parts have two words
+pub words_apart : (j k : ℕ) → j ≢ k → 8 * j ≢ 8 * k
+words_apart j k other e = other (omega (arith, e))
 
 pub some_at : {A : Type 0} (l : List A) (i : ℕ) → i < length l → (a : A) × (get_elem? l i ≡ some a)
 some_at [] i h = absurd (omega arith)

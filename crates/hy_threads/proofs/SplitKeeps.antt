@@ -1,5 +1,5 @@
 -- A table that was just made keeps the rule, and a split keeps it.
-use Rattle.std.proofs.Common.{◌≡◌, ◌≢◌, ℕ, zero, suc, ◌+◌, refl, sym, ap, ◌∙◌, subst, ⊎_elim, inl, inr, Option, Some, None}
+use Rattle.std.proofs.Common.{◌≡◌, ◌≢◌, ℕ, zero, suc, ◌+◌, ◌*◌, refl, sym, ap, ◌∙◌, subst, ⊎_elim, inl, inr, Option, Some, None}
 use Rattle.std.proofs.Common.{List, [], ◌∷◌, ◌++◌, map, length, get_or, set, length-set}
 use mathlib.Core.Option.{some, some-injective, some-ne-none}
 use lib.ListN.{get_elem?, length-map}
@@ -19,7 +19,7 @@ module _ {S D : Type 0} (fact : List D → List S → Type 0) where
 
   -- every word is 0, each part lies in its slot, and the first seat keeps all sessions
   pub make_keeps : (ws : List ℕ) (xs : List (Slot D)) (key : List (Snapshot S)) (parts : List D) (sessions : List S)
-      → length ws ≡ length parts → length xs ≡ length parts → ((k : ℕ) → get_or ws k 0 ≡ 0) → AreHome xs parts
+      → length ws ≡ 8 * length parts → length xs ≡ length parts → ((k : ℕ) → get_or ws k 0 ≡ 0) → AreHome xs parts
       → map kept_of key ≡ map Some sessions → fact parts sessions → IsAccounted fact (opening ws xs (first_from key))
   make_keeps ws xs key parts sessions wide deep zeros slots all h =
       let first : Knowledge S D = first_from key in record {
@@ -30,7 +30,7 @@ module _ {S D : Type 0} (fact : List D → List S → Type 0) where
         fact_holds = h;
         word_each = wide;
         slot_each = length-map xs (λ (y : Slot D). some y) ∙ deep;
-        each_part = λ k p e. let y = in_slot xs parts slots k p e in inl (zeros k, (y.0, at_map some xs k (Some y.0) y.1, y.2));
+        each_part = λ k p e. let y = in_slot xs parts slots k p e in inl (zeros (8 * k), (y.0, at_map some xs k (Some y.0) y.1, y.2));
         each_seat = λ j v e. ⊎_elim
             (λ (t : (j ≡ 0) × (first ≡ v)). subst (λ (z : Knowledge S D). IsSo ws parts sessions (map kept_of key) (λ _. 0) j z) t.1 (t.0, refl))
             (λ (t : (j ≢ 0) × (get_elem? (first ∷ []) j ≡ some v)). absurd (beyond first v j t.0 t.1)) (at_set (first ∷ []) 0 j first v e);

@@ -1,5 +1,5 @@
 -- A take keeps the rule, whether it is won or lost.
-use Rattle.std.proofs.Common.{◌≡◌, ◌≢◌, ℕ, ◌+◌, ◌<◌, eqb, arith, refl, sym, ap, ◌∙◌, subst, ⊎_elim, inl, inr, Option, Some, None}
+use Rattle.std.proofs.Common.{◌≡◌, ◌≢◌, ℕ, ◌+◌, ◌*◌, ◌<◌, eqb, arith, refl, sym, ap, ◌∙◌, subst, ⊎_elim, inl, inr, Option, Some, None}
 use Rattle.std.proofs.Common.{List, [], ◌∷◌, length, get_or, set, length-set, get_or-set_same, eq-eqb, ne_eqb}
 use mathlib.Core.Logic.{dite}
 use mathlib.Core.Option.{none, some, some-injective}
@@ -19,28 +19,28 @@ use Rattle.hy_threads.proofs.KnowledgeStays.{seated_inj, same_at, each_stays}
 use Rattle.hy_threads.proofs.Moving.{move_keeps}
 
 module _ {S D : Type 0} (fact : List D → List S → Type 0) (near : ℕ → S → D → Type 0) where
-  -- what a take at the word k owes where it found n
+  -- what a take of the part k owes where its word was n
   abbrev Owed : (slots : ℕ) (id : ℕ) (me : Me (Slot D) (Knowledge S D)) (k x n : ℕ) (s : State (Slot D) (Knowledge S D)) → Type 0
   Owed slots id me k x n s = (w : Knowledge S D) × (a : Act (Slot D)) × Valid s.homes me.1 a
-      × IsAccounted fact (stepped s k (either (eqb n 0) x n) id me.1 w a) × Took near (step slots k 0 x none) me n (w, carried_after me.1 a)
+      × IsAccounted fact (stepped s (8 * k) (either (eqb n 0) x n) id me.1 w a) × Took near (step slots (8 * k) 0 x none) me n (w, carried_after me.1 a)
 
   -- the part was at home: it is out with the seat now
   take_won : NearFollows fact near → (slots id : ℕ) (me : Me (Slot D) (Knowledge S D)) (o : Visitor S D) (k x : ℕ)
       → me.0 ≡ Seated o → o.held ≡ None → me.1 ≡ [] → x ≡ 1 + o.number
       → (s : State (Slot D) (Knowledge S D)) (r : IsAccounted fact s) → get_elem? s.views id ≡ some (Seated o) → k < length r.parts
-      → (p : D) → get_elem? r.parts k ≡ some p → get_or s.words k 0 ≡ 0 → IsHome s.words s.homes k p → Owed slots id me k x (get_or s.words k 0) s
+      → (p : D) → get_elem? r.parts k ≡ some p → get_or s.words (8 * k) 0 ≡ 0 → IsHome s.words s.homes k p → Owed slots id me k x (get_or s.words (8 * k) 0) s
   take_won law slots id me o k x is free bare x_is s r at low p p_at hit home =
-      let n : ℕ = get_or s.words k 0 in let mine = r.each_seat id (Seated o) at in let word_each = r.word_each in
+      let n : ℕ = get_or s.words (8 * k) 0 in let mine = r.each_seat id (Seated o) at in let word_each = r.word_each in
       let y : CachePadded D = home.1.0 in let q : D = padded_value y in
       let o₂ : Visitor S D = holding o k q in let w : Knowledge S D = Seated o₂ in
       let there : get_elem? r.parts k ≡ some q = p_at ∙ ap some (sym home.1.2) in
-      let word : get_or (set s.words k x) k 0 ≡ x = get_or-set_same s.words k x 0 (omega arith) in
+      let word : get_or (set s.words (8 * k) x) (8 * k) 0 ≡ x = get_or-set_same s.words (8 * k) x 0 (omega arith) in
       let in_row : id < length s.views = inside s.views id (Seated o) at in
       let empty : (j : ℕ) (c : D) → ¬ (o.held ≡ Some (j, c)) = λ j c e. some_not_none (j, c) (sym e ∙ free) in (
         w,
         takes k (Some y),
         home.1.1,
-        subst (λ b. IsAccounted fact (stepped s k (either b x n) id me.1 w (takes k (Some y)))) (sym (eq-eqb n 0 hit))
+        subst (λ b. IsAccounted fact (stepped s (8 * k) (either b x n) id me.1 w (takes k (Some y)))) (sym (eq-eqb n 0 hit))
             (move_keeps fact s r id o o₂ k x (set s.homes k none) r.parts r.sessions record {
               seat = at;
               number = refl;
@@ -62,15 +62,16 @@ module _ {S D : Type 0} (fact : List D → List S → Type 0) (near : ℕ → S 
               session_after = mine.1;
               held_after = λ j c e. let g = held_inj k j q c e in (
                 ap (get_elem? r.parts) (sym g.0) ∙ (there ∙ ap some g.1),
-                ap (λ (z : ℕ). get_or (set s.words k x) z 0) (sym g.0) ∙ (word ∙ x_is),
+                ap (λ (z : ℕ). get_or (set s.words (8 * k) x) (8 * z) 0) (sym g.0) ∙ (word ∙ x_is),
               );
             }),
-        λ o' is'. let e : o ≡ o' = seated_inj o o' (sym is ∙ is') in (
+        λ o' j is' at_j. let e : o ≡ o' = seated_inj o o' (sym is ∙ is') in let f : k ≡ j = omega (arith, at_j) in (
           (λ _. (
             y,
-            (λ i. (Seated (holding (e i) k q), (k, Some y) ∷ bare i)),
-            law r.parts r.sessions o'.number k o'.session q r.fact_holds
-                (ap (λ (z : Visitor S D). get_elem? r.sessions z.number) (sym e) ∙ (mine.1 ∙ ap (λ (z : Visitor S D). some z.session) e)) there,
+            (λ i. (Seated (holding (e i) (f i) q), (f i, Some y) ∷ bare i)),
+            law r.parts r.sessions o'.number j o'.session q r.fact_holds
+                (ap (λ (z : Visitor S D). get_elem? r.sessions z.number) (sym e) ∙ (mine.1 ∙ ap (λ (z : Visitor S D). some z.session) e))
+                (ap (get_elem? r.parts) (sym f) ∙ there),
           )),
           λ miss. absurd (miss hit),
         ),
@@ -79,14 +80,14 @@ module _ {S D : Type 0} (fact : List D → List S → Type 0) (near : ℕ → S 
   -- the part was out: nothing changes but the seat's refusals
   take_lost : (slots id : ℕ) (me : Me (Slot D) (Knowledge S D)) (o : Visitor S D) (k x : ℕ) → me.0 ≡ Seated o → o.held ≡ None
       → (s : State (Slot D) (Knowledge S D)) (r : IsAccounted fact s) → get_elem? s.views id ≡ some (Seated o)
-      → get_or s.words k 0 ≢ 0 → Owed slots id me k x (get_or s.words k 0) s
+      → get_or s.words (8 * k) 0 ≢ 0 → Owed slots id me k x (get_or s.words (8 * k) 0) s
   take_lost slots id me o k x is free s r at miss =
-      let n : ℕ = get_or s.words k 0 in let mine = r.each_seat id (Seated o) at in let w : Knowledge S D = Seated (refused o k 1) in (
+      let n : ℕ = get_or s.words (8 * k) 0 in let mine = r.each_seat id (Seated o) at in let w : Knowledge S D = Seated (refused o k 1) in (
         w,
         keeps,
         tt,
-        subst (λ b. IsAccounted fact (stepped s k (either b x n) id me.1 w keeps)) (sym (ne_eqb n 0 miss))
-            (subst (λ (ws : List ℕ). IsAccounted fact record { words = ws; homes = s.homes; views = set s.views id w }) (sym (set-get_or s.words k 0)) record {
+        subst (λ b. IsAccounted fact (stepped s (8 * k) (either b x n) id me.1 w keeps)) (sym (ne_eqb n 0 miss))
+            (subst (λ (ws : List ℕ). IsAccounted fact record { words = ws; homes = s.homes; views = set s.views id w }) (sym (set-get_or s.words (8 * k) 0)) record {
               parts = r.parts;
               sessions = r.sessions;
               kept = r.kept;
@@ -103,16 +104,16 @@ module _ {S D : Type 0} (fact : List D → List S → Type 0) (near : ℕ → S 
               each_kept = r.each_kept;
               kept_each = r.kept_each;
             }),
-        λ o' is'. let e : o ≡ o' = seated_inj o o' (sym is ∙ is') in
-            ((λ hit. absurd (miss hit)), λ _. ap (λ (z : Visitor S D). let m : Me (Slot D) (Knowledge S D) = (Seated (refused z k 1), me.1) in m) e),
+        λ o' j is' at_j. let e : o ≡ o' = seated_inj o o' (sym is ∙ is') in let f : k ≡ j = omega (arith, at_j) in
+            ((λ hit. absurd (miss hit)), λ _. (λ i. (Seated (refused (e i) (f i) 1), me.1))),
       )
 
-  -- one compare-and-exchange of the word k from 0, by the session's number and 1
+  -- one compare-and-exchange of the part's word from 0, by the session's number and 1
   pub take_keeps : NearFollows fact near → (slots id : ℕ) (me : Me (Slot D) (Knowledge S D)) (o : Visitor S D) (k x : ℕ)
       → me.0 ≡ Seated o → o.held ≡ None → me.1 ≡ [] → k < slots → x ≡ 1 + o.number
-      → Allows (IsAccounted fact) slots id me k (λ n. either (eqb n 0) x n) (Took near (step slots k 0 x none) me)
+      → Allows (IsAccounted fact) slots id me (8 * k) (λ n. either (eqb n 0) x n) (Took near (step slots (8 * k) 0 x none) me)
   take_keeps law slots id me o k x is free bare below x_is s r deep at' _ =
-      let n : ℕ = get_or s.words k 0 in let at : get_elem? s.views id ≡ some (Seated o) = at' ∙ ap some is in let slot_each = r.slot_each in
+      let n : ℕ = get_or s.words (8 * k) 0 in let at : get_elem? s.views id ≡ some (Seated o) = at' ∙ ap some is in let slot_each = r.slot_each in
       dite (ℕ_discrete n 0)
       (λ hit. let p = some_at r.parts k (omega arith) in
       ⊎_elim (λ (home : IsHome s.words s.homes k p.0). take_won law slots id me o k x is free bare x_is s r at (inside r.parts k p.0 p.1) p.0 p.1 hit home)

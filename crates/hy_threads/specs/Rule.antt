@@ -1,5 +1,5 @@
 -- The rule of the table, and what a take and a give tell.
-use Rattle.std.specs.Prelude.{◌≡◌, ◌≢◌, ◌⊎◌, ℕ, ◌+◌, List, [], ◌∷◌, map, length, slice_index, Option, Some, None}
+use Rattle.std.specs.Prelude.{◌≡◌, ◌≢◌, ◌⊎◌, ℕ, ◌+◌, ◌*◌, List, [], ◌∷◌, map, length, slice_index, Option, Some, None}
 use mathlib.Core.Option.{some}
 use mathlib.Core.Option as maybe
 use lib.ListN.{get_elem?}
@@ -7,6 +7,8 @@ use Rattle.atomic_table.specs.Table.{State, Me, Step, rest}
 use Rattle.crossbeam_utils.specs.Padded.{padded_value}
 use Rattle.crossbeam_utils.specs.declared.cache_padded.CachePadded.{CachePadded}
 use Rattle.hy_threads.specs.Knowledge.{Visitor, Knowledge, Spent, First, Seated, holding, refused, settled}
+
+-- The word of the part k is the word 8 * k of the table, so that no two of them lie in one cache line. The words between stay as they are.
 
 -- a part lies in its slot, in cache lines of its own
 abbrev pub Slot : Type 0 → Type 0
@@ -23,13 +25,13 @@ module _ {D : Type 0} where
 
   -- the part k is at home, as p
   abbrev pub IsHome : List ℕ → List (maybe.Option (Slot D)) → ℕ → D → Type 0
-  IsHome words homes k p = (slice_index words k ≡ 0) × ((y : CachePadded D) × (get_elem? homes k ≡ some (some (Some y))) × (padded_value y ≡ p))
+  IsHome words homes k p = (slice_index words (8 * k) ≡ 0) × ((y : CachePadded D) × (get_elem? homes k ≡ some (some (Some y))) × (padded_value y ≡ p))
 
 module _ {S D : Type 0} where
   -- the part k is out with the session's seat that its word names, which took it as p
   abbrev pub IsOut : List ℕ → List (Knowledge S D) → (ℕ → ℕ) → ℕ → D → Type 0
   IsOut words views owner k p =
-      (o : Visitor S D) × (get_elem? views (owner o.number) ≡ some (Seated o)) × (o.held ≡ Some (k, p)) × (slice_index words k ≡ 1 + o.number)
+      (o : Visitor S D) × (get_elem? views (owner o.number) ≡ some (Seated o)) × (o.held ≡ Some (k, p)) × (slice_index words (8 * k) ≡ 1 + o.number)
 
   abbrev pub IsHomeOrOut : List ℕ → List (maybe.Option (Slot D)) → List (Knowledge S D) → (ℕ → ℕ) → ℕ → D → Type 0
   IsHomeOrOut words homes views owner k p = IsHome words homes k p ⊎ IsOut words views owner k p
@@ -40,7 +42,7 @@ module _ {S D : Type 0} where
   IsSo words parts sessions kept owner j (First r) = (j ≡ 0) × (r.kept ≡ kept)
   IsSo words parts sessions kept owner j (Seated o) =
       (owner o.number ≡ j) × (get_elem? sessions o.number ≡ some o.session) × (get_elem? kept o.number ≡ some None)
-      × ((k : ℕ) (p : D) → o.held ≡ Some (k, p) → (get_elem? parts k ≡ some p) × (slice_index words k ≡ 1 + o.number))
+      × ((k : ℕ) (p : D) → o.held ≡ Some (k, p) → (get_elem? parts k ≡ some p) × (slice_index words (8 * k) ≡ 1 + o.number))
 
 -- Every part and every session is accounted for, and the fact holds of the parts as they were given last, and of the
 -- sessions as they were told last. `kept` is what the first seat keeps, and `owner` says which seat has the session of a number
@@ -50,7 +52,7 @@ pub record IsAccounted {S D : Type 0} (fact : List D → List S → Type 0) (s :
   pub kept : List (Option S)
   pub owner : ℕ → ℕ
   pub fact_holds : fact parts sessions
-  pub word_each : length s.words ≡ length parts
+  pub word_each : length s.words ≡ 8 * length parts
   pub slot_each : length s.homes ≡ length parts
   pub each_part : (k : ℕ) (p : D) → get_elem? parts k ≡ some p → IsHomeOrOut s.words s.homes s.views owner k p
   pub each_seat : (j : ℕ) (v : Knowledge S D) → get_elem? s.views j ≡ some v → IsSo s.words parts sessions kept owner j v
@@ -60,10 +62,10 @@ pub record IsAccounted {S D : Type 0} (fact : List D → List S → Type 0) (s :
 module _ {S D : Type 0} where
   -- a take was won, with the part and its near fact; or lost, with the refusal
   abbrev pub Took : (ℕ → S → D → Type 0) → Step (Slot D) → Me (Slot D) (Knowledge S D) → ℕ → Me (Slot D) (Knowledge S D) → Type 0
-  Took near st m found m' = (o : Visitor S D) → m.0 ≡ Seated o
-      → (found ≡ 0 → (y : CachePadded D) × (m' ≡ (Seated (holding o st.word (padded_value y)), (st.word, Some y) ∷ []))
-      × near st.word o.session (padded_value y))
-      × (found ≢ 0 → m' ≡ (Seated (refused o st.word 1), m.1))
+  Took near st m found m' = (o : Visitor S D) (k : ℕ) → m.0 ≡ Seated o → st.word ≡ 8 * k
+      → (found ≡ 0 → (y : CachePadded D) × (m' ≡ (Seated (holding o k (padded_value y)), (k, Some y) ∷ []))
+      × near k o.session (padded_value y))
+      × (found ≢ 0 → m' ≡ (Seated (refused o k 1), m.1))
 
   -- the part was given back, and the seat has the session that was told
   abbrev pub Gave : Option S → Step (Slot D) → Me (Slot D) (Knowledge S D) → ℕ → Me (Slot D) (Knowledge S D) → Type 0

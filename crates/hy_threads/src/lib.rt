@@ -18,6 +18,7 @@ mod parts;
 mod rule;
 mod runs;
 mod threads;
+mod waiting;
 mod worked;
 mod worker;
 

@@ -10,6 +10,7 @@ ghost use Rattle.hy_threads.specs.Rule.{AreHome};
 use crate::known::Known;
 use crate::parted::Parted;
 use crate::rule::{Giving, Joining, PartsRule, Splitting, Taking, Telling};
+use crate::waiting::Waiting;
 use atomic_table::{Seat as TableSeat, Table};
 use crossbeam_utils::CachePadded;
 use std::alloc::{AllocError, Global};
@@ -22,6 +23,10 @@ type Slot<P> = Option<CachePadded<<P as Parted>::Part>>;
 type KnownOf<P> = Known<<P as Parted>::Session, <P as Parted>::Part>;
 
 type Opening<P> = Vec<Snapshot<<P as Parted>::Session>>;
+
+// How many words of the table fill a cache line. The word of the part k is the word `LINE * k`, so that each has a line
+// of its own.
+const LINE: usize = 8;
 
 // A snapshot of each session, in order.
 fn snapshots_of<S>(alloc: Global, sessions: &[S]) -> Result<Vec<Snapshot<S>>, AllocError>
@@ -48,6 +53,17 @@ fn put_in_slots<D: Drop>(
     Ok(slots)
 }
 
+// Of each part, that nobody waits at it, on cache lines of its own.
+fn none_waiting(alloc: Global, count: usize) -> Result<Vec<CachePadded<Waiting>>, AllocError>
+    ensures { IfOk result (λ v. vec_len v ≡ count) }
+{
+    let mut waiting = Vec::with_capacity(alloc, count)?;
+    for _ in 0..count {
+        waiting.push(CachePadded::new(Waiting::new()))?;
+    }
+    Ok(waiting)
+}
+
 /// Parts that seats take and give back, shared by all threads. A clause sees them as their `Home`, in which `slots` is
 /// how many they are.
 #[derive(Drop)]
@@ -55,10 +71,12 @@ pub struct Parts<P: Parted> {
     table: Table<Slot<P>, KnownOf<P>, Opening<P>, PartsRule<P>, Global>,
     // Empty, with room for each part, so that `close` needs no memory.
     spare: Vec<P::Part>,
+    // Who waits at each part. It is no part of the rule: it only says when to wake.
+    waiting: Vec<CachePadded<Waiting>>,
 }
 
 impl<P: Parted> Model for Parts<P> {
-    ghost use Rattle.std.specs.Prelude.{◌≡◌, ◌≤◌, vec_len, vec_capacity};
+    ghost use Rattle.std.specs.Prelude.{◌≡◌, ◌≤◌, ◌<◌, ◌*◌, ◌^◌, vec_len, vec_capacity};
     ghost use Rattle.atomic_table.specs.Seated.{TableId, table_id_coded};
 
     ghost Value = { TableId };
@@ -69,7 +87,9 @@ impl<P: Parted> Model for Parts<P> {
 
     ghost invariant = { λ p. (vec_len p.spare ≡ 0)
         × (p.table.shared.table_id.slots ≤ vec_capacity p.spare)
-        × (p.table.shared.table_id.words ≡ p.table.shared.table_id.slots) };
+        × (p.table.shared.table_id.words ≡ 8 * p.table.shared.table_id.slots)
+        × (p.table.shared.table_id.words < 2 ^ 64)
+        × (vec_len p.waiting ≡ p.table.shared.table_id.slots) };
 }
 
 /// What a thread takes parts with: the first seat, which makes the others and takes them back, or the seat of one
@@ -113,14 +133,22 @@ impl<P: Parted> Parts<P> {
         ensures { IfOk result (λ r. (r.0.slots ≡ vec_len parts) × (r.1.home ≡ r.0) × (r.1.knows ≡ first_of sessions.now)) }
     {
         let count = parts.len();
-        let words = vec![in alloc; 0u64; count]?;
+        let Some(size) = count.checked_mul(LINE) else {
+            return Err(AllocError);
+        };
+        let words = vec![in alloc; 0u64; size]?;
         let spare = Vec::with_capacity(alloc, count)?;
+        let waiting = none_waiting(alloc, count)?;
         let opening = snapshots_of(alloc, sessions)?;
         let slots = put_in_slots(alloc, parts)?;
         match Table::new(alloc, words.as_slice(), slots, &opening) {
             Ok((table, at_table)) => {
                 Ok((
-                    Parts { table, spare },
+                    Parts {
+                        table,
+                        spare,
+                        waiting,
+                    },
                     Seat {
                         at_table,
                         number: 0,
@@ -140,7 +168,11 @@ impl<P: Parted> Parts<P> {
         ensures fact { (r : Keeper P.Session) (sessions : List P.Session) → first.knows ≡ First r → r.kept ≡ map Some sessions
             → P.fact result.items sessions }
     {
-        let Parts { table, spare } = self;
+        let Parts {
+            table,
+            spare,
+            waiting: _,
+        } = self;
         let Seat {
             at_table,
             number: _,
@@ -175,7 +207,7 @@ impl<P: Parted> Parts<P> {
         let found = self
             .table
             .shared
-            .compare_exchange::<Taking<P>>(&mut seat.at_table, k, 0, seat.number + 1);
+            .compare_exchange::<Taking<P>>(&mut seat.at_table, LINE * k, 0, seat.number + 1);
         if found != 0 {
             return None;
         }
@@ -221,8 +253,10 @@ impl<P: Parted> Parts<P> {
             .exchange(&mut seat.at_table, k, Some(part));
         self.table
             .shared
-            .store::<Giving<J>>(&mut seat.at_table, k, 0);
-        self.table.shared.wake_one(k);
+            .store::<Giving<J>>(&mut seat.at_table, LINE * k, 0);
+        if self.waiting[k].has_sleepers() {
+            self.table.shared.wake_one(LINE * k);
+        }
     }
 
     /// Waits until the part k is at home, and takes it. The seat notes each time that it was refused before.
@@ -240,15 +274,49 @@ impl<P: Parted> Parts<P> {
             if let Some(part) = self.try_take(seat, k) {
                 return part;
             }
-            let found = self.table.shared.peek(k);
+            let waiting = &self.waiting[k];
+            waiting.begin_sleep();
+            let found = self.table.shared.peek(LINE * k);
             if found != 0 {
                 // A thread sleeps on the lower half of the word, which has all of it.
                 self.table
                     .shared
-                    .park(rt, k, (found % 0x1_0000_0000) as u32);
+                    .park(rt, LINE * k, (found % 0x1_0000_0000) as u32);
             }
+            waiting.end_sleep();
         }
         unreachable!()
+    }
+
+    /// Notes that the caller is blocked at the part k, and gives the part's turn. Who visits the part after this, and finds that
+    /// it is blocked still, may wait for another turn and misses no change that is announced.
+    pub(crate) fn begin_blocked(&self, k: usize) -> u32
+        requires { k < self.now.slots }
+    {
+        self.waiting[k].begin_blocked();
+        self.waiting[k].turn()
+    }
+
+    /// Sleeps until the turn of the part k is another one, and gives that. It may return earlier.
+    pub(crate) fn next_turn<T: Wait>(&self, rt: &T, k: usize, turn: u32) -> u32
+        requires { k < self.now.slots }
+    {
+        self.waiting[k].wait(rt, turn);
+        self.waiting[k].turn()
+    }
+
+    /// Notes that the caller is not blocked at the part k any more.
+    pub(crate) fn end_blocked(&self, k: usize)
+        requires { k < self.now.slots }
+    {
+        self.waiting[k].end_blocked();
+    }
+
+    /// Announces that the part k was changed, once it was given back: all who are blocked look again.
+    pub(crate) fn announce(&self, k: usize)
+        requires { k < self.now.slots }
+    {
+        self.waiting[k].announce();
     }
 
     /// The next session's seat. Who has it has to have that session.

@@ -43,11 +43,12 @@ fn any_starved<P: Worked>(workers: &[Worker<P>]) -> bool
 }
 
 /// Runs each worker until its session is at its end, each in a thread of its own. One whose session is blocked gives
-/// its part back as it was, and tries again. One that finds no memory gives its part back as it was and stops before
-/// that visit; the others go on to their ends. The answer is then Err. Workers that stopped so may be run again.
+/// its part back as it was, sleeps until a change of that part is announced, and tries again. One that finds no memory
+/// gives its part back as it was and stops before that visit; the others go on to their ends. The answer is then Err.
+/// Workers that stopped so may be run again.
 ///
 /// Nothing is said of progress. A worker that is blocked, where the system gives too few threads, by one that has not
-/// begun, tries again for ever; and so does one that waits for a session whose worker found no memory. So the visits of a
+/// begun, sleeps for ever; and so does one that waits for a session whose worker found no memory. So the visits of a
 /// session that others may wait for are to take none.
 pub fn work<T: Threads + Wait + Sync, P: Worked + Send + Sync, G: Gate>(
     rt: &T,

@@ -1,5 +1,5 @@
 //! A session with its seat, and its way to the end.
-ghost use Rattle.std.specs.Prelude.{◌≡◌, false, MatchBool};
+ghost use Rattle.std.specs.Prelude.{◌≡◌, ◌<◌, false, MatchBool};
 ghost use Rattle.hy_threads.specs.Seats.{number_of};
 ghost use Rattle.hy_threads.specs.Tasks.{IsReady, Fits, IsSameWorker, HasStopped};
 
@@ -9,7 +9,6 @@ use crate::{Parts, Seat};
 use std::alloc::Global;
 use std::marker::Model;
 use std::sync::Wait;
-use std::thread;
 
 /// A session, the seat that knows it and has no part, and whether its last run ended because it found no memory. A clause
 /// sees it as its `Task`.
@@ -18,6 +17,8 @@ pub struct Worker<P: Worked> {
     seat: Seat<P>,
     session: P::Session,
     starved: bool,
+    // Where its session is blocked, the turn that it waits behind at the part that the session needs.
+    turn: Option<u32>,
 }
 
 impl<P: Worked> Model for Worker<P> {
@@ -42,6 +43,7 @@ impl<P: Worked> Worker<P> {
             seat,
             session,
             starved: false,
+            turn: None,
         }
     }
 
@@ -69,6 +71,7 @@ impl<P: Worked> Worker<P> {
             seat,
             session,
             starved: _,
+            turn: _,
         } = self;
         (seat, session)
     }
@@ -97,16 +100,45 @@ impl<P: Worked> Worker<P> {
         });
         let visited = P::visit(alloc, point.part, &mut self.session, &mut part);
         parts.give(&mut self.seat, &self.session, point.part, part);
+        let is_blocked = matches!(visited, Ok(Visited::Blocked));
+        if !is_blocked {
+            self.tell_change(parts, point.part);
+        }
         gate.pass(&Point {
             moment: Moment::After,
             answered: matches!(visited, Ok(Visited::Answered)),
             ..point
         });
-        if matches!(visited, Ok(Visited::Blocked)) {
-            thread::yield_now();
+        if is_blocked {
+            self.wait_behind(rt, parts, point.part);
         }
         self.starved = visited.is_err();
         !self.starved
+    }
+
+    // The session is blocked no longer, and may have changed this part: the others who are blocked there look again.
+    fn tell_change(&mut self, parts: &Parts<P>, part: usize)
+        requires { part < parts.now.slots }
+        ensures { self.new ≡ self.old }
+    {
+        if self.turn.is_some() {
+            self.turn = None;
+            parts.end_blocked(part);
+        }
+        parts.announce(part);
+    }
+
+    // The session is blocked at this part. It visits the part once more after its worker was noted as blocked, and before the
+    // worker sleeps: so it misses no change.
+    fn wait_behind<T: Wait>(&mut self, rt: &T, parts: &Parts<P>, part: usize)
+        requires { part < parts.now.slots }
+        ensures { self.new ≡ self.old }
+    {
+        let turn = match self.turn {
+            Some(turn) => parts.next_turn(rt, part, turn),
+            None => parts.begin_blocked(part),
+        };
+        self.turn = Some(turn);
     }
 
     /// Visits what the session needs, until it is at its end or finds no memory.

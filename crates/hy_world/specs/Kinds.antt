@@ -4,5 +4,5 @@ use Rattle.hy_world.specs.declared.shared.PartKind.TheVariants as kind
 use Rattle.hy_world.specs.Shared.{SharedData, CoreOf, chunk_shared}
 
 abbrev pub shared_by : PartKind → SharedData
-shared_by (kind.Chunk chunk) = chunk_shared chunk
-shared_by (kind.Core core) = CoreOf core
+shared_by (kind.Chunk chunk) = chunk_shared chunk.value
+shared_by (kind.Core core) = CoreOf core.value

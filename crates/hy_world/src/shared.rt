@@ -14,13 +14,13 @@ use hy_session::Session;
 use std::alloc::{AllocError, Global};
 use std::marker::Model;
 
-/// What a part is.
+/// What a part is. It is behind a pointer, so that whoever takes the part and gives it back moves little.
 #[derive(Drop)]
 pub(crate) enum PartKind {
     /// A chunk of a table.
-    Chunk(Chunk),
+    Chunk(Box<Chunk>),
     /// What all transactions share beside the chunks.
-    Core(Core),
+    Core(Box<Core>),
 }
 
 /// A part that sessions share. Contracts see its plain data, and the types of a chunk's columns, but not its room: so a
@@ -43,21 +43,23 @@ impl Model for SharedPart {
 
 impl SharedPart {
     /// A chunk as a part.
-    fn chunk(chunk: Chunk) -> SharedPart
-        ensures { result ≡ chunk_shared chunk }
+    fn chunk(alloc: Global, chunk: Chunk) -> Result<SharedPart, AllocError>
+        ensures { IfOk result (λ part. part ≡ chunk_shared chunk) }
     {
-        SharedPart {
+        let chunk = Box::new(alloc, chunk)?;
+        Ok(SharedPart {
             kind: PartKind::Chunk(chunk),
-        }
+        })
     }
 
     /// The core as a part.
-    fn core(core: Core) -> SharedPart
-        ensures { result ≡ CoreOf core }
+    fn core(alloc: Global, core: Core) -> Result<SharedPart, AllocError>
+        ensures { IfOk result (λ part. part ≡ CoreOf core) }
     {
-        SharedPart {
+        let core = Box::new(alloc, core)?;
+        Ok(SharedPart {
             kind: PartKind::Core(core),
-        }
+        })
     }
 }
 
@@ -71,9 +73,9 @@ pub(crate) fn share(
 {
     let mut parts = Vec::new(alloc);
     for chunk in chunks {
-        parts.push(SharedPart::chunk(chunk))?;
+        parts.push(SharedPart::chunk(alloc, chunk)?)?;
     }
-    parts.push(SharedPart::core(core))?;
+    parts.push(SharedPart::core(alloc, core)?)?;
     Ok(parts)
 }
 
@@ -87,7 +89,7 @@ fn chunks_of(alloc: Global, parts: Vec<SharedPart>) -> Result<Vec<Chunk>, AllocE
         let PartKind::Chunk(chunk) = part.kind else {
             unreachable!()
         };
-        chunks.push(chunk)?;
+        chunks.push(Box::into_inner(chunk))?;
     }
     Ok(chunks)
 }
@@ -107,7 +109,7 @@ pub(crate) fn unshare(
     let PartKind::Core(core) = last.kind else {
         unreachable!()
     };
-    Ok((chunks_of(alloc, parts)?, core))
+    Ok((chunks_of(alloc, parts)?, Box::into_inner(core)))
 }
 
 /// A visit of a session to the part that it needs. Err is for want of memory, and changes nothing that contracts see; it

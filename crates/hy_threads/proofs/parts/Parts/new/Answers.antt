@@ -8,7 +8,7 @@ pub new-requires : goal.new-requires
 new-requires g c =
     let opening = c.in_ok-opening.opening.items in let sessions = c.args.sessions.now in
     make_keeps g.P.Parted.fact c.as_slice.result.now c.in_ok-slots.slots.items opening c.args.parts.items sessions
-    (search rules) (search rules) (λ k. ap (λ l. get_or l k 0) (search rules) ∙ zeros c.len-count.result k) c.in_ok-slots.ensures.1
+    (search rules) (search rules) (λ k. ap (λ l. get_or l k 0) (search rules) ∙ zeros c.in-Some.size k) c.in_ok-slots.ensures.1
     (map_kept_of opening sessions c.in_ok-opening.ensures) c.requires.fact
 
 pub returns-in-Ok : goal.returns-in-Ok

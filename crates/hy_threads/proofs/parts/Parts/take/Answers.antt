@@ -11,16 +11,6 @@ pub returns-in-Some-try_take-clause-taken : goal.returns-in-Some-try_take-clause
 returns-in-Some-try_take-clause-taken g c = λ o is.
     let w = c.loop.invariant.4 o is in let t = c.in-Some-try_take.ensures.won (refused o c.args.k w.0) w.1 in (w.0, t.0, t.1)
 
-pub loop-preserved-then-found-ne0 : goal.loop-preserved-then-found-ne0
-loop-preserved-then-found-ne0 g c = (
-  tt,
-  tt,
-  c.try_take.ensures.same.0 ∙ c.loop.invariant.2,
-  c.try_take.ensures.same.1 ∙ c.loop.invariant.3,
-  λ o is. let w = c.loop.invariant.4 o is in
-      (suc w.0, c.in_default.ensures.lost (refused o c.args.k w.0) w.1 ∙ refused_more o c.args.k w.0),
-)
-
 pub loop-preserved : goal.loop-preserved
 loop-preserved g c = (
   tt,

@@ -25,7 +25,7 @@ pub exchange-requires : goal.exchange-requires
 exchange-requires g c =
     let o = c.requires.free.0 in
     let is : c.seat.inside.at_table.me.0 ≡ Seated o = ap (λ z. z.knows) c.seat.view_is ∙ c.requires.free.1 in
-    let won = (c.compare_exchange-found.ensures.2 o is).0 c.if-found-ne0.false in
+    let won = (c.compare_exchange-found.ensures.2 o c.args.k is refl).0 c.if-found-ne0.false in
     let out = ap (λ m. m.1) won.1 in
     (search rules, (Some won.0, out ∙ ap (λ l. (c.args.k, Some won.0) ∷ rest l) (sym out)))
 
@@ -33,7 +33,7 @@ pub invariant_of-seat : goal.invariant_of-seat
 invariant_of-seat g c =
     let seat = c.seat.inside in let o = c.requires.free.0 in
     let is : seat.at_table.me.0 ≡ Seated o = ap (λ z. z.knows) c.seat.view_is ∙ c.requires.free.1 in
-    let lost = (c.compare_exchange-found.ensures.2 o is).1 c.if-found-ne0.true in
+    let lost = (c.compare_exchange-found.ensures.2 o c.args.k is refl).1 c.if-found-ne0.true in
     let same = c.seat.invariant.1 ∙ ap out_of is in
     sound_as seat.number seat.at_table.me c.compare_exchange-found.new.seat.me o (refused o c.args.k 1) c.seat.invariant is
     (ap (λ m. m.0) lost) refl (ap (λ m. slots_of m.1) lost ∙ same)
@@ -42,7 +42,7 @@ pub unreachable-requires : goal.unreachable-requires
 unreachable-requires g c =
     let o = c.requires.free.0 in
     let is : c.seat.inside.at_table.me.0 ≡ Seated o = ap (λ z. z.knows) c.seat.view_is ∙ c.requires.free.1 in
-    let won = (c.compare_exchange-found.ensures.2 o is).0 c.if-found-ne0.false in
+    let won = (c.compare_exchange-found.ensures.2 o c.args.k is refl).0 c.if-found-ne0.false in
     let out = taken_out c.compare_exchange-found.new.seat.me c.exchange.new.seat.me o c.args.k won.0 c.exchange.result won.1
     c.exchange.ensures.2 c.exchange.ensures.3 in
     some_not_none won.0 (sym out.0 ∙ c.in_default.is)
@@ -51,7 +51,7 @@ pub invariant_of-seat-2 : goal.invariant_of-seat-2
 invariant_of-seat-2 g c =
     let seat = c.seat.inside in let o = c.requires.free.0 in
     let is : seat.at_table.me.0 ≡ Seated o = ap (λ z. z.knows) c.seat.view_is ∙ c.requires.free.1 in
-    let won = (c.compare_exchange-found.ensures.2 o is).0 c.if-found-ne0.false in
+    let won = (c.compare_exchange-found.ensures.2 o c.args.k is refl).0 c.if-found-ne0.false in
     let out = taken_out c.compare_exchange-found.new.seat.me c.exchange.new.seat.me o c.args.k won.0 c.exchange.result won.1
     c.exchange.ensures.2 c.exchange.ensures.3 in
     sound_as seat.number seat.at_table.me c.exchange.new.seat.me o (holding o c.args.k (padded_value won.0)) c.seat.invariant is
@@ -61,7 +61,7 @@ pub returns-clause-won : goal.returns-clause-won
 returns-clause-won g c = λ o at.
     let k = c.args.k in
     let is : c.seat.inside.at_table.me.0 ≡ Seated o = ap (λ z. z.knows) c.seat.view_is ∙ at in
-    let won = (c.compare_exchange-found.ensures.2 o is).0 c.if-found-ne0.false in
+    let won = (c.compare_exchange-found.ensures.2 o c.args.k is refl).0 c.if-found-ne0.false in
     let out = taken_out c.compare_exchange-found.new.seat.me c.exchange.new.seat.me o k won.0 c.exchange.result won.1
     c.exchange.ensures.2 c.exchange.ensures.3 in
     let same : padded_value won.0 ≡ c.into_inner.result =

@@ -24,3 +24,9 @@ invariant_of-self g c =
     let ready = c.self.invariant in let o = ready.0 in let k = c.in-Some.point.part in
     let taken = c.take-part.ensures.taken o ready.1 in let p = c.take-part.result in
     (settled (holding (refused o k taken.0) k p) c.visit-visited.new.session, c.give.ensures.given (holding (refused o k taken.0) k p) taken.1, refl, refl)
+
+pub invariant_of-self-else-not-is_blocked : goal.invariant_of-self-else-not-is_blocked
+invariant_of-self-else-not-is_blocked g c =
+    let ready = c.self.invariant in let o = ready.0 in let k = c.in-Some.point.part in
+    let taken = c.take-part.ensures.taken o ready.1 in let p = c.take-part.result in
+    (settled (holding (refused o k taken.0) k p) c.visit-visited.new.session, c.give.ensures.given (holding (refused o k taken.0) k p) taken.1, refl, refl)

@@ -1,0 +1,2 @@
+-- The definitions of an engine of counters.
+pub mod Counting

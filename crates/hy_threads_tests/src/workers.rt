@@ -1,0 +1,106 @@
+//! Workers, each on a thread of its own.
+
+use crate::counting::{Adder, Counter, Counting};
+use hy_threads::{Gate, Moment, OpenGate, Point, run_all};
+use std::alloc::AllocError;
+use std::sync::Wait;
+use std::sync::atomic::{AtomicBool, AtomicU64, Ordering};
+use std::test::Fail;
+use std::thread::Threads;
+
+/// A session that adds 1 so many times.
+fn adder(number: u32, turns: u32) -> Adder {
+    Adder {
+        number,
+        turns: Some(turns),
+        awaits: 0,
+        starves: false,
+    }
+}
+
+/// How often a wait looks at its flag at most.
+const MOST_TURNS: u32 = 1_000_000_000;
+
+/// Session 1 begins once session 0 has found no memory, and its visits are counted.
+#[derive(Drop)]
+struct OneStarves {
+    has_starved: AtomicBool,
+    visits: AtomicU64,
+}
+
+impl OneStarves {
+    /// Waits until session 0 has found no memory, or for too many turns.
+    fn wait(&self) {
+        for _ in 0..MOST_TURNS {
+            if self.has_starved.load(Ordering::SeqCst) {
+                return;
+            }
+        }
+    }
+}
+
+impl Gate for OneStarves {
+    fn pass(&self, point: &Point) {
+        match (point.session, point.moment) {
+            (0, Moment::After) => self.has_starved.store(true, Ordering::SeqCst),
+            (1, Moment::Before) => self.wait(),
+            (1, Moment::After) => {
+                self.visits.fetch_add(1, Ordering::SeqCst);
+            }
+            _ => {}
+        }
+    }
+}
+
+/// What a counter that begins at 0 comes to where two sessions run over it.
+fn counted<T: Threads + Wait + Sync + AllocGlobal, G: Gate>(
+    rt: &T,
+    gate: &G,
+    first: Adder,
+    second: Adder,
+) -> Result<u64, AllocError> {
+    let alloc = rt.alloc();
+    let mut counters = Vec::new(alloc);
+    counters.push(Counter { count: 0 })?;
+    let mut sessions = Vec::new(alloc);
+    sessions.push(first)?;
+    sessions.push(second)?;
+    let (counters, _) = run_all::<T, Counting, G>(rt, alloc, counters, sessions, gate)?;
+    match counters.as_slice() {
+        [counter] => Ok(counter.count),
+        _ => Ok(0),
+    }
+}
+
+#[test]
+fn two_sessions_add_to_a_counter(rt: HostRuntime) -> Result<(), Fail> {
+    assert_eq!(rt; counted(&rt, &OpenGate, adder(0, 5), adder(1, 5))?, 10);
+    Ok(())
+}
+
+#[test]
+fn a_blocked_session_goes_on_once_the_counter_has_come_so_far(rt: HostRuntime) -> Result<(), Fail> {
+    let behind = Adder {
+        awaits: 5,
+        ..adder(0, 5)
+    };
+    assert_eq!(rt; counted(&rt, &OpenGate, behind, adder(1, 5))?, 10);
+    Ok(())
+}
+
+#[test]
+fn the_others_end_where_one_finds_no_memory(rt: HostRuntime) -> Result<(), Fail> {
+    let gate = OneStarves {
+        has_starved: AtomicBool::new(false),
+        visits: AtomicU64::new(0),
+    };
+    let starving = Adder {
+        starves: true,
+        ..adder(0, 1)
+    };
+    let ended = counted(&rt, &gate, starving, adder(1, 5));
+    assert!(rt; ended.is_err());
+    assert!(rt; gate.has_starved.load(Ordering::SeqCst));
+    assert_eq!(rt; gate.visits.load(Ordering::SeqCst), 5);
+    Ok(())
+}

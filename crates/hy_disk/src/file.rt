@@ -8,10 +8,10 @@ use crate::{Disk, DiskError};
 use hy_outside::Failed;
 use std::marker::Model;
 
-/// The name of a log's file, in the folder that the process runs in.
+/// The name of a log's file where none is given, in the folder that the process runs in.
 const NAME: &str = "hy.log";
 
-/// The disk over a file in the folder that the process runs in. It is opened for reading by the first call, and made by
+/// The disk over a file of the system. It is opened for reading by the first call, and made by
 /// the first write, where there is none: until then it has no bytes. While it is open no other program writes to it that
 /// asks for its lock too. It tells neither its bytes nor what a crash may leave.
 #[derive(Drop)]
@@ -19,6 +19,7 @@ pub struct FileDisk<'a> {
     rt: &'a HostRuntime,
     handle: Handle<'a>,
     is_lost: bool,
+    /// Why the first call failed that did.
     cause: Option<FileFault>,
     faults: u64,
 }
@@ -41,7 +42,7 @@ impl<'a> FileDisk<'a> {
         FileDisk::named(rt, NAME)
     }
 
-    /// The same over the file of this name.
+    /// The same over the file of this name. Where the name is empty each call fails.
     pub fn named(rt: &'a HostRuntime, name: &'a str) -> FileDisk<'a>
         ensures { result ≡ 0 }
     {
@@ -54,16 +55,26 @@ impl<'a> FileDisk<'a> {
         }
     }
 
-    /// Why the last call failed that did, where one did.
+    /// The file's name, as it was given.
+    pub fn name(&self) -> &'a str {
+        self.handle.name()
+    }
+
+    /// Whether there was a file when a call asked for it last.
+    pub fn is_open(&self) -> bool {
+        self.handle.is_open()
+    }
+
+    /// Why the first call failed that did, where one did: what fails later may follow from that.
     pub fn cause(&self) -> Option<FileFault> {
         self.cause
     }
 
-    /// Counts a call that failed, and keeps why.
+    /// Counts a call that failed, and keeps why where it is the first.
     fn count_fault(&mut self, cause: FileFault)
         ensures { self.new ≡ one_more self.old }
     {
-        self.cause = Some(cause);
+        self.cause = self.cause.or(Some(cause));
         self.faults = self.faults.saturating_add(1);
     }
 }

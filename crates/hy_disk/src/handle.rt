@@ -1,5 +1,6 @@
 //! A file of the system, opened as far as it is asked for.
 
+use hy_outside::SystemError;
 use std::fmt::{self, Display, Formatter};
 use std::fs::{File, OpenOptions, TryLockError};
 use std::io;
@@ -13,6 +14,8 @@ const LAST_STANDARD: i32 = 2;
 /// Why a call on a file failed.
 #[derive(Clone, Copy, Debug, PartialEq, Eq)]
 pub enum FileFault {
+    /// It has no name.
+    Unnamed,
     /// Another program holds it.
     InUse,
     /// It is not as it was found: it is longer or shorter, or was made or removed since.
@@ -20,23 +23,30 @@ pub enum FileFault {
     /// What was written before could not be made sure.
     Lost,
     /// The system refused the call.
-    Refused(ErrorKind),
+    Refused(SystemError),
 }
 
 impl Display for FileFault {
     fn fmt<W: fmt::Write>(&self, f: &mut Formatter<W>) -> fmt::Result {
         match self {
-            FileFault::InUse => f.write_str("is in use by another program"),
-            FileFault::Changed => f.write_str("was changed by another program"),
+            FileFault::Unnamed => f.write_str("no name of a file"),
+            FileFault::InUse => f.write_str("in use by another program"),
+            FileFault::Changed => f.write_str("changed by another program"),
             FileFault::Lost => f.write_str("could not be synced before"),
-            FileFault::Refused(kind) => write!(f, "could not be used: {kind}"),
+            FileFault::Refused(error) => Display::fmt(error, f),
         }
     }
 }
 
 impl From<io::Error> for FileFault {
     fn from(error: io::Error) -> FileFault {
-        FileFault::Refused(error.kind())
+        FileFault::Refused(SystemError::from(error))
+    }
+}
+
+impl From<ErrorKind> for FileFault {
+    fn from(kind: ErrorKind) -> FileFault {
+        FileFault::Refused(SystemError::from(kind))
     }
 }
 
@@ -63,6 +73,16 @@ impl<'a> Handle<'a> {
         }
     }
 
+    /// The name that it was given.
+    pub(crate) fn name(&self) -> &'a str {
+        self.name
+    }
+
+    /// Whether there was a file when it was asked for last.
+    pub(crate) fn is_open(&self) -> bool {
+        self.file.is_some()
+    }
+
     /// How many bytes there are.
     pub(crate) fn len(&mut self, rt: &HostRuntime) -> Result<u64, FileFault> {
         let len = match self.found(rt)? {
@@ -83,7 +103,7 @@ impl<'a> Handle<'a> {
         match self.found(rt)? {
             Some(file) => file.read_exact_at(into, at)?,
             None if into.is_empty() => {}
-            None => return Err(FileFault::Refused(ErrorKind::UnexpectedEof)),
+            None => return Err(FileFault::from(ErrorKind::UnexpectedEof)),
         }
         Ok(())
     }
@@ -113,6 +133,9 @@ impl<'a> Handle<'a> {
 
     /// The open file, which is opened for reading where it isn't open yet. None where there is none.
     fn found(&mut self, rt: &HostRuntime) -> Result<Option<&File>, FileFault> {
+        if self.name.is_empty() {
+            return Err(FileFault::Unnamed);
+        }
         if self.file.is_none() {
             self.file = open_to_read(rt, self.name)?;
         }
@@ -158,6 +181,10 @@ fn open_to_read(rt: &HostRuntime, name: &str) -> Result<Option<File>, FileFault>
     match File::open(rt, name) {
         Ok(file) => {
             let file = above_standard(file)?;
+            // A folder can be opened and has a length, which isn't that of any log.
+            if file.metadata()?.is_dir() {
+                return Err(FileFault::from(ErrorKind::IsADirectory));
+            }
             held(file.try_lock_shared())?;
             Ok(Some(file))
         }
@@ -185,11 +212,20 @@ fn make(rt: &HostRuntime, name: &str) -> Result<File, FileFault> {
         Ok(file) => {
             let file = above_standard(file)?;
             held(file.try_lock())?;
-            File::open(rt, ".")?.sync_all()?;
+            File::open(rt, folder_of(name))?.sync_all()?;
             Ok(file)
         }
         Err(error) if error.kind() == ErrorKind::AlreadyExists => Err(FileFault::Changed),
         Err(error) => Err(FileFault::from(error)),
+    }
+}
+
+/// The folder that has the file of this name.
+fn folder_of(name: &str) -> &str {
+    match name.rsplit_once('/') {
+        Some(("", _)) => "/",
+        Some((folder, _)) => folder,
+        None => ".",
     }
 }
 

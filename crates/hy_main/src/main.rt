@@ -1,4 +1,4 @@
-//! The program `hy`: makes the real words, reader, writer and disk, and ends with the status of the call.
+//! The program `hy`: makes the real words, reader, writer and disk, ends with the status of the call, and says why it is not 0.
 #![tactic(auto)]
 
 ghost use Rattle.std.specs.Prelude.{◌≡◌, ◌≢◌, ◌≤◌, ◌⊎◌, true, false, Option, None, IsNone, IfSome, map};
@@ -13,37 +13,112 @@ ghost use Rattle.hy_top.specs.Program.{does_serve, keeps_log, made_by, reads_scr
 ghost use Rattle.hy_top.specs.Reports.{Writes, IsAnswered, Makes};
 ghost use Rattle.hy_top.specs.Served.{IsServed, LeavesServed};
 
-use hy_disk::{Disk, FileDisk};
+use hy_disk::{Disk, FileDisk, FileFault};
 use hy_outside::{Sink, Source, StdSink, StdSource};
 use hy_threads::OpenGate;
 use std::alloc::{AllocError, Global};
+use std::env::VarError;
+use std::fmt::Display;
 use std::process::ExitCode;
-use std::rt::Env;
+use std::rt::{Env, Runtime};
 use std::sync::Wait;
 use std::thread::Threads;
 use std::{env, io, mem};
 
-/// The status where the words themselves found no memory.
+/// The variable that names the file of the log.
+const LOG: &str = "HY_LOG";
+
+/// The status where a read failed.
+const READ_FAULT: u8 = 3;
+
+/// The status where a write failed.
+const WRITE_FAULT: u8 = 4;
+
+/// The status where memory ran out.
 const NO_MEMORY: u8 = 5;
+
+/// The status where the file of the log failed.
+const LOG_FAULT: u8 = 6;
+
+/// The status where that file isn't the log that it should be.
+const NO_LOG: u8 = 7;
 
 /// Calls the program on the process's words, standard input, standard output, and the file of its log.
 fn main(rt: HostRuntime) -> ExitCode {
-    let Ok(words) = words_of(&rt) else {
+    let (Ok(words), Ok(log)) = (words_of(&rt), log_of(&rt)) else {
+        let _told = tell_memory(&rt);
         return ExitCode::from(NO_MEMORY);
     };
+    match &log {
+        Some(name) => call_over(&rt, &words, FileDisk::named(&rt, name)),
+        None => call_over(&rt, &words, FileDisk::new(&rt)),
+    }
+}
+
+/// Calls the program on these words, standard input, standard output, and a disk, and tells why it failed where it did.
+fn call_over<T: Runtime + Threads + Wait + Sync + AllocGlobal>(
+    rt: &T,
+    words: &[String],
+    mut disk: FileDisk<'_>,
+) -> ExitCode {
     let mut source = StdSource::new(rt.reader());
-    let mut sink = StdSink::new(io::writer(&rt));
-    let mut disk = FileDisk::new(&rt);
-    let code = exit_code_of(&rt, rt.alloc(), &words, &mut source, &mut sink, &mut disk);
-    tell_fault(&rt, &disk);
+    let mut sink = StdSink::new(io::writer(rt));
+    let code = exit_code_of(rt, rt.alloc(), words, &mut source, &mut sink, &mut disk);
+    let _told = tell_why(rt, code, words, &source, &sink, &disk);
     code
 }
 
-/// Writes to standard error why the file of the log could not be used, where it couldn't. Where that fails too the status
-/// tells it all the same.
-fn tell_fault(rt: &HostRuntime, disk: &FileDisk<'_>) {
-    if let Some(cause) = disk.cause() {
-        let _told = eprintln!(rt; "hy: hy.log {cause}");
+/// Writes the line to standard error that says why the call ended with a status of the outside. Where that fails too the
+/// status tells it all the same.
+fn tell_why<R, W>(
+    rt: &impl Eprint,
+    code: ExitCode,
+    words: &[String],
+    source: &StdSource<R>,
+    sink: &StdSink<W>,
+    disk: &FileDisk<'_>,
+) -> io::Result<()> {
+    if code == ExitCode::from(READ_FAULT) {
+        tell_cause(rt, "standard input", source.cause())
+    } else if code == ExitCode::from(WRITE_FAULT) {
+        tell_cause(rt, "standard output", sink.cause())
+    } else if code == ExitCode::from(NO_MEMORY) {
+        tell_memory(rt)
+    } else if code == ExitCode::from(LOG_FAULT) {
+        match disk.cause() {
+            Some(FileFault::Unnamed) => eprintln!(rt;
+                "hy: {LOG}: empty or no UTF-8, and so no name of a file"
+            ),
+            cause => tell_cause(rt, disk.name(), cause),
+        }
+    } else if code == ExitCode::from(NO_LOG) {
+        tell_cause(rt, disk.name(), Some(found_instead(words, disk)))
+    } else {
+        Ok(())
+    }
+}
+
+/// Says in one line, whatever characters a name has, why something of the outside failed.
+fn tell_cause(rt: &impl Eprint, what: &str, cause: Option<impl Display + Drop>) -> io::Result<()> {
+    let what = what.escape_debug();
+    match cause {
+        Some(cause) => eprintln!(rt; "hy: {what}: {cause}"),
+        None => Ok(()),
+    }
+}
+
+/// Says that memory ran out.
+fn tell_memory(rt: &impl Eprint) -> io::Result<()> {
+    eprintln!(rt; "hy: not enough memory")
+}
+
+/// What the file of the log is, where it isn't what these words need.
+fn found_instead(words: &[String], disk: &FileDisk<'_>) -> &'static str {
+    let recovers = words.get(1).is_some_and(|word| word.as_str() == "recover");
+    match (recovers, disk.is_open()) {
+        (true, true) => "damaged, or not of these tables",
+        (true, false) => "no such file",
+        (false, _) => "not empty",
     }
 }
 
@@ -109,5 +184,16 @@ fn words_of(rt: &(impl Env + AllocGlobal)) -> Result<Vec<String>, AllocError> {
         Ok(words) => words.collect(rt.alloc()),
         Err(error) if error.kind() == io::ErrorKind::OutOfMemory => Err(AllocError),
         Err(_) => Ok(Vec::new(rt.alloc())),
+    }
+}
+
+/// The name that the environment gives the file of the log, where it gives one. What is no text names no file, as if it were
+/// empty.
+fn log_of(rt: &(impl Env + AllocGlobal)) -> Result<Option<String>, AllocError> {
+    match env::var(rt, LOG) {
+        Ok(name) => Ok(Some(name)),
+        Err(VarError::NotPresent) => Ok(None),
+        Err(VarError::NotUnicode) => Ok(Some(String::new(rt.alloc()))),
+        Err(VarError::OutOfMemory) => Err(AllocError),
     }
 }

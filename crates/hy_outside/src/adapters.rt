@@ -1,5 +1,5 @@
 //! A source and a sink over std's readers and writers. They tell the bytes that the reader or the
-//! writer tells, and count each fault. What std itself does is trusted.
+//! writer tells, count each fault, and keep the cause of the first. What std itself does is trusted.
 ghost use Rattle.std.specs.Prelude.{◌≡◌, ◌^◌, ◌<◌, ◌≤◌, length, take, drop, IfOk, OnOk, OnErr, MatchResult};
 ghost use Rattle.std.specs.Io.{ReadsAtMost, WritesAtMost};
 ghost use Rattle.std.specs.Io.KnownBytes.{Keeps, IsAtEnd};
@@ -8,8 +8,8 @@ ghost use Rattle.hy_outside.specs.Faults.{one_more};
 ghost use Rattle.hy_outside.specs.Telling.{Gives, Takes};
 
 use crate::pieces::copy_front;
-use crate::{Failed, PIECE, Sink, Source};
-use std::io::{Read, Write};
+use crate::{Failed, PIECE, Sink, Source, SystemError};
+use std::io::{ErrorKind, Read, Write};
 use std::marker::Model;
 
 /// The source that reads from `R`.
@@ -17,6 +17,8 @@ use std::marker::Model;
 pub struct StdSource<R> {
     inner: R,
     faults: u64,
+    /// Why the first read failed that did.
+    cause: Option<SystemError>,
 }
 
 impl<R> Model for StdSource<R> {
@@ -35,7 +37,16 @@ impl<R> StdSource<R> {
     pub fn new(inner: R) -> StdSource<R>
         ensures { result ≡ record { inner = inner; faults = 0 } }
     {
-        StdSource { inner, faults: 0 }
+        StdSource {
+            inner,
+            faults: 0,
+            cause: None,
+        }
+    }
+
+    /// Why the first read failed that did, where one did.
+    pub fn cause(&self) -> Option<SystemError> {
+        self.cause
     }
 }
 
@@ -58,12 +69,17 @@ impl<R: Read> Source for StdSource<R> {
     {
         let mut buffer = [0; PIECE];
         let asked = into.len().min(PIECE);
-        let Ok(count) = self.inner.read(&mut buffer[..asked]) else {
-            self.faults = self.faults.saturating_add(1);
-            return Err(Failed);
-        };
-        copy_front(into, &buffer[..count]);
-        Ok(count)
+        match self.inner.read(&mut buffer[..asked]) {
+            Ok(count) => {
+                copy_front(into, &buffer[..count]);
+                Ok(count)
+            }
+            Err(error) => {
+                self.faults = self.faults.saturating_add(1);
+                self.cause = self.cause.or(Some(SystemError::from(error)));
+                Err(Failed)
+            }
+        }
     }
 }
 
@@ -74,6 +90,8 @@ pub struct StdSink<W> {
     inner: W,
     kept_back: usize,
     faults: u64,
+    /// Why the first write failed that did.
+    cause: Option<SystemError>,
 }
 
 impl<W> Model for StdSink<W> {
@@ -96,7 +114,13 @@ impl<W> StdSink<W> {
             inner,
             kept_back: 0,
             faults: 0,
+            cause: None,
         }
+    }
+
+    /// Why the first write failed that did, where one did.
+    pub fn cause(&self) -> Option<SystemError> {
+        self.cause
     }
 }
 
@@ -124,31 +148,50 @@ impl<W: Write> Sink for StdSink<W> {
         }
         match write_through(&mut self.inner, from) {
             Ok(count) => Ok(count),
-            Err(KeptBack(count)) => {
+            Err(KeptBack { count, cause }) => {
                 self.kept_back = count;
                 self.faults = self.faults.saturating_add(1);
+                self.cause = self.cause.or(Some(cause));
                 Err(Failed)
             }
         }
     }
 }
 
-/// How many bytes a writer took in a write that failed.
-struct KeptBack(usize);
+/// A write that failed.
+struct KeptBack {
+    /// How many bytes the writer took.
+    count: usize,
+    cause: SystemError,
+}
+
+impl KeptBack {
+    /// A write of which the writer took so many bytes, and what it said.
+    fn new(count: usize, cause: impl Into<SystemError>) -> KeptBack
+        ensures { result.count ≡ count }
+    {
+        KeptBack {
+            count,
+            cause: cause.into(),
+        }
+    }
+}
 
 /// Writes the first of the bytes, and passes on at once what the writer keeps back. A writer that takes
 /// none of the bytes has failed, as has one that cannot pass them on.
 fn write_through<W: Write>(writer: &mut W, bytes: &[u8]) -> Result<usize, KeptBack>
-    ensures bound { MatchResult result (λ n. n ≤ length bytes.now) (λ kept. kept.0 ≤ length bytes.now) }
+    ensures bound { MatchResult result (λ n. n ≤ length bytes.now) (λ kept. kept.count ≤ length bytes.now) }
     ensures some { IfOk result (λ n. 0 < length bytes.now → 0 < n) }
     ensures taken { MatchResult result (λ n. Takes (W.contents writer.old) (W.contents writer.new) (take n bytes.now))
-        (λ kept. Takes (W.contents writer.old) (W.contents writer.new) (take kept.0 bytes.now)) }
+        (λ kept. Takes (W.contents writer.old) (W.contents writer.new) (take kept.count bytes.now)) }
 {
-    let Ok(count) = writer.write(bytes) else {
-        return Err(KeptBack(0));
+    let count = match writer.write(bytes) {
+        Ok(count) => count,
+        Err(error) => return Err(KeptBack::new(0, error)),
     };
     match writer.flush() {
         Ok(()) if count > 0 || bytes.is_empty() => Ok(count),
-        _ => Err(KeptBack(count)),
+        Ok(()) => Err(KeptBack::new(count, ErrorKind::WriteZero)),
+        Err(error) => Err(KeptBack::new(count, error)),
     }
 }

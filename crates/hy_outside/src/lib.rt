@@ -11,10 +11,12 @@ ghost use Rattle.hy_outside.specs.declared.ReadAllError.TheVariants.{OutOfMemory
 mod adapters;
 mod memory;
 mod pieces;
+mod system;
 
 pub use adapters::{StdSink, StdSource};
 pub use memory::{CleanSource, MemSink, MemSource};
 use std::alloc::{AllocError, Global};
+pub use system::SystemError;
 
 /// A single read or write failed.
 #[derive(Clone, Copy, Debug, PartialEq, Eq)]

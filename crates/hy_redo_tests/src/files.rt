@@ -70,7 +70,9 @@ fn fails_where_a_sync_does(rt: HostRuntime) -> Result<(), Fail> {
     let mut disk = FileDisk::named(&rt, "/proc/self/comm");
     disk.write_at(0, b"")?;
     assert!(rt; disk.sync().is_err());
+    let cause = disk.cause();
+    assert!(rt; matches!(cause, Some(FileFault::Refused(_))));
     assert!(rt; disk.sync().is_err());
-    assert_eq!(rt; disk.cause(), Some(FileFault::Lost));
+    assert_eq!(rt; disk.cause(), cause);
     Ok(())
 }

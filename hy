@@ -14,8 +14,8 @@ hy runs a script of concurrent SQL transactions, and prints what each was told a
                  runs the script; prints the replies, the commit order and the final tables
     ./hy check [--chunks N] [--rows N] [FILE]
                  reads the script; prints what it has, or the line and the code of its first mistake
-    ./hy recover [--chunks N] [--rows N] [FILE]
-                 prints the script's tables as the log hy.log of an earlier run makes them
+    ./hy recover [--script] [--chunks N] [--rows N] [FILE]
+                 prints the script's tables as the log of an earlier run makes them
     ./hy gen --seed N --sessions K --transactions M [--threads]
                  makes a bank and its sessions from the number N, runs them, and counts how they ended
     ./hy serve [--log] [--chunks N] [--rows N]
@@ -27,12 +27,15 @@ FILE is the script. Where none is named, or it is -, the script is standard inpu
 
     --threads           each session on a thread of its own; the schedule isn't used
     --no-prune          old versions are kept
-    --log               the commits are kept in the file hy.log; not with --threads
+    --log               the commits are kept in a log; not with --threads
+    --script            the tables as the beginning of a script that goes on from them
     --chunks N          each table has N chunks, 1 to 64; 4 where nothing is said
     --rows N            each chunk has N rows, 1 to 1024; 1024 where nothing is said
     --seed N            0 to 4294967295
     --sessions K        1 to 64
     --transactions M    in each session, 1 to 1000
+
+The log is the file hy.log, or the one that the environment variable HY_LOG names.
 
 Examples:
 
@@ -350,12 +353,12 @@ open_script() {
         exec 3</dev/null
     elif [ "$file" = - ]; then
         file='standard input'
-        command exec 3<&0 || fail_to_read "$file can't be read"
+        { command exec 3<&0; } 2>/dev/null || fail_to_read "$file: Bad file descriptor"
     else
         [ -e "$file" ] || fail_to_read "$file: there is no such file"
         [ ! -d "$file" ] || fail_to_read "$file: is a folder"
         [ -r "$file" ] || fail_to_read "$file: may not be read"
-        command exec 3<"$file" || fail_to_read "$file can't be read"
+        { command exec 3<"$file"; } 2>/dev/null || fail_to_read "$file: can't be opened"
         [ ! -f "$file" ] || script=$file
     fi
 }
@@ -365,8 +368,30 @@ copy_script() {
     [ -z "$script" ] && [ "$command" != gen ] || return 0
     make_room
     script=$room/script
-    head -c 16777217 <&3 >"$script" || fail_to_read "$file can't be read"
+    cause=$(LC_ALL=C head -c 16777217 <&3 2>&1 >"$script") || {
+        case $cause in *writ*) fail "the script can't be copied to $room" ;; esac
+        fail_to_read "$file: ${cause##*: }"
+    }
     exec 3<"$script"
+}
+
+# Whether this is UTF-8, where iconv is there to say.
+is_text() {
+    ! command -v iconv >/dev/null || printf '%s' "$1" | iconv -f UTF-8 -t UTF-8 >/dev/null 2>&1
+}
+
+# Copies the log to where rt has it for the program, under the name that it looks for there: rt gives it no environment. So
+# a variable that names no file is refused here, with the program's status and line, though before the script is read.
+find_log() {
+    kept=${HY_LOG-hy.log}
+    if [ -n "${HY_LOG+set}" ] && { [ -z "$kept" ] || ! is_text "$kept"; }; then
+        complain "HY_LOG: empty or no UTF-8, and so no name of a file"
+        exit 6
+    fi
+    [ ! -e "$kept" ] || cp -- "$kept" "$room/hy.log" 2>/dev/null || {
+        complain "$kept: can't be read"
+        exit 6
+    }
 }
 
 # Runs the sources as they are. For each run rt compiles them anew, in a minute or two; it passes on what the program wrote when
@@ -382,9 +407,10 @@ run_unproved() {
     find_bench
     make_room
     set -- -- "$@"
-    if [ "$command" = recover ] && [ -e hy.log ]; then
-        cp hy.log "$room/hy.log" || fail "hy.log can't be copied to $room"
-        set -- --data "hy.log=$room/hy.log" "$@"
+    kept=hy.log
+    if [ "$command" = recover ]; then
+        find_log
+        [ ! -e "$room/hy.log" ] || set -- --data "hy.log=$room/hy.log" "$@"
     fi
     (cd "$bench/crates/hy_main" && exec rt try --steps 1 --seconds 86400 "$@") <&3 >"$room/text" 2>"$room/said" &
     attend
@@ -393,8 +419,13 @@ run_unproved() {
         tail -n 20 "$room/said" >&2
         fail "unproved, these sources gave no answer: rt tells why above"
     fi
-    grep '^hy: ' "$room/said" >&2
-    cat "$room/text" || status=4
+    grep '^hy: ' "$room/said" | kept=$kept awk '
+        index($0, "hy: hy.log: ") == 1 { $0 = "hy: " ENVIRON["kept"] substr($0, 11) }
+        { print }' >&2
+    if ! cat "$room/text" 2>/dev/null; then
+        complain "standard output: it took only a part of what was to be written"
+        status=4
+    fi
 }
 
 # Says in words which line is refused, and why. docs/refusals.txt has the words, and says what they are chosen by.
@@ -446,7 +477,7 @@ explain_refusal() {
             }' >&2
 }
 
-# Says what a status stands for. Of status 6 the program says more itself.
+# Says what a status stands for, where the program doesn't: what came from outside, 3 to 7, it tells itself.
 explain() {
     case $status in
         1) complain "these words are refused; ./hy help shows what there is" ;;
@@ -458,15 +489,6 @@ explain() {
                 explain_refusal "$("$program" check $setting <"$script")"
             fi
             ;;
-        3) complain "$file can't be read" ;;
-        4) complain "standard output took only a part of what was to be written" ;;
-        5) complain "there is not enough memory" ;;
-        7)
-            case $command in
-                run) complain "hy.log has bytes already: recover from it, or move it away, and run again" ;;
-                *) complain "hy.log is no log of this script's tables from that offset on, or isn't there" ;;
-            esac
-            ;;
         *) [ "$status" -le 128 ] || complain "the program was ended by signal $((status - 128))" ;;
     esac
 }
@@ -477,7 +499,8 @@ numbers=
 case $command in
     run) flags='threads no-prune log' numbers='chunks rows' ;;
     serve) flags=log numbers='chunks rows' ;;
-    check | recover) numbers='chunks rows' ;;
+    check) numbers='chunks rows' ;;
+    recover) flags=script numbers='chunks rows' ;;
     gen) flags=threads numbers='seed sessions transactions' ;;
     build) ;;
     help | -h | --help) help ;;

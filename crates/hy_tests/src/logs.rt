@@ -16,6 +16,20 @@ const BEFORE: &[u8] = b"table t 1\nrow 1\nend\n";
 /// And after it.
 const AFTER: &[u8] = b"table t 1\nrow 5\nend\n";
 
+/// And after it, as `recover --script` writes them.
+const DUMPED: &[u8] = b"CREATE TABLE t (n INT);\nINSERT INTO t VALUES (5);\n";
+
+/// A script whose tables have a key, a NULL, a quote, an empty text, the least number, and no rows.
+const KEPT: &[u8] =
+    b"CREATE TABLE acc (id INT PRIMARY KEY, who TEXT, bal INT); CREATE TABLE none (n INT); \
+INSERT INTO acc VALUES (7, 'o''hara', NULL); SESSION a; BEGIN; \
+INSERT INTO acc VALUES (-9223372036854775808, '', 1); UPDATE acc SET bal = -5 WHERE id = 7; \
+UPDATE acc SET bal = NULL WHERE who = ''; COMMIT; END;";
+
+/// Its tables at the end.
+const KEPT_TABLES: &[u8] =
+    b"table acc 2\nrow -9223372036854775808|''|NULL\nrow 7|'o''hara'|-5\ntable none 0\nend\n";
+
 /// The time of the disk once a log is made: a write and a sync.
 const MADE: u64 = 2;
 
@@ -30,13 +44,19 @@ fn came_to<T: Threads + Wait + Sync + AllocGlobal>(
     words: &[&str],
     disk: &mut MemDisk,
 ) -> Result<(u8, Vec<u8>), AllocError> {
+    came_of(rt, words, OLD_SNAPSHOT.as_bytes(), disk)
+}
+
+/// The status and the text of a command on a script.
+fn came_of<T: Threads + Wait + Sync + AllocGlobal>(
+    rt: &T,
+    words: &[&str],
+    script: &[u8],
+    disk: &mut MemDisk,
+) -> Result<(u8, Vec<u8>), AllocError> {
     let alloc = rt.alloc();
     let words = words_of(alloc, words)?;
-    let mut source = MemSource::new(
-        OLD_SNAPSHOT.as_bytes().to_vec(alloc)?,
-        4096,
-        Vec::new(alloc),
-    );
+    let mut source = MemSource::new(script.to_vec(alloc)?, 4096, Vec::new(alloc));
     let mut sink = MemSink::new(alloc, 10_000, Vec::new(alloc))?;
     let report = hy_top::run(rt, alloc, &words, &mut source, &mut sink, &OpenGate, disk);
     Ok((report.status, sink.bytes().to_vec(alloc)?))
@@ -67,6 +87,8 @@ fn a_log_is_kept_and_recovered(rt: HostRuntime) -> Result<(), Fail> {
     assert_eq!(rt; disk.bytes().len(), 74);
     let (status, text) = came_to(&rt, &["hy", "recover"], &mut disk)?;
     assert_eq!(rt; (status, text.as_slice()), (0, AFTER));
+    let (status, text) = came_to(&rt, &["hy", "recover", "--script"], &mut disk)?;
+    assert_eq!(rt; (status, text.as_slice()), (0, DUMPED));
     let (status, text) = came_to(&rt, &["hy", "run", "--log"], &mut disk)?;
     assert_eq!(rt;
         (status, text.as_slice()),
@@ -80,6 +102,24 @@ fn a_log_is_kept_and_recovered(rt: HostRuntime) -> Result<(), Fail> {
         (status, text.as_slice()),
         (7, b"log: damaged at 8\n".as_slice())
     );
+    Ok(())
+}
+
+#[test]
+fn what_is_dumped_is_read_back(rt: HostRuntime) -> Result<(), Fail> {
+    let alloc = rt.alloc();
+    let mut disk = disk_of(alloc, &[], &[])?;
+    let (status, _) = came_of(&rt, &["hy", "run", "--log"], KEPT, &mut disk)?;
+    assert_eq!(rt; status, 0);
+    let (status, told) = came_of(&rt, &["hy", "recover"], KEPT, &mut disk)?;
+    assert_eq!(rt; (status, told.as_slice()), (0, KEPT_TABLES));
+    let (_, mut dumped) = came_of(&rt, &["hy", "recover", "--script"], KEPT, &mut disk)?;
+    dumped.extend_from_slice(b"END;")?;
+    let (status, text) = came_of(&rt, &["hy", "run"], dumped.as_slice(), &mut disk)?;
+    assert_eq!(rt; status, 0);
+    let mut wanted = b"order 0\n".to_vec(alloc)?;
+    wanted.extend_from_slice(KEPT_TABLES)?;
+    assert_eq!(rt; text.as_slice(), wanted.as_slice());
     Ok(())
 }
 

@@ -174,7 +174,7 @@ record AreFew (options : Options) : Type 0 where
 few_of : (command : Command) → IsWithin command → AreFew (options_by command)
 few_of (Run threads prune log chunks rows) within = record { some_chunk = within.0; few_chunks = within.1; some_row = within.2; few_rows = within.3 }
 few_of (Check chunks rows) within = record { some_chunk = within.0; few_chunks = within.1; some_row = within.2; few_rows = within.3 }
-few_of (Recover chunks rows) within = record { some_chunk = within.0; few_chunks = within.1; some_row = within.2; few_rows = within.3 }
+few_of (Recover dumps chunks rows) within = record { some_chunk = within.0; few_chunks = within.1; some_row = within.2; few_rows = within.3 }
 few_of (Serve log chunks rows) within = record { some_chunk = within.0; few_chunks = within.1; some_row = within.2; few_rows = within.3 }
 few_of (Gen seed sessions txns threads) within = record { some_chunk = omega arith; few_chunks = omega arith; some_row = omega arith; few_rows = omega arith }
 
@@ -269,7 +269,7 @@ did_otherwise (Gen seed sessions txns threads) script found status given before 
     done_otherwise 0 status before after _ (λ two. omega (arith, two)) ran.writes
 did_otherwise (Check chunks rows) script found status given before after done =
     done_otherwise 0 status before after _ (λ two. omega (arith, two)) done.writes
-did_otherwise (Recover chunks rows) script found status given before after done =
+did_otherwise (Recover dumps chunks rows) script found status given before after done =
     done_otherwise (restored_status done.restored) status before after _ (restored_otherwise done.restored) done.writes
 did_otherwise (Serve log chunks rows) script found status given before after never = absurd never
 
@@ -296,9 +296,9 @@ done_answers (Gen seed sessions txns threads) bytes found script status given be
 done_answers (Check chunks rows) bytes found script status given before after once law fit s (inr done) =
     quiet_answers (Check chunks rows) bytes found script status given before after once s done.nothing_is_run
     (did_otherwise (Check chunks rows) script found status given before after done) (inr done)
-done_answers (Recover chunks rows) bytes found script status given before after once law fit s (inr done) =
-    quiet_answers (Recover chunks rows) bytes found script status given before after once s done.nothing_is_run
-    (did_otherwise (Recover chunks rows) script found status given before after done) (inr done)
+done_answers (Recover dumps chunks rows) bytes found script status given before after once law fit s (inr done) =
+    quiet_answers (Recover dumps chunks rows) bytes found script status given before after once s done.nothing_is_run
+    (did_otherwise (Recover dumps chunks rows) script found status given before after done) (inr done)
 done_answers (Serve log chunks rows) bytes found script status given before after once law fit s (inr never) = absurd never
 
 whole_is_read : (all : List ℕ) → length all ≤ MOST_BYTES → bytes_read all ≡ all

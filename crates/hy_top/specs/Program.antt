@@ -29,7 +29,7 @@ IsRead rest bytes = IfSome rest (λ all. bytes ≡ bytes_read all)
 abbrev pub options_by : Command → Options
 options_by (Run threads prune log chunks rows) = record { chunks = chunks; rows = rows }
 options_by (Check chunks rows) = record { chunks = chunks; rows = rows }
-options_by (Recover chunks rows) = record { chunks = chunks; rows = rows }
+options_by (Recover dumps chunks rows) = record { chunks = chunks; rows = rows }
 options_by (Serve log chunks rows) = record { chunks = chunks; rows = rows }
 options_by (Gen seed sessions txns threads) = record { chunks = 4; rows = 16 }
 
@@ -37,7 +37,7 @@ options_by (Gen seed sessions txns threads) = record { chunks = 4; rows = 16 }
 abbrev pub served_by : Command → Option Options
 served_by (Run threads prune log chunks rows) = None
 served_by (Check chunks rows) = None
-served_by (Recover chunks rows) = None
+served_by (Recover dumps chunks rows) = None
 served_by (Serve log chunks rows) = Some (record { chunks = chunks; rows = rows })
 served_by (Gen seed sessions txns threads) = None
 
@@ -48,7 +48,7 @@ does_serve command = is_some (option_and_then served_by command)
 abbrev pub reads_script : Command → Bool
 reads_script (Run threads prune log chunks rows) = true
 reads_script (Check chunks rows) = true
-reads_script (Recover chunks rows) = true
+reads_script (Recover dumps chunks rows) = true
 reads_script (Serve log chunks rows) = false
 reads_script (Gen seed sessions txns threads) = false
 
@@ -56,7 +56,7 @@ reads_script (Gen seed sessions txns threads) = false
 abbrev pub made_by : Command → Option Script
 made_by (Run threads prune log chunks rows) = None
 made_by (Check chunks rows) = None
-made_by (Recover chunks rows) = None
+made_by (Recover dumps chunks rows) = None
 made_by (Serve log chunks rows) = None
 made_by (Gen seed sessions txns threads) = Some (made seed sessions txns)
 
@@ -64,7 +64,7 @@ made_by (Gen seed sessions txns threads) = Some (made seed sessions txns)
 abbrev pub keeps_log : Command → Bool
 keeps_log (Run threads prune log chunks rows) = log
 keeps_log (Check chunks rows) = false
-keeps_log (Recover chunks rows) = false
+keeps_log (Recover dumps chunks rows) = false
 keeps_log (Serve log chunks rows) = log
 keeps_log (Gen seed sessions txns threads) = false
 
@@ -73,7 +73,7 @@ abbrev pub uses_disk : Option Command → Bool
 uses_disk None = false
 uses_disk (Some (Run threads prune log chunks rows)) = log
 uses_disk (Some (Check chunks rows)) = false
-uses_disk (Some (Recover chunks rows)) = true
+uses_disk (Some (Recover dumps chunks rows)) = true
 uses_disk (Some (Serve log chunks rows)) = log
 uses_disk (Some (Gen seed sessions txns threads)) = false
 

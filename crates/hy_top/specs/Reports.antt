@@ -2,6 +2,8 @@
 use Rattle.std.specs.Prelude.{◌≡◌, ℕ, ◌<◌, ◌≤◌, pos, List, [], Bool, true, false, Option, None, Some, Result, Ok, Err, IsNone, IsSome, IfSome, ◌⊎◌, length, map}
 use Rattle.std.specs.List.{AllByRecursion}
 use Rattle.hy_outside.specs.Telling.{Takes, TakesSome}
+use Rattle.hy_dump.specs.Dump.{dump}
+use Rattle.hy_schema.specs.declared.TableDef.{TableDef}
 use Rattle.hy_script.specs.declared.Script.{Script}
 use Rattle.hy_script.specs.declared.Refused.{Refused}
 use Rattle.hy_script.specs.Reading.{Reads}
@@ -46,7 +48,7 @@ Spells command bytes script = Reads bytes (options_by command) (Ok script)
 abbrev pub IsRun : Command → Type 0
 IsRun (Run threads prune log chunks rows) = Unit {0}
 IsRun (Check chunks rows) = ⊥
-IsRun (Recover chunks rows) = ⊥
+IsRun (Recover dumps chunks rows) = ⊥
 IsRun (Serve log chunks rows) = ⊥
 IsRun (Gen seed sessions txns threads) = Unit {0}
 
@@ -108,18 +110,23 @@ abbrev pub restored_status : Result (List (List (List Value))) ℕ → ℕ
 restored_status (Ok rows) = 0
 restored_status (Err offset) = 7
 
-abbrev pub restored_text : Names → Result (List (List (List Value))) ℕ → List ℕ
-restored_text names (Ok rows) = tables_text names rows
-restored_text names (Err offset) = damaged_line offset
+-- tables as the text of an outcome ends with them, or as the beginning of a script that makes them
+abbrev pub rows_text : Bool → List TableDef → Names → List (List (List Value)) → List ℕ
+rows_text false catalog names rows = tables_text names rows
+rows_text true catalog names rows = dump catalog rows
+
+abbrev pub restored_text : Bool → Script → Result (List (List (List Value))) ℕ → List ℕ
+restored_text dumps script (Ok rows) = rows_text dumps script.catalog (names_at script) rows
+restored_text dumps script (Err offset) = damaged_line offset
 
 -- the tables of the script were made again from the log on the disk and written, or it was told where the log is damaged
-pub record Restores (script : Script) (held : Option (List ℕ)) (status : ℕ) (outcome : Option Outcome) (before after : Option (List ℕ)) : Type 0 where
+pub record Restores (dumps : Bool) (script : Script) (held : Option (List ℕ)) (status : ℕ) (outcome : Option Outcome) (before after : Option (List ℕ)) : Type 0 where
   pub found : List ℕ
   pub own : IsOwn held found
   pub restored : Result (List (List (List Value))) ℕ
   pub is : IsRestored script found restored
   pub nothing_is_run : IsNone outcome
-  pub writes : Writes (restored_status restored) status before after (restored_text (names_at script) restored)
+  pub writes : Writes (restored_status restored) status before after (restored_text dumps script restored)
 
 -- what the command asks for was done; one that serves does nothing with a script
 abbrev pub Does : Command → Script → Option (List ℕ) → ℕ → Option Outcome → Option (List ℕ) → Option (List ℕ) → Type 0
@@ -127,7 +134,7 @@ Does (Run threads prune false chunks rows) script held status outcome before aft
 Does (Run threads prune true chunks rows) script held status outcome before after =
     RunsLogged script held status outcome before after ⊎ FindsALog held status outcome before after
 Does (Check chunks rows) script held status outcome before after = Checks script status outcome before after
-Does (Recover chunks rows) script held status outcome before after = Restores script held status outcome before after
+Does (Recover dumps chunks rows) script held status outcome before after = Restores dumps script held status outcome before after
 Does (Serve log chunks rows) script held status outcome before after = ⊥
 Does (Gen seed sessions txns threads) script held status outcome before after = Summarizes threads script status outcome before after
 

@@ -90,9 +90,9 @@ const USAGE: &[u8] = b"usage: hy run|check|gen\n";
 /// writes a summary of its outcome. The first word is the program's name. With `--threads` each session runs on a thread
 /// of its own, and the gate is told of each of its visits; then the call waits for locks and for the threads' ends. With
 /// `--log` a redo log is made on the disk, and has each entry of the commit order before another step is taken; `recover`
-/// reads a script, and writes the tables that the log on the disk makes of its first rows. `serve` answers each line of the
-/// source before it reads the next, and keeps a log too with `--log`. What is said of a sink's bytes and of crashes holds where
-/// the sink and the disk tell them.
+/// reads a script, and writes the tables that the log on the disk makes of its first rows, with `--script` as the lines of a
+/// script that makes them. `serve` answers each line of the source before it reads the next, and keeps a log too with `--log`.
+/// What is said of a sink's bytes and of crashes holds where the sink and the disk tell them.
 pub fn run<T: Threads + Wait + Sync, R: Source, W: Sink, G: Gate, D: Disk>(
     rt: &T,
     alloc: Global,
@@ -339,7 +339,7 @@ fn options_of(command: Command) -> Options
     match command {
         Command::Run { chunks, rows, .. } => Options { chunks, rows },
         Command::Check { chunks, rows } => Options { chunks, rows },
-        Command::Recover { chunks, rows } => Options { chunks, rows },
+        Command::Recover { chunks, rows, .. } => Options { chunks, rows },
         Command::Serve { chunks, rows, .. } => Options { chunks, rows },
         Command::Gen { .. } => Options {
             chunks: 4,
@@ -424,7 +424,7 @@ fn perform<T: Threads + Wait + Sync, W: Sink, G: Gate, D: Disk>(
             run_script(crew, script, mode, sink)
         }
         Command::Check { .. } => check_script(crew.alloc, script, sink),
-        Command::Recover { .. } => recover_script(crew.alloc, script, sink, disk),
+        Command::Recover { dumps, .. } => recover_script(crew.alloc, script, dumps, sink, disk),
         Command::Gen { threads, .. } => summarize_script(crew, script, threads, sink),
         Command::Serve { .. } => unreachable!(),
     }

@@ -3,7 +3,7 @@
 ghost use Rattle.std.specs.Prelude.{◌≡◌, ◌≢◌, ℕ, ◌≤◌, ◌⊎◌, false, List, [], Some, IsNone, IfSome, IfOk, IfErr, IsErrOf};
 ghost use Rattle.hy_outside.specs.Faults.{Rose};
 ghost use Rattle.hy_value.specs.declared.Value.{Value};
-ghost use Rattle.hy_render.specs.Report.{tables_text, text};
+ghost use Rattle.hy_render.specs.Report.{text};
 ghost use Rattle.hy_disk.specs.Bytes.{IsOwn};
 ghost use Rattle.hy_disk.specs.Calls.{Syncs};
 ghost use Rattle.hy_redo.specs.Crashes.{AreLogsOf};
@@ -11,20 +11,23 @@ ghost use Rattle.hy_redo.specs.Recovery.{DamagedIn};
 ghost use Rattle.hy_recovery.specs.Recovered.{AreRecovered};
 ghost use Rattle.hy_top.specs.Lines.{damaged_line};
 ghost use Rattle.hy_top.specs.Program.{comes_to, names_at};
-ghost use Rattle.hy_top.specs.Reports.{Writes, Runs, RunsLogged, FindsALog, Restores, GaveUp, LeavesLog, KeepsLog, IsLoggedSince, tables_at};
+ghost use Rattle.hy_top.specs.Reports.{Writes, Runs, RunsLogged, FindsALog, Restores, GaveUp, LeavesLog, KeepsLog, IsLoggedSince, rows_text, tables_at};
 ghost use Rattle.hy_top.specs.Settings.{CanRun, IsUtf8Script};
 
 use crate::lines::damage_line;
-use crate::settings::{Given, given_of};
+use crate::settings::{Given, given_and_catalog, given_of};
 use crate::{DISK_FAULT, NO_MEMORY, Report, tell, without_outcome, write};
+use hy_bound::StoredRows;
 use hy_disk::Disk;
+use hy_dump::dump;
 use hy_outside::Sink;
 use hy_recovery::recover_rows;
 use hy_redo::{AppendError, CreateError, Log, RecoverError, create};
-use hy_render::{Outcome, render, render_tables};
+use hy_render::{Names, Outcome, render, render_tables};
+use hy_schema::Catalog;
 use hy_script::Script;
 use hy_world::World;
-use std::alloc::Global;
+use std::alloc::{AllocError, Global};
 
 /// What is written where a log was to be made on a disk that has bytes.
 pub(crate) const NOT_EMPTY: &[u8] = b"log: not empty\n";
@@ -119,15 +122,17 @@ fn logged_text<D: Disk>(
     Ok((outcome, written))
 }
 
-/// Writes the tables that the log on the disk makes of a script's first rows, or where the log is damaged.
+/// Writes the tables that the log on the disk makes of a script's first rows, as they are told or dumped, or where the log is
+/// damaged.
 pub(crate) fn recover_script<W: Sink, D: Disk>(
     alloc: Global,
     script: Script,
+    dumps: bool,
     sink: &mut W,
     disk: &mut D,
 ) -> Report
     ensures restores { GaveUp result.status × (sink.new ≡ sink.old) × IsNone result.outcome
-        ⊎ Restores script (D.held disk.old) result.status result.outcome (W.written sink.old) (W.written sink.new) }
+        ⊎ Restores dumps script (D.held disk.old) result.status result.outcome (W.written sink.old) (W.written sink.new) }
     ensures nothing { IsNone result.outcome }
     ensures held { D.held disk.new ≡ D.held disk.old }
     ensures syncs { Syncs D.held D.clock D.image D.image_since disk.old disk.new }
@@ -136,7 +141,7 @@ pub(crate) fn recover_script<W: Sink, D: Disk>(
     ensures disk_fault { result.status ≡ 6 → Rose (D.faults disk.old) (D.faults disk.new) }
     ensures disk_steady { result.status ≢ 6 → D.faults disk.new ≡ D.faults disk.old }
 {
-    match restored_text(alloc, script, disk) {
+    match restored_text(alloc, script, dumps, disk) {
         Ok(written) => without_outcome(write(sink, written.as_slice(), 0)),
         Err(RecoverError::Damaged { at }) => tell_damage(alloc, at, sink),
         Err(RecoverError::DiskFault) => without_outcome(DISK_FAULT),
@@ -144,29 +149,48 @@ pub(crate) fn recover_script<W: Sink, D: Disk>(
     }
 }
 
-/// The text of the tables that the log on the disk makes of a script's first rows.
+/// The text of the tables that the log on the disk makes of a script's first rows, as they are told or dumped.
 fn restored_text<D: Disk>(
     alloc: Global,
     script: Script,
+    dumps: bool,
     disk: &mut D,
 ) -> Result<Vec<u8>, RecoverError>
     ensures text { IfOk result (λ written. (rows : List (List (List Value))) × (bytes : List ℕ) × IsOwn (D.held disk.old) bytes
-        × AreRecovered (tables_at script) bytes rows × (written.items ≡ tables_text (names_at script) rows)) }
+        × AreRecovered (tables_at script) bytes rows × (written.items ≡ rows_text dumps script.catalog (names_at script) rows)) }
     ensures damaged { IfErr result (DamagedIn (tables_at script) (D.held disk.old)) }
     ensures held { D.held disk.new ≡ D.held disk.old }
     ensures syncs { Syncs D.held D.clock D.image D.image_since disk.old disk.new }
     ensures fault { IsErrOf result RecoverError.DiskFault → Rose (D.faults disk.old) (D.faults disk.new) }
     ensures steady { ¬ IsErrOf result RecoverError.DiskFault → D.faults disk.new ≡ D.faults disk.old }
 {
+    let (given, catalog) = given_and_catalog(alloc, script)?;
     let Given {
         setting,
         kinds,
         names,
         schedule: _,
-    } = given_of(alloc, script)?;
+    } = given;
     let rows = recover_rows(alloc, &setting, kinds.as_slice(), disk)?;
+    Ok(text_of_rows(alloc, dumps, &catalog, &names, rows.as_slice())?)
+}
+
+/// The text of tables as that of an outcome ends with them, or the lines of a script that makes them.
+fn text_of_rows(
+    alloc: Global,
+    dumps: bool,
+    catalog: &Catalog,
+    names: &Names,
+    rows: &[StoredRows],
+) -> Result<Vec<u8>, AllocError>
+    ensures { IfOk result (λ written. written.items ≡ rows_text dumps catalog.now names.now rows.now) }
+{
     let mut written = Vec::new(alloc);
-    render_tables(&names, rows.as_slice(), &mut written)?;
+    if dumps {
+        dump(catalog, rows, &mut written)?;
+    } else {
+        render_tables(names, rows, &mut written)?;
+    }
     Ok(written)
 }
 

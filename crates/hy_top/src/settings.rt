@@ -8,6 +8,7 @@ ghost use Rattle.hy_top.specs.Program.{names_at};
 use hy_bound::{Schedule, Statements, Txn, Txns};
 use hy_machine::Setting;
 use hy_render::{Names, Texts};
+use hy_schema::Catalog;
 use hy_script::{NamedTxns, Script};
 use hy_setting::{all_kinds, shapes_of, table_names};
 use hy_value::Seq;
@@ -34,6 +35,18 @@ pub fn given_of(alloc: Global, script: Script) -> Result<Given, AllocError>
     ensures names { IfOk result (λ given. given.names ≡ names_at script) }
     ensures schedule { IfOk result (λ given. given.schedule ≡ script.schedule) }
 {
+    let (given, _catalog) = given_and_catalog(alloc, script)?;
+    Ok(given)
+}
+
+/// The same, and the script's tables as they are defined.
+pub fn given_and_catalog(alloc: Global, script: Script) -> Result<(Given, Catalog), AllocError>
+    ensures setting { IfOk result (λ both. both.0.setting ≡ setting_at script) }
+    ensures kinds { IfOk result (λ both. both.0.kinds ≡ catalog_kinds script.catalog) }
+    ensures names { IfOk result (λ both. both.0.names ≡ names_at script) }
+    ensures schedule { IfOk result (λ both. both.0.schedule ≡ script.schedule) }
+    ensures catalog { IfOk result (λ both. both.1 ≡ script.catalog) }
+{
     let Script {
         catalog,
         rows,
@@ -57,12 +70,13 @@ pub fn given_of(alloc: Global, script: Script) -> Result<Given, AllocError>
         tables,
         sessions: names,
     };
-    Ok(Given {
+    let given = Given {
         setting,
         kinds,
         names,
         schedule,
-    })
+    };
+    Ok((given, catalog))
 }
 
 /// The names of sessions.

@@ -18,6 +18,9 @@ prune_flag = flag (codes "no-prune")
 abbrev pub log_flag : Rule
 log_flag = flag (codes "log")
 
+abbrev pub script_flag : Rule
+script_flag = flag (codes "script")
+
 -- an option that takes one number from 1 to `most`
 abbrev pub number_option : Text → ℤ → Text → Rule
 number_option name most default = record (new_rule name) {
@@ -53,7 +56,7 @@ abbrev pub check : Shape
 check = sized (new_shape (codes "check"))
 
 abbrev pub recover : Shape
-recover = sized (new_shape (codes "recover"))
+recover = sized (record (new_shape (codes "recover")) { rules = script_flag ∷ [] })
 
 abbrev pub serve : Shape
 serve = sized (record (new_shape (codes "serve")) { rules = log_flag ∷ [] })

@@ -51,6 +51,11 @@ run_with (Some threads) (Some keeps) (Some log) (Some (chunks, rows)) =
     if threads && log then None else Some (Run threads (not keeps) log chunks rows)
 run_with _ _ _ _ = None
 
+-- `recover` with these, where the matches have each
+abbrev pub recover_with : Option Bool → Option (ℕ × ℕ) → Option Command
+recover_with (Some dumps) (Some (chunks, rows)) = Some (Recover dumps chunks rows)
+recover_with _ _ = None
+
 -- `serve` with these, where the matches have each
 abbrev pub serve_with : Option Bool → Option (ℕ × ℕ) → Option Command
 serve_with (Some log) (Some (chunks, rows)) = Some (Serve log chunks rows)
@@ -71,7 +76,7 @@ abbrev pub check_by : List Row → Option Command
 check_by matches = option_map (λ sizes. Check sizes.0 sizes.1) (sizes_in matches)
 
 abbrev pub recover_by : List Row → Option Command
-recover_by matches = option_map (λ sizes. Recover sizes.0 sizes.1) (sizes_in matches)
+recover_by matches = recover_with (truth_in (codes "script") matches) (sizes_in matches)
 
 abbrev pub serve_by : List Row → Option Command
 serve_by matches = serve_with (truth_in (codes "log") matches) (sizes_in matches)
@@ -102,7 +107,7 @@ AreSizes chunks rows = (0 < chunks) × (chunks ≤ 64) × (0 < rows) × (rows �
 abbrev pub IsWithin : Command → Type 0
 IsWithin (Run threads prune log chunks rows) = AreSizes chunks rows
 IsWithin (Check chunks rows) = AreSizes chunks rows
-IsWithin (Recover chunks rows) = AreSizes chunks rows
+IsWithin (Recover dumps chunks rows) = AreSizes chunks rows
 IsWithin (Serve log chunks rows) = AreSizes chunks rows
 IsWithin (Gen seed sessions txns threads) = (0 < sessions) × (sessions ≤ 64) × (0 < txns) × (txns ≤ 1000)
 

@@ -71,7 +71,8 @@ fn recover<'a>(alloc: Global) -> Result<Command<'a>, AllocError>
     ensures shape { IfOk result (λ c. shape_of c ≡ recover) }
     ensures local { IfOk result (λ c. (fields_of c).has_globals ≡ false) }
 {
-    sized(alloc, Command::new(alloc, "recover"))
+    let flags = Command::new(alloc, "recover").arg(flag(alloc, "script"))?;
+    sized(alloc, flags)
 }
 
 /// The words that `serve` takes.

@@ -48,6 +48,8 @@ pub enum Command {
     },
     /// Make the tables of a script again from a redo log.
     Recover {
+        /// Whether they are written as the lines of a script that makes them.
+        dumps: bool,
         /// How many chunks a table has.
         chunks: u32,
         /// How many positions a chunk has.
@@ -160,8 +162,13 @@ fn recover_asked(given: &ArgMatches<'_>) -> Option<Command>
     ensures asked { result ≡ recover_by (rows_of (found_of given.now)) }
     ensures within { IfSome result (λ command. IsWithin command) }
 {
+    let dumps = truth(given, "script")?;
     let (chunks, rows) = sizes(given)?;
-    Some(Command::Recover { chunks, rows })
+    Some(Command::Recover {
+        dumps,
+        chunks,
+        rows,
+    })
 }
 
 /// What the matches of `serve` ask for.

@@ -3,7 +3,8 @@
 
 ghost use Rattle.std.specs.Prelude.{◌≡◌, ◌++◌, List, OnOk};
 ghost use Rattle.std.specs.List.{flat_map};
-ghost use Rattle.hy_dump.specs.Dump.{column_text, columns_text, comma_before, create_line, dump, enclosed, insert_line, is_key, key_mark, kind_word, rows_at, values_text};
+ghost use Rattle.hy_dump.specs.Dump.{column_text, columns_text, comma_before, create_line, dump, enclosed};
+ghost use Rattle.hy_dump.specs.Dump.{insert_line, is_key, key_mark, kind_word, rows_at, values_text};
 
 use hy_bound::StoredRows;
 use hy_schema::{Catalog, Column, TableDef};

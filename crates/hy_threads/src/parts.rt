@@ -268,8 +268,8 @@ impl<P: Parted> Parts<P> {
         ensures taken { (o : Visitor P.Session P.Part) → seat.old.knows ≡ Seated o
             → (n : ℕ) × (seat.new.knows ≡ Seated (holding (refused o k n) k result)) × P.near k o.session result }
     {
-        // Only this call waits: every other one takes a number of steps that is known when it begins. Who waits here has
-        // no part, so whoever it waits for has one and doesn't wait.
+        // This call and `next_turn` wait: every other one takes a number of steps that is known when it begins. Who waits in
+        // either has no part, so whoever has one doesn't wait here.
         for _ in rt.forever() {
             if let Some(part) = self.try_take(seat, k) {
                 return part;

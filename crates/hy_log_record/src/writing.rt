@@ -135,15 +135,12 @@ fn body(alloc: Global, entry: &Entry) -> Result<Vec<u8>, AllocError>
     Ok(out)
 }
 
-/// What stands behind an entry's gate in the log, and the closed gate behind it. Err is for want of memory.
-pub fn encode(alloc: Global, entry: &Entry) -> Result<Vec<u8>, AllocError>
-    ensures bytes { IfOk result (λ bytes. bytes.items ≡ record_of entry.now ++ 0 ∷ []) }
+/// Appends what stands behind an entry's gate in the log. Err is for want of memory.
+pub fn encode(entry: &Entry, out: &mut Vec<u8>) -> Result<(), AllocError>
+    ensures bytes { OnOk result (out.new.items ≡ out.old.items ++ record_of entry.now) }
     ensures has { OnOk result (HasBytes entry.now) }
 {
-    let body = body(alloc, entry)?;
-    let mut out = Vec::new(alloc);
-    push_u64(&mut out, body.len() as u64)?;
-    out.extend_from_slice(&body)?;
-    out.push(0)?;
-    Ok(out)
+    let body = body(*out.allocator(), entry)?;
+    push_u64(out, body.len() as u64)?;
+    out.extend_from_slice(&body)
 }

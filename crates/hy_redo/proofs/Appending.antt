@@ -2,8 +2,9 @@
 use Rattle.std.proofs.Common.{◌≡◌, ℕ, zero, suc, ◌+◌, ◌<◌, ◌≤◌, List, [], ◌∷◌, ◌++◌, length, drop, Option, None, Some}
 use Rattle.std.proofs.Common.{Result, Err, refl, sym, ap, subst, ◌∙◌, append_assoc, length-append, arith, inl, inr, ⊎_elim}
 use Rattle.std.specs.Prelude.{option_map}
-use Rattle.std.specs.List.{flat_map}
-use Rattle.std.proofs.lemmas.List.{append-nil, drop_all, flat_map_more}
+use Rattle.std.specs.List.{flat_map, AllByRecursion}
+use Rattle.std.proofs.lemmas.List.{append-nil, drop_all}
+use Rattle.std.proofs.lemmas.Grind.{flat_map-append}
 use Rattle.std.proofs.lemmas.Option.{same_Some}
 use Rattle.hy_journal.specs.declared.Entry.{Entry}
 use Rattle.hy_log_record.specs.Bytes.{record_of, HasBytes}
@@ -14,24 +15,40 @@ use Rattle.hy_disk.specs.declared.DiskError.TheVariants as disks
 use Rattle.hy_redo.specs.declared.errors.AppendError.{AppendError}
 use Rattle.hy_redo.specs.declared.errors.AppendError.TheVariants as appending
 use Rattle.hy_redo.specs.Errors.{as_append}
-use Rattle.hy_redo.specs.Logs.{header, gated, log_of, Leads, IsLogOf, IsWholeLog}
+use Rattle.hy_redo.specs.Logs.{header, gated, closing, log_of, OpenWith, Leads, IsLogOf, IsWholeLog}
 use Rattle.hy_redo.specs.Crashes.{next_gate, AreLogsOf, AreClosedAt, IsBeforeOrAfter, Appends}
-use Rattle.hy_redo.proofs.LogFronts.{front_of, leads_push}
+use Rattle.hy_redo.proofs.LogFronts.{front_of, leads_all}
 use Rattle.hy_redo.proofs.TouchedBytes.{touched_behind, touched_at, written_behind, written_at}
 
--- what is written behind the closed gate
-abbrev pub closing : Entry → List ℕ
-closing entry = record_of entry ++ 0 ∷ []
+pub closing_is : (more : List Entry) → 0 < length more → flat_map gated more ++ 0 ∷ [] ≡ 1 ∷ closing more
+closing_is [] some = absurd (omega (arith, some))
+closing_is (entry ∷ others) some = refl
 
--- the log of the entries, with the record of one more behind its closed gate
-pub record IsStaged (entries : List Entry) (entry : Entry) (gate : ℕ) (bytes : List ℕ) : Type 0 where
+closing_long : (more : List Entry) → 0 < length (closing more)
+closing_long [] = omega arith
+closing_long (entry ∷ others) = omega (arith, length-append (record_of entry ++ flat_map gated others) (0 ∷ []))
+
+-- the log of the entries, with the records of more behind its closed gate
+pub record IsStaged (entries more : List Entry) (gate : ℕ) (bytes : List ℕ) : Type 0 where
   pub front : List ℕ
-  pub more : List ℕ
-  pub whole : bytes ≡ front ++ 0 ∷ (closing entry ++ more)
+  pub behind : List ℕ
+  pub whole : bytes ≡ front ++ 0 ∷ (closing more ++ behind)
   pub long : length front ≡ gate
   pub leads : (other : List ℕ) → Leads entries (front ++ other) gate other
 
-module _ (entries : List Entry) (entry : Entry) (gate : ℕ) where
+-- entries behind gates of which the first is this byte
+opens_all : (entry : Entry) (others : List Entry) (byte : ℕ) (rest : List ℕ) → 0 < byte → AllByRecursion HasBytes (entry ∷ others)
+    → OpenWith (entry ∷ others) (byte ∷ (record_of entry ++ (flat_map gated others ++ rest))) rest
+opens_all entry [] byte rest nonzero has = (rest, record { gate = byte; nonzero = nonzero; has = has.0; is = refl }, refl)
+opens_all entry (next ∷ others) byte rest nonzero has =
+    let behind : List ℕ = 1 ∷ (record_of next ++ (flat_map gated others ++ rest)) in
+    let is : flat_map gated (next ∷ others) ++ rest ≡ behind = ap (λ (bs : List ℕ). 1 ∷ bs) (append_assoc (record_of next) (flat_map gated others) rest) in (
+      behind,
+      record { gate = byte; nonzero = nonzero; has = has.0; is = ap (λ (bs : List ℕ). byte ∷ (record_of entry ++ bs)) is },
+      opens_all next others 1 rest (omega arith) has.1,
+    )
+
+module _ (entries more : List Entry) (gate : ℕ) where
   -- a touch behind the closed gate leaves the log
   pub log_behind : (count : ℕ) (old new : List ℕ) → IsLogOf entries gate old → Touched (gate + 1) count old new → IsLogOf entries gate new
   log_behind count old new log touched =
@@ -43,14 +60,14 @@ module _ (entries : List Entry) (entry : Entry) (gate : ℕ) where
             (f.leads (0 ∷ drop (gate + 1) new));
       }
 
-  -- the record that is written there
-  pub staged_from_log : (old : List ℕ) → IsLogOf entries gate old → IsStaged entries entry gate (overwritten old (gate + 1) (closing entry))
+  -- the records that are written there
+  pub staged_from_log : (old : List ℕ) → IsLogOf entries gate old → IsStaged entries more gate (overwritten old (gate + 1) (closing more))
   staged_from_log old log =
       let f = front_of entries old gate (0 ∷ log.follows) log.leads in
-      let text = closing entry in
+      let text = closing more in
       record {
         front = f.front;
-        more = drop (gate + 1 + length text) (f.front ++ 0 ∷ log.follows);
+        behind = drop (gate + 1 + length text) (f.front ++ 0 ∷ log.follows);
         whole = ap (λ (bs : List ℕ). overwritten bs (gate + 1) text) f.whole ∙ written_behind f.front gate f.long 0 log.follows text;
         long = f.long;
         leads = f.leads;
@@ -61,43 +78,59 @@ module _ (entries : List Entry) (entry : Entry) (gate : ℕ) where
   closed_again front text rest bytes byte long leads is =
       record { follows = text ++ rest; leads = subst (λ (bs : List ℕ). Leads entries bs gate (0 ∷ (text ++ rest))) (sym is) (leads (0 ∷ (text ++ rest))) }
 
-  -- behind an open gate the entry counts
-  opened : (front rest bytes : List ℕ) (byte : ℕ) → 0 < byte → HasBytes entry → ((other : List ℕ) → Leads entries (front ++ other) gate other)
-      → bytes ≡ front ++ byte ∷ (closing entry ++ rest)
-      → IsLogOf (entries ++ entry ∷ []) (next_gate gate entry) bytes
-  opened front rest bytes byte nonzero has leads is =
-      let record_bytes = record_of entry in
-      let whole : bytes ≡ front ++ byte ∷ (record_bytes ++ 0 ∷ rest) =
-      is ∙ ap (λ (bs : List ℕ). front ++ byte ∷ bs) (append_assoc record_bytes (0 ∷ []) rest) in
-      let tail = byte ∷ (record_bytes ++ 0 ∷ rest) in
-      record {
-        follows = rest;
-        leads = subst (λ (bs : List ℕ). Leads (entries ++ entry ∷ []) bs (next_gate gate entry) (0 ∷ rest)) (sym whole)
-            (leads_push entries entry (front ++ tail) gate tail (0 ∷ rest) (leads tail) (record { gate = byte; nonzero = nonzero; has = has; is = refl }));
-      }
+-- behind an open gate the entries count
+opened_by : (entries : List Entry) (entry : Entry) (others : List Entry) (gate : ℕ) (front rest bytes : List ℕ) (byte : ℕ) → 0 < byte
+    → AllByRecursion HasBytes (entry ∷ others) → ((other : List ℕ) → Leads entries (front ++ other) gate other)
+    → bytes ≡ front ++ byte ∷ (closing (entry ∷ others) ++ rest)
+    → IsLogOf (entries ++ entry ∷ others) (next_gate gate (entry ∷ others)) bytes
+opened_by entries entry others gate front rest bytes byte nonzero has leads is =
+    let first = record_of entry in
+    let later = flat_map gated others in
+    let next = next_gate gate (entry ∷ others) in
+    let tail : List ℕ = byte ∷ (first ++ (later ++ 0 ∷ rest)) in
+    let whole : bytes ≡ front ++ tail =
+    is ∙ ap (λ (bs : List ℕ). front ++ byte ∷ bs) (append_assoc (first ++ later) (0 ∷ []) rest ∙ append_assoc first later (0 ∷ rest)) in
+    let counted : next + length (0 ∷ rest) ≡ length (front ++ tail) =
+    omega (arith, (leads tail).counted, length-append first (later ++ 0 ∷ rest), length-append later (0 ∷ rest), length-append first later) in
+    record {
+      follows = rest;
+      leads = subst (λ (bs : List ℕ). Leads (entries ++ entry ∷ others) bs next (0 ∷ rest)) (sym whole)
+          (leads_all entries (entry ∷ others) (front ++ tail) gate next tail (0 ∷ rest) (leads tail) (opens_all entry others byte (0 ∷ rest) nonzero has)
+          counted);
+    }
 
-  either : (front rest bytes : List ℕ) (byte : ℕ) → HasBytes entry → length front ≡ gate
-      → ((other : List ℕ) → Leads entries (front ++ other) gate other) → bytes ≡ front ++ byte ∷ (closing entry ++ rest)
-      → IsBeforeOrAfter entries entry gate bytes
-  either front rest bytes zero has long leads is = inl (closed_again front (closing entry) rest bytes 0 long leads is)
-  either front rest bytes (suc byte) has long leads is = inr (opened front rest bytes (suc byte) (omega arith) has leads is)
+opened : (entries more : List Entry) (gate : ℕ) (front rest bytes : List ℕ) (byte : ℕ) → 0 < byte → 0 < length more → AllByRecursion HasBytes more
+    → ((other : List ℕ) → Leads entries (front ++ other) gate other) → bytes ≡ front ++ byte ∷ (closing more ++ rest)
+    → IsLogOf (entries ++ more) (next_gate gate more) bytes
+opened entries [] gate front rest bytes byte nonzero some has leads is = absurd (omega (arith, some))
+opened entries (entry ∷ others) gate front rest bytes byte nonzero some has leads is =
+    opened_by entries entry others gate front rest bytes byte nonzero has leads is
 
-  -- a touch of the gate leaves the log without the entry, or with it
-  pub gate_touched : (old new : List ℕ) → HasBytes entry → IsStaged entries entry gate old → Touched gate 1 old new → IsBeforeOrAfter entries entry gate new
-  gate_touched old new has s touched =
-      let some : 0 < length (closing entry) = omega (arith, length-append (record_of entry) (0 ∷ [])) in
-      let at = touched_at s.front gate s.long 0 (closing entry) s.more new some (subst (λ (bs : List ℕ). Touched gate 1 bs new) s.whole touched) in
-      either s.front at.1 new at.0 has s.long s.leads at.2
+module _ (entries more : List Entry) (gate : ℕ) where
+  either : (front rest bytes : List ℕ) (byte : ℕ) → 0 < length more → AllByRecursion HasBytes more → length front ≡ gate
+      → ((other : List ℕ) → Leads entries (front ++ other) gate other) → bytes ≡ front ++ byte ∷ (closing more ++ rest)
+      → IsBeforeOrAfter entries more gate bytes
+  either front rest bytes zero some has long leads is = inl (closed_again entries more gate front (closing more) rest bytes 0 long leads is)
+  either front rest bytes (suc byte) some has long leads is =
+      inr (opened entries more gate front rest bytes (suc byte) (omega arith) some has leads is)
 
-  pub gate_opened : (old : List ℕ) → HasBytes entry → IsStaged entries entry gate old
-      → IsLogOf (entries ++ entry ∷ []) (next_gate gate entry) (overwritten old gate (1 ∷ []))
-  gate_opened old has s =
-      let is : overwritten old gate (1 ∷ []) ≡ s.front ++ 1 ∷ (closing entry ++ s.more) =
-      ap (λ (bs : List ℕ). overwritten bs gate (1 ∷ [])) s.whole ∙ written_at s.front gate s.long 0 1 (closing entry ++ s.more) in
-      opened s.front s.more (overwritten old gate (1 ∷ [])) 1 (omega arith) has s.leads is
+  -- a touch of the gate leaves the log without the new entries, or with them
+  pub gate_touched : (old new : List ℕ) → 0 < length more → AllByRecursion HasBytes more → IsStaged entries more gate old → Touched gate 1 old new
+      → IsBeforeOrAfter entries more gate new
+  gate_touched old new some has s touched =
+      let at = touched_at s.front gate s.long 0 (closing more) s.behind new (closing_long more)
+      (subst (λ (bs : List ℕ). Touched gate 1 bs new) s.whole touched) in
+      either s.front at.1 new at.0 some has s.long s.leads at.2
 
-  pub staged_long : (bytes : List ℕ) → IsStaged entries entry gate bytes → gate ≤ length bytes
-  staged_long bytes s = omega (arith, ap length s.whole, s.long, length-append s.front (0 ∷ (closing entry ++ s.more)))
+  pub gate_opened : (old : List ℕ) → 0 < length more → AllByRecursion HasBytes more → IsStaged entries more gate old
+      → IsLogOf (entries ++ more) (next_gate gate more) (overwritten old gate (1 ∷ []))
+  gate_opened old some has s =
+      let is : overwritten old gate (1 ∷ []) ≡ s.front ++ 1 ∷ (closing more ++ s.behind) =
+      ap (λ (bs : List ℕ). overwritten bs gate (1 ∷ [])) s.whole ∙ written_at s.front gate s.long 0 1 (closing more ++ s.behind) in
+      opened entries more gate s.front s.behind (overwritten old gate (1 ∷ [])) 1 (omega arith) some has s.leads is
+
+  pub staged_long : (bytes : List ℕ) → IsStaged entries more gate bytes → gate ≤ length bytes
+  staged_long bytes s = omega (arith, ap length s.whole, s.long, length-append s.front (0 ∷ (closing more ++ s.behind)))
 
   pub log_long : (bytes : List ℕ) → IsLogOf entries gate bytes → gate + 1 ≤ length bytes
   log_long bytes log =
@@ -120,20 +153,20 @@ reaches (Some bytes) offset h = h bytes refl
 module _ {D : Type 0} (held : D → Option (List ℕ)) (clock : D → ℕ) (image : D → List ℕ → Type 0) (image_since : D → ℕ → List ℕ → Type 0)
     (held_is_image : (disk : D) (bytes : List ℕ) → held disk ≡ Some bytes → image disk bytes)
     (now_alone : (disk : D) (bytes : List ℕ) → image_since disk (clock disk) bytes → image disk bytes)
-    (entry : Entry) (gate : ℕ) (before : D) where
+    (more : List Entry) (gate : ℕ) (before : D) where
   pub reaches_behind : AreClosedAt (image before) gate → ReachesTo (held before) (gate + 1)
   reaches_behind closed = reaches (held before) (gate + 1) (λ bytes is. let log =
-      closed bytes (held_is_image before bytes is) in log_long log.0 entry gate bytes log.1)
+      closed bytes (held_is_image before bytes is) in log_long log.0 more gate bytes log.1)
 
   pub reaches_gate : (between : D) → AreClosedAt (image before) gate
-      → held between ≡ option_map (λ bytes. overwritten bytes (gate + 1) (closing entry)) (held before) → ReachesTo (held between) gate
+      → held between ≡ option_map (λ bytes. overwritten bytes (gate + 1) (closing more)) (held before) → ReachesTo (held between) gate
   reaches_gate between closed written = reaches (held between) gate (λ bytes is.
-      let old = told_before (λ bytes. overwritten bytes (gate + 1) (closing entry)) (held before) bytes (sym written ∙ is) in
+      let old = told_before (λ bytes. overwritten bytes (gate + 1) (closing more)) (held before) bytes (sym written ∙ is) in
       let log = closed old.0 (held_is_image before old.0 old.1) in
-      staged_long log.0 entry gate bytes (subst (IsStaged log.0 entry gate) old.2 (staged_from_log log.0 entry gate old.0 log.1)))
+      staged_long log.0 more gate bytes (subst (IsStaged log.0 more gate) old.2 (staged_from_log log.0 more gate old.0 log.1)))
 
   module _ (entries : List Entry) (logs : AreLogsOf (image before) entries gate) where
-    pub nothing_yet : Appends clock image_since entries entry gate before before
+    pub nothing_yet : Appends clock image_since entries more gate before before
     nothing_yet = record {
       later = omega arith;
       each = λ bytes since. inl (logs bytes (now_alone before bytes since));
@@ -142,13 +175,13 @@ module _ {D : Type 0} (held : D → Option (List ℕ)) (clock : D → ℕ) (imag
 
     -- after a write behind the closed gate
     pub still_logs : (count : ℕ) (between : D) → Writes clock image image_since (gate + 1) count before between → AreLogsOf (image between) entries gate
-    still_logs count between w bytes now = let old = w.images bytes now in log_behind entries entry gate count old.0 bytes (logs old.0 old.1) old.2
+    still_logs count between w bytes now = let old = w.images bytes now in log_behind entries more gate count old.0 bytes (logs old.0 old.1) old.2
 
     pub staging : (count : ℕ) (between : D) → Writes clock image image_since (gate + 1) count before between
-        → Appends clock image_since entries entry gate before between
+        → Appends clock image_since entries more gate before between
     staging count between w =
-        let touched : (bytes : List ℕ) → TouchedOf (gate + 1) count (image before) bytes → IsBeforeOrAfter entries entry gate bytes =
-        λ bytes old. inl (log_behind entries entry gate count old.0 bytes (logs old.0 old.1) old.2) in
+        let touched : (bytes : List ℕ) → TouchedOf (gate + 1) count (image before) bytes → IsBeforeOrAfter entries more gate bytes =
+        λ bytes old. inl (log_behind entries more gate count old.0 bytes (logs old.0 old.1) old.2) in
         record {
           later = w.later;
           each = λ bytes since. ⊎_elim (λ past. inl (logs bytes (now_alone before bytes past))) (touched bytes)
@@ -156,21 +189,21 @@ module _ {D : Type 0} (held : D → Option (List ℕ)) (clock : D → ℕ) (imag
           moments = λ time bytes le since. ⊎_elim (λ past. inl past) (λ old. inr (touched bytes old)) (w.moments time bytes le since);
         }
 
-    pub is_staged : (between : D) → held between ≡ option_map (λ bytes. overwritten bytes (gate + 1) (closing entry)) (held before)
+    pub is_staged : (between : D) → held between ≡ option_map (λ bytes. overwritten bytes (gate + 1) (closing more)) (held before)
         → IsDurable (held between) (image between)
-        → (bytes : List ℕ) → image between bytes → IsStaged entries entry gate bytes
+        → (bytes : List ℕ) → image between bytes → IsStaged entries more gate bytes
     is_staged between written durable bytes now =
-        let old = told_before (λ bytes. overwritten bytes (gate + 1) (closing entry)) (held before) bytes (sym written ∙ durable bytes now) in
-        subst (IsStaged entries entry gate) old.2 (staged_from_log entries entry gate old.0 (logs old.0 (held_is_image before old.0 old.1)))
+        let old = told_before (λ bytes. overwritten bytes (gate + 1) (closing more)) (held before) bytes (sym written ∙ durable bytes now) in
+        subst (IsStaged entries more gate) old.2 (staged_from_log entries more gate old.0 (logs old.0 (held_is_image before old.0 old.1)))
 
     -- after a write of the gate
-    pub opening : (count : ℕ) (between after : D) → HasBytes entry → Writes clock image image_since (gate + 1) count before between
-        → ((bytes : List ℕ) → image between bytes → IsStaged entries entry gate bytes)
-        → Writes clock image image_since gate 1 between after → Appends clock image_since entries entry gate before after
-    opening count between after has w staged v =
+    pub opening : (count : ℕ) (between after : D) → 0 < length more → AllByRecursion HasBytes more → Writes clock image image_since (gate + 1) count before between
+        → ((bytes : List ℕ) → image between bytes → IsStaged entries more gate bytes)
+        → Writes clock image image_since gate 1 between after → Appends clock image_since entries more gate before after
+    opening count between after some has w staged v =
         let first = staging count between w in
-        let touched : (bytes : List ℕ) → TouchedOf gate 1 (image between) bytes → IsBeforeOrAfter entries entry gate bytes =
-        λ bytes old. gate_touched entries entry gate old.0 bytes has (staged old.0 old.1) old.2 in
+        let touched : (bytes : List ℕ) → TouchedOf gate 1 (image between) bytes → IsBeforeOrAfter entries more gate bytes =
+        λ bytes old. gate_touched entries more gate old.0 bytes some has (staged old.0 old.1) old.2 in
         record {
           later = omega (arith, w.later, v.later);
           each = λ bytes since. ⊎_elim (first.each bytes) (touched bytes) (v.moments (clock before) bytes w.later since);
@@ -178,13 +211,13 @@ module _ {D : Type 0} (held : D → Option (List ℕ)) (clock : D → ℕ) (imag
               (v.moments time bytes (omega (arith, le, w.later)) since);
         }
 
-    pub with_entry : (between after : D) → HasBytes entry → ((bytes : List ℕ) → image between bytes → IsStaged entries entry gate bytes)
+    pub with_more : (between after : D) → 0 < length more → AllByRecursion HasBytes more → ((bytes : List ℕ) → image between bytes → IsStaged entries more gate bytes)
         → held after ≡ option_map (λ bytes. overwritten bytes gate (1 ∷ [])) (held between) → IsDurable (held after) (image after)
-        → AreLogsOf (image after) (entries ++ entry ∷ []) (next_gate gate entry)
-    with_entry between after has staged written durable bytes now =
+        → AreLogsOf (image after) (entries ++ more) (next_gate gate more)
+    with_more between after some has staged written durable bytes now =
         let old = told_before (λ bytes. overwritten bytes gate (1 ∷ [])) (held between) bytes (sym written ∙ durable bytes now) in
-        subst (IsLogOf (entries ++ entry ∷ []) (next_gate gate entry)) old.2
-        (gate_opened entries entry gate old.0 has (staged old.0 (held_is_image between old.0 old.1)))
+        subst (IsLogOf (entries ++ more) (next_gate gate more)) old.2
+        (gate_opened entries more gate old.0 some has (staged old.0 (held_is_image between old.0 old.1)))
 
 -- an append that tells of want of memory passes on that of the disk
 pub memory_only : {T : Type 0} (result : Result T AppendError) (e : DiskError) (out : AppendError) → result ≡ Err out → out ≡ as_append e
@@ -194,13 +227,27 @@ memory_only result disks.OutOfMemory out is from h = refl
 
 -- ---- the bytes of a log that was never touched
 
-module _ (entries : List Entry) (entry : Entry) (gate : ℕ) where
+-- the log of more entries, in parts
+log_more : (entries more : List Entry) → 0 < length more → log_of (entries ++ more) ≡ (header ++ flat_map gated entries) ++ 1 ∷ closing more
+log_more entries [] some = absurd (omega (arith, some))
+log_more entries (entry ∷ others) some =
+    let more = entry ∷ others in
+    let old = flat_map gated entries in
+    let new = flat_map gated more in
+    ap (λ (bs : List ℕ). header ++ (bs ++ 0 ∷ [])) (flat_map-append gated entries more)
+    ∙ (ap (λ (bs : List ℕ). header ++ bs) (append_assoc old new (0 ∷ [])) ∙ sym (append_assoc header old (new ++ 0 ∷ [])))
+
+closing_counted : (more : List Entry) → 0 < length more → length (closing more) ≡ length (flat_map gated more)
+closing_counted [] some = absurd (omega (arith, some))
+closing_counted (entry ∷ others) some = omega (arith, length-append (record_of entry ++ flat_map gated others) (0 ∷ []))
+
+module _ (entries more : List Entry) (gate : ℕ) (some : 0 < length more) where
   pub whole_next : (held between after : Option (List ℕ)) → IsWholeLog held entries gate
-      → between ≡ option_map (λ bytes. overwritten bytes (gate + 1) (closing entry)) held
-      → after ≡ option_map (λ bytes. overwritten bytes gate (1 ∷ [])) between → IsWholeLog after (entries ++ entry ∷ []) (next_gate gate entry)
+      → between ≡ option_map (λ bytes. overwritten bytes (gate + 1) (closing more)) held
+      → after ≡ option_map (λ bytes. overwritten bytes gate (1 ∷ [])) between → IsWholeLog after (entries ++ more) (next_gate gate more)
   whole_next held between after whole written opened_gate =
       let front = header ++ flat_map gated entries in
-      let text = closing entry in
+      let text = closing more in
       let parts : log_of entries ≡ front ++ 0 ∷ [] = sym (append_assoc header (flat_map gated entries) (0 ∷ [])) in
       let long : length front ≡ gate = omega (arith, whole.last, ap length parts, length-append front (0 ∷ [])) in
       let end : drop (gate + 1 + length text) (front ++ 0 ∷ []) ≡ [] =
@@ -210,14 +257,32 @@ module _ (entries : List Entry) (entry : Entry) (gate : ℕ) where
       ∙ ap (λ (bs : List ℕ). front ++ 0 ∷ (text ++ bs)) end ∙ ap (λ (bs : List ℕ). front ++ 0 ∷ bs) (append-nil text) in
       let gone : overwritten (overwritten (log_of entries) (gate + 1) text) gate (1 ∷ []) ≡ front ++ 1 ∷ text =
       ap (λ (bs : List ℕ). overwritten bs gate (1 ∷ [])) staged ∙ written_at front gate long 0 1 text in
-      let next : log_of (entries ++ entry ∷ []) ≡ front ++ 1 ∷ text =
-      sym (append_assoc header (flat_map gated (entries ++ entry ∷ [])) (0 ∷ []))
-      ∙ ap (λ (bs : List ℕ). bs ++ 0 ∷ []) (sym (flat_map_more gated header entries entry)) ∙ append_assoc front (gated entry) (0 ∷ []) in
+      let next : log_of (entries ++ more) ≡ front ++ 1 ∷ text = log_more entries more some in
       let first : between ≡ Some (overwritten (log_of entries) (gate + 1) text) =
       written ∙ ap (option_map (λ (bytes : List ℕ). overwritten bytes (gate + 1) text)) whole.told in
       let second : after ≡ Some (overwritten (overwritten (log_of entries) (gate + 1) text) gate (1 ∷ [])) =
       opened_gate ∙ ap (option_map (λ (bytes : List ℕ). overwritten bytes gate (1 ∷ []))) first in
       record {
         told = second ∙ ap (λ (bs : List ℕ). Some bs) (gone ∙ sym next);
-        last = omega (arith, long, ap length next, length-append front (1 ∷ text), length-append (record_of entry) (0 ∷ []));
+        last = omega (arith, long, ap length next, length-append front (1 ∷ text), closing_counted more some);
       }
+
+-- ---- no entries
+
+pub none_more : (more : List Entry) → length more ≡ 0 → more ≡ []
+none_more [] none = refl
+none_more (entry ∷ others) none = absurd (omega (arith, none))
+
+pub logs_with_none : (images : List ℕ → Type 0) (entries more : List Entry) (gate : ℕ) → more ≡ [] → AreLogsOf images entries gate
+    → AreLogsOf images (entries ++ more) (next_gate gate more)
+logs_with_none images entries more gate none logs =
+    let same : gate ≡ gate + 0 = omega arith in
+    subst (λ (ms : List Entry). AreLogsOf images (entries ++ ms) (next_gate gate ms)) (sym none)
+    (subst (λ (n : ℕ). AreLogsOf images (entries ++ []) n) same (subst (λ (es : List Entry). AreLogsOf images es gate) (sym (append-nil entries)) logs))
+
+pub whole_with_none : (held : Option (List ℕ)) (entries more : List Entry) (gate : ℕ) → more ≡ [] → IsWholeLog held entries gate
+    → IsWholeLog held (entries ++ more) (next_gate gate more)
+whole_with_none held entries more gate none whole =
+    let same : gate ≡ gate + 0 = omega arith in
+    subst (λ (ms : List Entry). IsWholeLog held (entries ++ ms) (next_gate gate ms)) (sym none)
+    (subst (λ (n : ℕ). IsWholeLog held (entries ++ []) n) same (subst (λ (es : List Entry). IsWholeLog held es gate) (sym (append-nil entries)) whole))

@@ -3,6 +3,7 @@ pub mod LogFronts
 pub mod TouchedBytes
 pub mod Writing
 pub mod Appending
+pub mod Gated
 pub mod Redoing
 pub mod Outcomes
 pub mod Pieces

@@ -55,20 +55,25 @@ front_of entries bytes offset rest h =
       };
     }
 
-records_push : (entries : List Entry) (entry : Entry) (bytes rest behind : List ℕ) → OpenWith entries bytes rest → OpensWith entry rest behind
-    → OpenWith (entries ++ entry ∷ []) bytes behind
-records_push [] entry bytes rest behind e opens = (behind, subst (λ (bs : List ℕ). OpensWith entry bs behind) (sym e) opens, refl)
-records_push (first ∷ entries) entry bytes rest behind h opens = (h.0, h.1, records_push entries entry h.0 rest behind h.2 opens)
+records_all : (entries more : List Entry) (bytes rest behind : List ℕ) → OpenWith entries bytes rest → OpenWith more rest behind
+    → OpenWith (entries ++ more) bytes behind
+records_all [] more bytes rest behind e opens = subst (λ (bs : List ℕ). OpenWith more bs behind) (sym e) opens
+records_all (first ∷ entries) more bytes rest behind h opens = (h.0, h.1, records_all entries more h.0 rest behind h.2 opens)
+
+-- more entries
+pub leads_all : (entries more : List Entry) (bytes : List ℕ) (offset next : ℕ) (rest behind : List ℕ) → Leads entries bytes offset rest
+    → OpenWith more rest behind → next + length behind ≡ length bytes → Leads (entries ++ more) bytes next behind
+leads_all entries more bytes offset next rest behind h opens counted = record {
+  behind = h.behind;
+  headed = h.headed;
+  records = records_all entries more h.behind rest behind h.records opens;
+  counted = counted;
+}
 
 -- one more entry
 pub leads_push : (entries : List Entry) (entry : Entry) (bytes : List ℕ) (offset : ℕ) (rest behind : List ℕ) → Leads entries bytes offset rest
     → OpensWith entry rest behind
     → Leads (entries ++ entry ∷ []) bytes (offset + 1 + length (record_of entry)) behind
 leads_push entries entry bytes offset rest behind h opens =
-    let record_bytes = record_of entry in
-    record {
-      behind = h.behind;
-      headed = h.headed;
-      records = records_push entries entry h.behind rest behind h.records opens;
-      counted = omega (arith, h.counted, ap length opens.is, length-append record_bytes behind);
-    }
+    leads_all entries (entry ∷ []) bytes offset (offset + 1 + length (record_of entry)) rest behind h (behind, opens, refl)
+    (omega (arith, h.counted, ap length opens.is, length-append (record_of entry) behind))

@@ -10,7 +10,7 @@ use Rattle.hy_redo.specs.Logs.{header, OpensWith, OpenWith, Leads}
 use Rattle.hy_redo.specs.Recovery.{RecoversTo, IsBroken, IsDamagedAt}
 use Rattle.hy_redo.specs.Laws.{RecoveryIsOne, LogsRecover, CrashesRecover}
 use Rattle.hy_redo.specs.Tests.{IsClosed}
-use Rattle.hy_redo.proofs.Redoing.{applied_push, stand_front}
+use Rattle.hy_redo.proofs.Redoing.{applied_all, stand_front}
 
 -- where reading entries ends: at a closed gate, or at a broken one
 abbrev Ends : Held → Option ℕ → List ℕ → Type 0
@@ -94,7 +94,7 @@ pub logs_recover : LogsRecover
 logs_recover tables entries gate bytes stand log = record { entries = entries; gate = gate; log = log; stand = stand; are = refl }
 
 pub crashes_recover : CrashesRecover
-crashes_recover tables entries entry gate bytes stand (inl log) = inl
-    (logs_recover tables entries gate bytes (stand_front tables None entries entry stand) log)
-crashes_recover tables entries entry gate bytes stand (inr log) =
-    inr (subst (RecoversTo tables bytes) (applied_push tables entries entry) (logs_recover tables (entries ++ entry ∷ []) _ bytes stand log))
+crashes_recover tables entries more gate bytes stand (inl log) =
+    inl (logs_recover tables entries gate bytes (stand_front tables None entries more stand) log)
+crashes_recover tables entries more gate bytes stand (inr log) =
+    inr (subst (RecoversTo tables bytes) (applied_all tables entries more) (logs_recover tables (entries ++ more) _ bytes stand log))

@@ -81,19 +81,17 @@ stand_push : (tables : Held) (last : Option ℕ) (entries : List Entry) (entry :
 stand_push tables last [] entry all s = (s, tt)
 stand_push tables last (first ∷ entries) entry all s = (all.0, stand_push (after_entry tables first) (Some first.time) entries entry all.1 s)
 
-pub applied_push : (tables : Held) (entries : List Entry) (entry : Entry)
-    → applied tables (entries ++ entry ∷ []) ≡ after_entry (applied tables entries) entry
-applied_push tables [] entry = refl
-applied_push tables (first ∷ entries) entry = applied_push (after_entry tables first) entries entry
+pub applied_all : (tables : Held) (entries more : List Entry) → applied tables (entries ++ more) ≡ applied (applied tables entries) more
+applied_all tables [] more = refl
+applied_all tables (first ∷ entries) more = applied_all (after_entry tables first) entries more
 
 last_push : (last : Option ℕ) (entries : List Entry) (entry : Entry) → last_time last (entries ++ entry ∷ []) ≡ Some entry.time
 last_push last [] entry = refl
 last_push last (first ∷ entries) entry = last_push (Some first.time) entries entry
 
-pub stand_front : (tables : Held) (last : Option ℕ) (entries : List Entry) (entry : Entry) → AllStand tables last (entries ++ entry ∷ [])
-    → AllStand tables last entries
-stand_front tables last [] entry all = tt
-stand_front tables last (first ∷ entries) entry all = (all.0, stand_front (after_entry tables first) (Some first.time) entries entry all.1)
+pub stand_front : (tables : Held) (last : Option ℕ) (entries more : List Entry) → AllStand tables last (entries ++ more) → AllStand tables last entries
+stand_front tables last [] more all = tt
+stand_front tables last (first ∷ entries) more all = (all.0, stand_front (after_entry tables first) (Some first.time) entries more all.1)
 
 module _ (first : Held) (bytes : List ℕ) where
   pub redone_none : (rest : List ℕ) → bytes ≡ header ++ rest → Redone first bytes first None rest
@@ -119,7 +117,7 @@ module _ (first : Held) (bytes : List ℕ) where
         leads = leads_push so_far.entries entry bytes so_far.offset rest behind so_far.leads n.opens;
         stand = stand_push first None so_far.entries entry so_far.stand stands;
         tables = is ∙ ap (after_changes tables) (sym n.net) ∙ ap (λ (ts : Held). after_entry ts entry) so_far.tables
-            ∙ sym (applied_push first so_far.entries entry);
+            ∙ sym (applied_all first so_far.entries (entry ∷ []));
         last = sym (last_push None so_far.entries entry);
       }
 

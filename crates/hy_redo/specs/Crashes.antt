@@ -1,13 +1,13 @@
 -- What the calls on a log leave, whatever moment a crash comes at.
-use Rattle.std.specs.Prelude.{◌≡◌, ◌⊎◌, ℕ, ◌+◌, ◌≤◌, List, [], ◌∷◌, ◌++◌, Option, IfSome, length}
+use Rattle.std.specs.Prelude.{◌≡◌, ◌⊎◌, ℕ, ◌+◌, ◌≤◌, List, [], ◌++◌, Option, IfSome, length}
+use Rattle.std.specs.List.{flat_map}
 use Rattle.hy_journal.specs.declared.Entry.{Entry}
-use Rattle.hy_log_record.specs.Bytes.{record_of}
 use Rattle.hy_disk.specs.Calls.{Stays, Writes}
-use Rattle.hy_redo.specs.Logs.{log_of, IsLogOf}
+use Rattle.hy_redo.specs.Logs.{gated, log_of, IsLogOf}
 
--- the offset of the next gate, behind the record of an entry
-abbrev pub next_gate : ℕ → Entry → ℕ
-next_gate gate entry = gate + 1 + length (record_of entry)
+-- the offset of the gate behind these entries, the first of which is behind the gate at this offset
+abbrev pub next_gate : ℕ → List Entry → ℕ
+next_gate gate more = gate + length (flat_map gated more)
 
 -- each of these images is the log of the entries, with the closed gate at this offset
 abbrev pub AreLogsOf : (List ℕ → Type 0) → List Entry → ℕ → Type 0
@@ -21,18 +21,18 @@ AreClosedAt images gate = (bytes : List ℕ) → images bytes → (entries : Lis
 pub closed_of : (images : List ℕ → Type 0) (entries : List Entry) (gate : ℕ) → AreLogsOf images entries gate → AreClosedAt images gate
 closed_of images entries gate logs bytes image = (entries, logs bytes image)
 
--- the log of the entries without one more, or with it
-abbrev pub IsBeforeOrAfter : List Entry → Entry → ℕ → List ℕ → Type 0
-IsBeforeOrAfter entries entry gate bytes = IsLogOf entries gate bytes ⊎ IsLogOf (entries ++ entry ∷ []) (next_gate gate entry) bytes
+-- the log of the entries without these more, or with all of them
+abbrev pub IsBeforeOrAfter : List Entry → List Entry → ℕ → List ℕ → Type 0
+IsBeforeOrAfter entries more gate bytes = IsLogOf entries gate bytes ⊎ IsLogOf (entries ++ more) (next_gate gate more) bytes
 
--- A crash at any moment of the call leaves the log of the entries without one more, or with it.
-pub record Appends {D : Type 0} (clock : D → ℕ) (image_since : D → ℕ → List ℕ → Type 0) (entries : List Entry) (entry : Entry) (gate : ℕ)
+-- A crash at any moment of the call leaves the log of the entries without these more, or with all of them.
+pub record Appends {D : Type 0} (clock : D → ℕ) (image_since : D → ℕ → List ℕ → Type 0) (entries more : List Entry) (gate : ℕ)
     (before after : D) : Type 0 where
   pub later : clock before ≤ clock after
-  pub each : (bytes : List ℕ) → image_since after (clock before) bytes → IsBeforeOrAfter entries entry gate bytes
+  pub each : (bytes : List ℕ) → image_since after (clock before) bytes → IsBeforeOrAfter entries more gate bytes
   -- for a run that began earlier
   pub moments : (time : ℕ) (bytes : List ℕ) → time ≤ clock before → image_since after time bytes
-      → image_since before time bytes ⊎ IsBeforeOrAfter entries entry gate bytes
+      → image_since before time bytes ⊎ IsBeforeOrAfter entries more gate bytes
 
 -- ---- the making of an empty log
 

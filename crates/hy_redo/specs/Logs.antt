@@ -15,6 +15,11 @@ gated entry = 1 ∷ record_of entry
 abbrev pub log_of : List Entry → List ℕ
 log_of entries = header ++ (flat_map gated entries ++ 0 ∷ [])
 
+-- what stands behind the gate of the first of some entries: their records, with an open gate between each two, and a closed gate
+abbrev pub closing : List Entry → List ℕ
+closing [] = 0 ∷ []
+closing (entry ∷ others) = (record_of entry ++ flat_map gated others) ++ 0 ∷ []
+
 -- a gate that isn't 0, the record of the entry, and then the rest
 pub record OpensWith (entry : Entry) (bytes rest : List ℕ) : Type 0 where
   pub gate : ℕ

@@ -1,8 +1,8 @@
 //! A redo log: what each committed transaction changed, on a disk before it counts, so that after a crash the tables
 //! can be made again.
 //!
-//! An entry's gate stays closed until its record is sure. Then the gate is opened by a write of its own, so that a
-//! crash at any moment leaves the entry whole or leaves it out.
+//! The gate before what is appended, one entry or several, stays closed until the records are sure. Then it is opened by a
+//! write of its own, so that a crash at any moment leaves all of these entries or none.
 #![tactic(auto)]
 
 mod errors;

@@ -5,7 +5,9 @@ ghost use Rattle.hy_outside.specs.Faults.{Rose};
 ghost use Rattle.hy_journal.specs.declared.Entry.{Entry};
 ghost use Rattle.hy_disk.specs.Bytes.{overwritten, ReachesTo};
 ghost use Rattle.hy_disk.specs.Calls.{Stays, Writes, IsDurable};
-ghost use Rattle.hy_redo.specs.Logs.{log_of, IsWholeLog};
+ghost use Rattle.hy_log_record.specs.Bytes.{HasBytes};
+ghost use Rattle.hy_redo.specs.Logs.{closing, log_of, IsWholeLog};
+ghost use Rattle.std.specs.List.{AllByRecursion};
 ghost use Rattle.hy_redo.specs.Crashes.{next_gate, AreLogsOf, AreClosedAt, Appends, IsBegun, IsBegunAtMost};
 
 use crate::{AppendError, CreateError};
@@ -23,6 +25,9 @@ const FIRST_GATE: u64 = 8;
 
 /// A gate that is open.
 const OPEN: u8 = 1;
+
+/// A gate that is closed.
+const CLOSED: u8 = 0;
 
 /// The most bytes that a log has.
 const LONGEST: u64 = 1 << 63;
@@ -105,57 +110,79 @@ fn last_behind(gate: u64, count: usize) -> Result<u64, AllocError>
     }
 }
 
-/// Writes the record of an entry and a new closed gate behind the gate at this offset, and opens that once they are
-/// sure. Gives the offset of the new one. Nothing is written where the log would grow past 2^63 bytes.
+/// What stands behind the gate of the first of these entries, of which there are some. Err is for want of memory.
+fn encode_closing(alloc: Global, more: &[Entry]) -> Result<Vec<u8>, AllocError>
+    requires { 0 < length more.now }
+    ensures bytes { IfOk result (λ bytes. bytes.items ≡ closing more.now) }
+    ensures has { OnOk result (AllByRecursion HasBytes more.now) }
+{
+    let mut out = Vec::new(alloc);
+    for entry in more {
+        out.push(OPEN)?;
+        encode(entry, &mut out)?;
+    }
+    out.push(CLOSED)?;
+    // The first gate is opened last, by a write of its own.
+    let _gate = out.remove(0);
+    Ok(out)
+}
+
+/// Writes the records of entries, with open gates between them and a closed gate at the end, behind the closed gate at this
+/// offset, and opens that once they are sure. Gives the offset of the new closed gate. Nothing is written where there is no
+/// entry, or where the log would grow past 2^63 bytes.
 fn append_at<D: Disk>(
     alloc: Global,
     gate: u64,
     disk: &mut D,
-    entry: &Entry,
+    more: &[Entry],
 ) -> Result<u64, AppendError>
     requires closed { AreClosedAt (D.image disk.old) gate }
     ensures moments { (entries : List Entry) → AreLogsOf (D.image disk.old) entries gate
-        → Appends D.clock D.image_since entries entry.now gate disk.old disk.new }
+        → Appends D.clock D.image_since entries more.now gate disk.old disk.new }
     ensures later { D.clock disk.old ≤ D.clock disk.new }
     ensures done { OnOk result ((entries : List Entry) → AreLogsOf (D.image disk.old) entries gate
-        → AreLogsOf (D.image disk.new) (entries ++ entry.now ∷ []) (next_gate gate entry.now)) }
+        → AreLogsOf (D.image disk.new) (entries ++ more.now) (next_gate gate more.now)) }
     ensures bytes { OnOk result ((entries : List Entry) → IsWholeLog (D.held disk.old) entries gate
-        → IsWholeLog (D.held disk.new) (entries ++ entry.now ∷ []) (next_gate gate entry.now)) }
-    ensures gate { IfOk result (λ next. next ≡ next_gate gate entry.now) }
+        → IsWholeLog (D.held disk.new) (entries ++ more.now) (next_gate gate more.now)) }
+    ensures gate { IfOk result (λ next. next ≡ next_gate gate more.now) }
     ensures still { IsErrOf result AppendError.OutOfMemory → (entries : List Entry) → AreLogsOf (D.image disk.old) entries gate
         → AreLogsOf (D.image disk.new) entries gate }
     ensures fault { IsErrOf result AppendError.DiskFault → Rose (D.faults disk.old) (D.faults disk.new) }
     ensures steady { ¬ IsErrOf result AppendError.DiskFault → D.faults disk.new ≡ D.faults disk.old }
     ensures never_fell { D.faults disk.old ≤ D.faults disk.new }
 {
-    let record = encode(alloc, entry)?;
-    let next = last_behind(gate, record.len())?;
-    write_surely(disk, gate + 1, record.as_slice())?;
+    if more.is_empty() {
+        return Ok(gate);
+    }
+    let bytes = encode_closing(alloc, more)?;
+    let next = last_behind(gate, bytes.len())?;
+    write_surely(disk, gate + 1, bytes.as_slice())?;
     write_surely(disk, gate, &[OPEN])?;
     Ok(next)
 }
 
-/// Adds an entry at the end. It writes the record and a new closed gate behind the closed one, and once they are sure
-/// it opens that. Of a disk that has answered a fault no other entry may be added. Want of room is told as want of
-/// memory: OutOfMemory is the answer where the log would grow past 2^63 bytes too, and then nothing was written.
+/// Adds entries at the end, all of them or none. It writes their records and a new closed gate behind the closed one, and once
+/// they are sure it opens that: two syncs for however many. Of a disk that has answered a fault no other entry may be added.
+/// Want of room is told as want of memory: OutOfMemory is the answer where the log would grow past 2^63 bytes too, and then
+/// nothing was written.
 pub fn append<D: Disk>(
     alloc: Global,
     log: &mut Log,
     disk: &mut D,
-    entry: &Entry,
+    more: &[Entry],
 ) -> Result<(), AppendError>
     requires closed { AreClosedAt (D.image disk.old) log.old }
-    // A crash at any moment leaves the log as it was, or with the entry.
+    // A crash at any moment leaves the log as it was, or with all of the entries.
     ensures moments { (entries : List Entry) → AreLogsOf (D.image disk.old) entries log.old
-        → Appends D.clock D.image_since entries entry.now log.old disk.old disk.new }
+        → Appends D.clock D.image_since entries more.now log.old disk.old disk.new }
     // The disk's clock goes on.
     ensures later { D.clock disk.old ≤ D.clock disk.new }
-    // The log with the entry.
+    // The log with the entries.
     ensures done { OnOk result ((entries : List Entry) → AreLogsOf (D.image disk.old) entries log.old
-        → AreLogsOf (D.image disk.new) (entries ++ entry.now ∷ []) log.new) }
+        → AreLogsOf (D.image disk.new) (entries ++ more.now) log.new) }
     ensures bytes { OnOk result ((entries : List Entry) → IsWholeLog (D.held disk.old) entries log.old
-        → IsWholeLog (D.held disk.new) (entries ++ entry.now ∷ []) log.new) }
-    ensures gate { OnOk result (log.new ≡ next_gate log.old entry.now) }
+        → IsWholeLog (D.held disk.new) (entries ++ more.now) log.new) }
+    ensures gate { OnOk result (log.new ≡ next_gate log.old more.now) }
     // After an error the log is as it was, and where memory ran out an append may follow.
     ensures same { OnErr result (log.new ≡ log.old) }
     ensures still { IsErrOf result AppendError.OutOfMemory → (entries : List Entry) → AreLogsOf (D.image disk.old) entries log.old
@@ -165,6 +192,6 @@ pub fn append<D: Disk>(
     ensures steady { ¬ IsErrOf result AppendError.DiskFault → D.faults disk.new ≡ D.faults disk.old }
     ensures never_fell { D.faults disk.old ≤ D.faults disk.new }
 {
-    log.gate = append_at(alloc, log.gate, disk, entry)?;
+    log.gate = append_at(alloc, log.gate, disk, more)?;
     Ok(())
 }

@@ -8,6 +8,7 @@ use hy_redo::{RecoverError, append, create, recover};
 use hy_stamp::Label;
 use hy_value::{Change, Kind, Seq, StoredRow, Text, Value, ValueRef};
 use std::alloc::{AllocError, Global};
+use std::slice;
 use std::test::*;
 
 /// The log of that transaction.
@@ -157,7 +158,7 @@ fn writes_one_change(rt: HostRuntime) -> Result<(), Fail> {
     let mut disk = disk_of(rt.alloc(), &[])?;
     let mut log = create(&mut disk)?;
     let entry = entry(rt.alloc())?;
-    append(rt.alloc(), &mut log, &mut disk, &entry)?;
+    append(rt.alloc(), &mut log, &mut disk, slice::from_ref(&entry))?;
     assert_eq!(rt; disk.bytes(), LOG.as_slice());
     Ok(())
 }

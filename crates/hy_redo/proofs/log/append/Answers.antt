@@ -7,5 +7,5 @@ pub returns-in_err-log-inside-clause-moments : goal.returns-in_err-log-inside-cl
 returns-in_err-log-inside-clause-moments g c =
     let d = g.D.Disk in
     subst (λ (n : ℕ). (entries : List Entry) → AreLogsOf (d.image c.args.disk.now) entries n
-    → Appends d.clock d.image_since entries c.args.entry.now n c.args.disk.now c.append_at.new.disk)
+    → Appends d.clock d.image_since entries c.args.more.now n c.args.disk.now c.append_at.new.disk)
     c.log.view_is c.append_at.ensures.moments

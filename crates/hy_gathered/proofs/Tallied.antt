@@ -15,7 +15,7 @@ use Rattle.hy_value.specs.declared.Value.{Value}
 use Rattle.hy_value.specs.Order.{value_cmp}
 use Rattle.hy_value.specs.TotalOrder.{values_total}
 use Rattle.hy_bound.specs.declared.Grouped.{Grouped}
-use Rattle.hy_gathered.specs.Tally.{AreWithin, group_of, groups_in, with_amount}
+use Rattle.hy_gathered.specs.Tally.{group_of, groups_in, size_of, with_amount}
 
 -- ---- to a total that is there
 
@@ -63,42 +63,31 @@ begun (entry ∷ entries) value amount none = begun_if (value_cmp value entry.0)
 
 -- ---- the size of the totals
 
-within_more : (most more : ℕ) (groups : List Grouped) → most ≤ more → AreWithin most groups → AreWithin more groups
-within_more most more [] low within = tt
-within_more most more (group ∷ groups) low within =
-    let first = within.0 in
-    (omega (arith, first, low), within_more most more groups low within.1)
+adds_size : (o : Ordering) (group : Grouped) (groups : List Grouped) (value : Value) (amount : ℤ)
+    → size_of (with_amount groups value amount) ≤ size_of groups + unsigned_abs amount
+    → size_of (match_ordering o (group_of (value, amount) ∷ group ∷ groups) (group_of (group.value, group.total +ℤ amount) ∷ groups)
+    (group ∷ with_amount groups value amount)) ≤ size_of (group ∷ groups) + unsigned_abs amount
+adds_size Less group groups value amount others = omega arith
+adds_size Equal group groups value amount others = omega (arith, ints)
+adds_size Greater group groups value amount others = omega (arith, others)
 
-adds_within : (o : Ordering) (group : Grouped) (groups : List Grouped) (value : Value) (amount : ℤ) (most more : ℕ) → most + unsigned_abs amount ≤ more
-    → AreWithin most (group ∷ groups) → AreWithin more (with_amount groups value amount)
-    → AreWithin more (match_ordering o (group_of (value, amount) ∷ group ∷ groups) (group_of (group.value, group.total +ℤ amount) ∷ groups)
-    (group ∷ with_amount groups value amount))
-adds_within Less group groups value amount most more low within others =
-    (omega (arith, low), within_more most more (group ∷ groups) (omega (arith, low)) within)
-adds_within Equal group groups value amount most more low within others =
-    let first = within.0 in
-    (omega (arith, ints, first, low), within_more most more groups (omega (arith, low)) within.1)
-adds_within Greater group groups value amount most more low within others =
-    let first = within.0 in
-    (omega (arith, first, low), others)
+-- an amount adds at most its own size
+pub size_added : (groups : List Grouped) (value : Value) (amount : ℤ) → size_of (with_amount groups value amount) ≤ size_of groups + unsigned_abs amount
+size_added [] value amount = omega arith
+size_added (group ∷ groups) value amount = adds_size (value_cmp value group.value) group groups value amount (size_added groups value amount)
 
-pub within_added : (groups : List Grouped) (value : Value) (amount : ℤ) (most more : ℕ) → most + unsigned_abs amount ≤ more → AreWithin most groups
-    → AreWithin more (with_amount groups value amount)
-within_added [] value amount most more low within = (omega (arith, low), tt)
-within_added (group ∷ groups) value amount most more low within =
-    adds_within (value_cmp value group.value) group groups value amount most more low within (within_added groups value amount most more low within.1)
-
-found_if : (b : Bool) (entry : Value × ℤ) (entries : List (Value × ℤ)) (value : Value) (total : ℤ) (most : ℕ) → AreWithin most (groups_in (entry ∷ entries))
+found_if : (b : Bool) (entry : Value × ℤ) (entries : List (Value × ℤ)) (value : Value) (total : ℤ)
     → cond b (Some entry.1) (lookup (is_at (value_cmp value)) entries) ≡ Some total
-    → (lookup (is_at (value_cmp value)) entries ≡ Some total → unsigned_abs total ≤ most) → unsigned_abs total ≤ most
-found_if true entry entries value total most within found others =
+    → (lookup (is_at (value_cmp value)) entries ≡ Some total → unsigned_abs total ≤ size_of (groups_in entries))
+    → unsigned_abs total ≤ size_of (groups_in (entry ∷ entries))
+found_if true entry entries value total found others =
     let same : entry.1 ≡ total = cc in
-    subst (λ (z : ℤ). unsigned_abs z ≤ most) same within.0
-found_if false entry entries value total most within found others = others found
+    subst (λ (z : ℤ). unsigned_abs z ≤ size_of (groups_in (entry ∷ entries))) same (omega arith)
+found_if false entry entries value total found others = let those = others found in omega (arith, those)
 
--- a total that is there is within the size of all
-pub within_found : (entries : List (Value × ℤ)) (value : Value) (total : ℤ) (most : ℕ) → AreWithin most (groups_in entries)
-    → lookup (is_at (value_cmp value)) entries ≡ Some total → unsigned_abs total ≤ most
-within_found [] value total most within found = cc
-within_found (entry ∷ entries) value total most within found =
-    found_if (is_at (value_cmp value) entry.0) entry entries value total most within found (within_found entries value total most within.1)
+-- a total that is there is no larger than all together
+pub size_found : (entries : List (Value × ℤ)) (value : Value) (total : ℤ) → lookup (is_at (value_cmp value)) entries ≡ Some total
+    → unsigned_abs total ≤ size_of (groups_in entries)
+size_found [] value total found = cc
+size_found (entry ∷ entries) value total found =
+    found_if (is_at (value_cmp value) entry.0) entry entries value total found (size_found entries value total)

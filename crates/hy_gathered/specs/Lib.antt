@@ -3,6 +3,7 @@ pub mod Columns
 pub mod Sums
 pub mod Tally
 pub mod Groups
+pub mod Shares
 pub mod Unasked
 pub mod GroupPlans
 pub mod GroupLaws

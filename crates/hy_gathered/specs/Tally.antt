@@ -1,8 +1,7 @@
 -- Totals of rows by value.
-use Rattle.std.specs.Prelude.{ℕ, ◌≤◌, List, [], ◌∷◌, ℤ, pos, ◌+ℤ◌, map, refl}
+use Rattle.std.specs.Prelude.{ℕ, ◌+◌, List, [], ◌∷◌, ℤ, pos, ◌+ℤ◌, map, refl}
 use Rattle.std.specs.Coded.{Coded, code_by, coded×, coded_list, coded_ℕ}
 use Rattle.std.specs.Int.RustNames.{unsigned_abs}
-use Rattle.std.specs.List.{AllByRecursion}
 use Rattle.std.specs.Ordering.{match_ordering}
 use Rattle.hy_value.specs.declared.Value.{Value}
 use Rattle.hy_value.specs.Order.{value_cmp}
@@ -38,9 +37,15 @@ with_amount (group ∷ groups) value amount =
     match_ordering (value_cmp value group.value) (group_of (value, amount) ∷ group ∷ groups) (group_of (group.value, group.total +ℤ amount) ∷ groups)
     (group ∷ with_amount groups value amount)
 
--- no total is larger than this
-abbrev pub AreWithin : ℕ → List Grouped → Type 0
-AreWithin most groups = AllByRecursion (λ (group : Grouped). unsigned_abs group.total ≤ most) groups
+-- groups, with the totals of others added
+abbrev pub merged : List Grouped → List Grouped → List Grouped
+merged groups [] = groups
+merged groups (other ∷ others) = merged (with_amount groups other.value other.total) others
+
+-- how large totals are together, whatever their signs
+abbrev pub size_of : List Grouped → ℕ
+size_of [] = 0
+size_of (group ∷ groups) = unsigned_abs group.total + size_of groups
 
 -- what a row adds to the total of its group: one, or the value that is summed
 abbrev pub amount_of : Aggregate → List Value → ℤ

@@ -5,6 +5,7 @@
 mod group_plans;
 mod laws;
 mod pieces;
+mod shares;
 mod sums;
 mod tally;
 
@@ -12,4 +13,4 @@ pub use group_plans::{GroupPlan, plan_group};
 pub use laws::{gathered_groups_answer, gathered_groups_read};
 pub use pieces::Pieces;
 pub use sums::{PartColumn, count_columns};
-pub use tally::{Grouping, Tally};
+pub use tally::{GroupTally, Grouping, Tally};

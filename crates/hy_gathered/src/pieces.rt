@@ -1,16 +1,18 @@
 //! Rows gathered of a table, piece by piece.
 
-ghost use Rattle.std.specs.Prelude.{◌≡◌, ◌+◌, ◌<◌, ◌≤◌, ◌*◌, ◌^◌, ◌++◌, [], List, true, IfOk, IfSome, OnOk, OnErr, length, map, slice_index_or};
+ghost use Rattle.std.specs.Prelude.{◌≡◌, ◌+◌, ◌<◌, ◌≤◌, ◌*◌, ◌^◌, ◌++◌, [], List, true, IfOk, IfSome, OnOk, OnErr, length, map, slice_index_or, take};
 ghost use Rattle.std.specs.Int.RustNames.{unsigned_abs};
 ghost use Rattle.hy_bound.specs.Projection.{spread};
-ghost use Rattle.hy_gathered.specs.Groups.{groups_by};
+ghost use Rattle.hy_gathered.specs.Groups.{IsTallyOf, groups_by};
+ghost use Rattle.hy_gathered.specs.Shares.{AreSharesOf, IsGroupTallyOf, share_begin, share_count, share_of};
 ghost use Rattle.hy_gathered.specs.Sums.{sum_by, value_in};
 ghost use Rattle.hy_meaning.specs.Statement.{Table};
 ghost use Rattle.hy_plan.specs.Reads.{known_values_of};
 ghost use Rattle.hy_value.specs.declared.Value.{Value};
 
+use crate::shares::{share_count, share_run};
 use crate::sums::PartColumn;
-use crate::tally::{Grouping, Tally};
+use crate::tally::{GroupTally, Grouping, Tally};
 use hy_plan::Gathered;
 use hy_value::{ColMask, Row, Value};
 use std::alloc::{AllocError, Global};
@@ -39,18 +41,22 @@ pub struct Pieces {
     /// The known values of one of its columns, kept from visit to visit of a later table whose rows are looked up by
     /// them.
     known: Option<Known>,
+    /// The totals of all of them, kept for the visit that answers from them.
+    kept: Option<GroupTally>,
 }
 
 impl Model for Pieces {
     ghost use Rattle.std.specs.Prelude.{◌≡◌, length};
     ghost use Rattle.hy_meaning.specs.Statement.{Table};
     ghost use Rattle.hy_gathered.specs.Pieces.{AreKnownOf, rows_in_pieces};
+    ghost use Rattle.hy_gathered.specs.Shares.{AreKeptOf};
 
     ghost Value = { Table };
 
     ghost view = { λ a. rows_in_pieces a.pieces.items };
 
-    ghost invariant = { λ a. (a.len ≡ length (rows_in_pieces a.pieces.items)) × AreKnownOf (rows_in_pieces a.pieces.items) a.known };
+    ghost invariant = { λ a. (a.len ≡ length (rows_in_pieces a.pieces.items)) × AreKnownOf (rows_in_pieces a.pieces.items) a.known
+        × AreKeptOf (rows_in_pieces a.pieces.items) a.kept };
 }
 
 impl Pieces {
@@ -62,6 +68,7 @@ impl Pieces {
             len: 0,
             pieces: Vec::new(alloc),
             known: None,
+            kept: None,
         }
     }
 
@@ -86,6 +93,7 @@ impl Pieces {
         self.pieces.push(piece)?;
         self.len = len;
         self.known = None;
+        self.kept = None;
         Ok(())
     }
 
@@ -121,8 +129,8 @@ impl Pieces {
         Ok(sum)
     }
 
-    /// Adds the rows to a tally of others. Err is for want of memory.
-    pub fn add_rows(
+    /// Adds the rows of one piece after another to a tally of others. Err is for want of memory.
+    fn add_each(
         &self,
         alloc: Global,
         grouping: Grouping,
@@ -134,6 +142,105 @@ impl Pieces {
     {
         for piece in &self.pieces {
             grouping.add_rows(alloc, piece, tally)?;
+        }
+        Ok(())
+    }
+
+    /// Adds the rows to a tally of others, at once where their totals are kept. Err is for want of memory.
+    pub fn add_rows(
+        &self,
+        alloc: Global,
+        grouping: Grouping,
+        tally: &mut Tally,
+    ) -> Result<(), AllocError>
+        requires { tally.old.rows + length self.now < 2 ^ 64 }
+        ensures rows { OnOk result (tally.new.rows ≡ tally.old.rows + length self.now) }
+        ensures groups { (rows : Table) → tally.old.groups ≡ groups_by grouping rows → OnOk result (tally.new.groups ≡ groups_by grouping (rows ++ self.now)) }
+    {
+        let _rows = self.len;
+        match &self.kept {
+            Some(kept) if kept.grouping.is_same(grouping) => tally.merge(&kept.tally),
+            _ => self.add_each(alloc, grouping, tally),
+        }
+    }
+
+    /// In how many shares its rows may be tallied before they are added to a tally: none where they are few, or where their
+    /// totals are kept.
+    pub fn shares(&self, grouping: Grouping) -> usize
+        ensures { result ≤ share_count (length self.now) }
+    {
+        let rows = self.len;
+        match &self.kept {
+            Some(kept) if kept.grouping.is_same(grouping) => 0,
+            _ => share_count(rows),
+        }
+    }
+
+    /// The totals of the share of a number. Err is for want of memory.
+    pub fn tally_share(
+        &self,
+        alloc: Global,
+        grouping: Grouping,
+        number: usize,
+    ) -> Result<GroupTally, AllocError>
+        ensures { IfOk result (IsGroupTallyOf (share_of number self.now)) }
+    {
+        let (from, to) = share_run(self.len, number);
+        let mut tally = Tally::new(alloc);
+        let mut before = 0;
+        for piece in &self.pieces {
+            let rows = piece.len();
+            let first = from.saturating_sub(before).min(rows);
+            let last = to.saturating_sub(before).min(rows);
+            grouping.add_run(alloc, piece, first, last, &mut tally)?;
+            before += rows;
+        }
+        Ok(GroupTally { grouping, tally })
+    }
+
+    /// The totals of its first shares, as many as there are. None where one was not made, or is by another grouping. Err is
+    /// for want of memory.
+    fn merge_shares(
+        &self,
+        alloc: Global,
+        grouping: Grouping,
+        shares: &[Option<GroupTally>],
+    ) -> Result<Option<Tally>, AllocError>
+        requires { AreSharesOf self.now shares.now }
+        ensures { IfOk result (λ found. IfSome found (IsTallyOf grouping (take (share_begin (length self.now) (length shares.now)) self.now))) }
+    {
+        let _rows = self.len;
+        let mut all = Tally::new(alloc);
+        for share in shares {
+            let Some(share) = share else {
+                return Ok(None);
+            };
+            if !share.grouping.is_same(grouping) {
+                return Ok(None);
+            }
+            all.merge(&share.tally)?;
+        }
+        Ok(Some(all))
+    }
+
+    /// Keeps the totals of its rows, where its shares are all there; else nothing is kept. Err is for want of memory.
+    pub fn keep_shares(
+        &mut self,
+        alloc: Global,
+        shares: &[Option<GroupTally>],
+    ) -> Result<(), AllocError>
+        requires { AreSharesOf self.old shares.now }
+        ensures { self.new ≡ self.old }
+    {
+        if shares.len() != share_count(self.len) {
+            return Ok(());
+        }
+        let Some(Some(first)) = shares.first() else {
+            return Ok(());
+        };
+        let grouping = first.grouping;
+        if let Some(tally) = self.merge_shares(alloc, grouping, shares)? {
+            self.kept = Some(GroupTally { grouping, tally });
         }
         Ok(())
     }

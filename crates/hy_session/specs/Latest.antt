@@ -1,11 +1,12 @@
--- What a session tells of its latest line: the transaction that it has open, the latest reply, the latest end.
+-- What a session tells of where it stands: the transaction that it has open, the latest reply, the latest end.
 use Rattle.std.specs.Prelude.{ℕ, ◌-◌, List, Option, length, slice_get}
-use Rattle.std.specs.Option.{option_and_then, option_map}
+use Rattle.std.specs.Option.{option_and_then, option_map, option_map_or}
 use Rattle.hy_bound.specs.declared.Ending.{Ending}
 use Rattle.hy_bound.specs.declared.Reply.{Reply}
 use Rattle.hy_render.specs.declared.TxnOutcome.{TxnOutcome}
 use Rattle.hy_event.specs.declared.SessionData.{SessionData}
 use Rattle.hy_event.specs.declared.Open.{Open}
+use Rattle.hy_protocol.specs.declared.Phase.{Phase}
 
 -- the last of a list, if it has any
 abbrev pub last_of : {A : Type 0} → List A → Option A
@@ -22,3 +23,11 @@ latest_reply session = option_and_then (λ (now : Open). last_of now.replies) se
 -- how its latest transaction ended, if any has
 abbrev pub latest_ending : SessionData → Option Ending
 latest_ending session = option_map (λ (done : TxnOutcome). done.ending) (last_of session.done)
+
+-- where its open transaction stands, if it has one
+abbrev pub phase_of : SessionData → Option Phase
+phase_of session = option_map (λ (now : Open). now.phase) session.now
+
+-- how many statements of its open transaction are answered; none where it has none
+abbrev pub answered : SessionData → ℕ
+answered session = option_map_or (λ (now : Open). length now.replies) session.now 0

@@ -4,6 +4,7 @@ pub mod Seeking
 pub mod Near
 pub mod Entered
 pub mod Short
+pub mod Ahead
 pub mod CoreSteps
 pub mod Preparing
 pub mod Reading

@@ -1,11 +1,13 @@
-//! What a session tells of its latest line.
+//! What a session tells of where it stands and of its latest line.
 
 ghost use Rattle.std.specs.Prelude.{◌≡◌, is_some};
 ghost use Rattle.std.specs.Option.{option_copied};
-ghost use Rattle.hy_session.specs.Latest.{latest_ending, latest_reply, open_prefix};
+ghost use Rattle.hy_event.specs.Sessions.{txn_at};
+ghost use Rattle.hy_session.specs.Latest.{answered, latest_ending, latest_reply, open_prefix, phase_of};
 
 use crate::Session;
-use hy_bound::{Ending, Reply};
+use hy_bound::{Ending, Reply, Txn};
+use hy_protocol::Phase;
 
 impl Session {
     /// Whether it has a transaction open.
@@ -36,5 +38,30 @@ impl Session {
     {
         let done = self.done.last()?;
         Some(done.ending)
+    }
+
+    /// The transaction of its script that it is at, if it is not at its end.
+    pub fn txn(&self) -> Option<&Txn>
+        ensures { option_copied result ≡ txn_at self.entry.now }
+    {
+        self.program.as_slice().get(self.done.len())
+    }
+
+    /// Where its open transaction stands, if it has one.
+    pub fn phase(&self) -> Option<Phase>
+        ensures { result ≡ phase_of self.entry.now }
+    {
+        let now = self.now.as_ref()?;
+        Some(now.phase)
+    }
+
+    /// How many statements of its open transaction are answered; none where it has none.
+    pub fn answered(&self) -> usize
+        ensures { result ≡ answered self.entry.now }
+    {
+        match &self.now {
+            Some(now) => now.replies.len(),
+            None => 0,
+        }
     }
 }

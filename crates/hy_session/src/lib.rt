@@ -6,6 +6,7 @@ ghost use Rattle.hy_limits.specs.declared.TheConstants.{MOST_TABLES, MOST_TXNS};
 ghost use Rattle.hy_event.specs.Needs.{need_of};
 ghost use Rattle.hy_session.specs.Standing.{standing_of};
 
+mod ahead;
 mod answers;
 mod backing;
 mod copying;

@@ -1,4 +1,5 @@
 pub mod Visits
+pub mod Shares
 pub mod Tasks
 pub mod Laws
 pub mod Knowledge

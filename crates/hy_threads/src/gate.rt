@@ -29,9 +29,17 @@ pub struct Point {
     pub answered: bool,
 }
 
+/// Told of the shares of a visit's work that are made ahead of it, by each share's thread before the share is begun. It is
+/// shared by all these threads, and a thread goes on once the call returns. A gate that holds a share up until another one
+/// is begun holds it up for ever where the system gives no thread for the other.
+pub trait PieceGate: Sync {
+    /// The share of this number is begun.
+    fn piece(&self, piece: usize);
+}
+
 /// Told of each visit of every worker, at three moments. It is shared by all workers, and a worker goes on once the
 /// call returns: one that holds a worker up while it has a part holds up all who need the part.
-pub trait Gate: Sync {
+pub trait Gate: PieceGate {
     /// A worker stands at this point.
     fn pass(&self, point: &Point);
 }
@@ -39,6 +47,10 @@ pub trait Gate: Sync {
 /// A gate that holds no one up.
 #[derive(Clone, Copy, Debug)]
 pub struct OpenGate;
+
+impl PieceGate for OpenGate {
+    fn piece(&self, _piece: usize) {}
+}
 
 impl Gate for OpenGate {
     fn pass(&self, _point: &Point) {}

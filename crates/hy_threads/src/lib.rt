@@ -2,7 +2,8 @@
 //!
 //! A worker is a session with its seat. It asks its session which part it needs next, takes the part, lets the session
 //! visit it, and gives it back, until the session is at its end. A gate is told of each visit before the part is taken,
-//! while it is held, and after it was given, so that a caller may watch the run or bring about an order.
+//! while it is held, and after it was given, so that a caller may watch the run or bring about an order. Shares of a
+//! visit's work that its session offers are made ahead of it on threads of their own, while the worker has no part.
 //!
 //! A worker that finds no memory stops before its visit, and the others go on. One that waits for it would wait for ever,
 //! so an engine lets no session wait for one that may find no memory.
@@ -11,6 +12,7 @@
 //! comes out is parts and sessions of which the engine's fact holds, and every session is at its end.
 #![tactic(auto)]
 
+mod ahead;
 mod gate;
 mod known;
 mod parted;
@@ -22,7 +24,7 @@ mod waiting;
 mod worked;
 mod worker;
 
-pub use gate::{Gate, Moment, OpenGate, Point};
+pub use gate::{Gate, Moment, OpenGate, PieceGate, Point};
 pub use known::Known;
 pub use parted::Parted;
 pub use parts::{Parts, Seat};

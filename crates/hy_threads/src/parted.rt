@@ -12,8 +12,9 @@ pub trait Parted {
     /// What is locked, each with a number: at any time with one thread at most.
     type Part: Drop + Send + Sync;
 
-    /// What visits parts, each with a number. It stays with its thread; the locks know what it is by its gives.
-    type Session: Drop + Send;
+    /// What visits parts, each with a number. It stays with its thread, and with those that make shares of its work; the locks
+    /// know what it is by its gives.
+    type Session: Drop + Send + Sync;
 
     /// The fact, of all parts and all sessions, each by its number.
     ghost fact: { List Self.Part → List Self.Session → Type 0 };

@@ -2,6 +2,7 @@
 ghost use Rattle.std.specs.Prelude.{◌≡◌, ℕ, ◌<◌, Option, Some, false, IfOk, OnErr};
 ghost use Rattle.hy_threads.specs.declared.gate.Point.{Point};
 ghost use Rattle.hy_threads.specs.declared.gate.Moment.TheVariants.{Before};
+ghost use Rattle.hy_threads.specs.Shares.{AreShares};
 ghost use Rattle.hy_threads.specs.Visits.{Needs, Visits};
 
 use crate::Parted;
@@ -21,7 +22,13 @@ pub enum Visited {
 
 /// Sessions that say what they need next, and visit it. The fact that the locks keep is that of `Parted`; a visit is
 /// one of its events, or changes nothing.
+///
+/// Ahead of a visit, while it has no part, a session may offer shares of the visit's work. They are made on threads, and the
+/// session takes them. Contracts do not see that it has them: a visit comes to the same without them.
 pub trait Worked: Parted {
+    /// What is made of a share of a session's work.
+    type Share: Drop + Send;
+
     /// The next visit of a session. None at its end.
     ghost point_of: { Self.Session → Option Point };
 
@@ -30,6 +37,21 @@ pub trait Worked: Parted {
 
     /// The session can't make its next visit to the part as it is.
     ghost is_blocked: { Self.Session → Self.Part → Type 0 };
+
+    /// This was made of the share of this number of the session's work.
+    ghost is_share: { Self.Session → ℕ → Self.Share → Type 0 };
+
+    /// How many shares of its next visit's work the session offers. None where threads would take longer to begin.
+    fn shares(session: &Self::Session) -> usize;
+
+    /// Makes the share of this number.
+    fn share(alloc: Global, session: &Self::Session, number: usize) -> Self::Share
+        ensures { is_share session.now number result };
+
+    /// Takes what was made of its shares, in order. Where there is no memory for that it lets them go.
+    fn take_shares(alloc: Global, session: &mut Self::Session, shares: Vec<Self::Share>)
+        requires { AreShares is_share session.old shares.items }
+        ensures { session.new ≡ session.old };
 
     /// The next visit. None at the end.
     fn need(session: &Self::Session) -> Option<Point>

@@ -3,12 +3,14 @@ ghost use Rattle.std.specs.Prelude.{◌≡◌, ◌<◌, false, MatchBool};
 ghost use Rattle.hy_threads.specs.Seats.{number_of};
 ghost use Rattle.hy_threads.specs.Tasks.{IsReady, Fits, IsSameWorker, HasStopped};
 
-use crate::gate::{Gate, Moment, Point};
+use crate::ahead::prepare;
+use crate::gate::{Gate, Moment, PieceGate, Point};
 use crate::worked::{Visited, Worked};
 use crate::{Parts, Seat};
 use std::alloc::Global;
 use std::marker::Model;
 use std::sync::Wait;
+use std::thread::Threads;
 
 /// A session, the seat that knows it and has no part, and whether its last run ended because it found no memory. A clause
 /// sees it as its `Task`.
@@ -140,9 +142,18 @@ impl<P: Worked> Worker<P> {
         };
         self.turn = Some(turn);
     }
+}
+
+impl<P: Worked + Send + Sync> Worker<P> {
+    // Lets shares of the next visit's work be made ahead of it.
+    fn prepare<T: Threads + Sync, G: PieceGate>(&mut self, rt: &T, alloc: Global, gate: &G)
+        ensures { self.new ≡ self.old }
+    {
+        prepare::<T, P, G>(rt, alloc, &mut self.session, gate);
+    }
 
     /// Visits what the session needs, until it is at its end or finds no memory.
-    pub(crate) fn run<T: Wait, G: Gate>(
+    pub(crate) fn run<T: Threads + Wait + Sync, G: Gate>(
         &mut self,
         rt: &T,
         alloc: Global,
@@ -155,6 +166,7 @@ impl<P: Worked> Worker<P> {
     {
         self.starved = false;
         for _ in rt.forever() {
+            self.prepare(rt, alloc, gate);
             if !self.visit_once(rt, alloc, parts, gate) {
                 return;
             }

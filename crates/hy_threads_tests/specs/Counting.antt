@@ -24,6 +24,10 @@ width_of session = 1
 abbrev pub HasToWait : Adder → Counter → Type 0
 HasToWait session counter = counter.count < session.awaits
 
+-- a share of its work is the share's number
+abbrev pub IsNumbered : Adder → ℕ → ℕ → Type 0
+IsNumbered session number share = share ≡ number
+
 -- nothing is claimed of counters and sessions, and any change may be made
 abbrev pub Anything : List Counter → List Adder → Type 0
 Anything counters sessions = Unit {0}

@@ -1,7 +1,8 @@
 //! An engine of one counter: each session adds 1 to it, so many times.
 
 ghost use Rattle.std.specs.Prelude.{◌≡◌};
-ghost use Rattle.hy_threads_tests.specs.Counting.{point_of};
+ghost use Rattle.hy_threads.specs.Shares.{AreShares};
+ghost use Rattle.hy_threads_tests.specs.Counting.{IsNumbered, point_of};
 
 use hy_threads::{Moment, Parted, Point, Visited, Worked};
 use std::alloc::{AllocError, Global};
@@ -24,6 +25,8 @@ pub struct Adder {
     pub awaits: u64,
     /// It finds no memory for its last turn.
     pub starves: bool,
+    /// So many shares of each turn's work are made ahead of it.
+    pub offers: usize,
 }
 
 /// The engine.
@@ -49,7 +52,7 @@ impl Parted for Counting {
 }
 
 impl Worked for Counting {
-    ghost use Rattle.hy_threads_tests.specs.Counting.{HasToWait, point_of, width_of};
+    ghost use Rattle.hy_threads_tests.specs.Counting.{HasToWait, IsNumbered, point_of, width_of};
     ghost use Rattle.hy_threads_tests.specs.Counting.{points_come_before, points_lie_within, changes_keep_width};
 
     ghost point_of = { point_of };
@@ -63,6 +66,29 @@ impl Worked for Counting {
     ghost part_is_below = { points_lie_within };
 
     ghost width_stays = { changes_keep_width };
+
+    type Share = usize;
+
+    ghost is_share = { IsNumbered };
+
+    fn shares(session: &Adder) -> usize {
+        match session.turns {
+            Some(_) => session.offers,
+            None => 0,
+        }
+    }
+
+    fn share(_alloc: Global, _session: &Adder, number: usize) -> usize {
+        number
+    }
+
+    fn take_shares(_alloc: Global, session: &mut Adder, shares: Vec<usize>)
+        requires { AreShares IsNumbered session.old shares.items }
+        ensures { session.new ≡ session.old }
+    {
+        // It has no use for them: which ones were begun, the gate is told.
+        let _ = (session.offers, shares.len());
+    }
 
     fn need(session: &Adder) -> Option<Point> {
         next_point(session)

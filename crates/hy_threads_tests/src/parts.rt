@@ -11,6 +11,7 @@ fn ended(number: u32) -> Adder {
         turns: None,
         awaits: 0,
         starves: false,
+        offers: 0,
     }
 }
 

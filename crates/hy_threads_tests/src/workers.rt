@@ -1,7 +1,7 @@
 //! Workers, each on a thread of its own.
 
 use crate::counting::{Adder, Counter, Counting};
-use hy_threads::{Gate, Moment, OpenGate, Point, run_all};
+use hy_threads::{Gate, Moment, OpenGate, PieceGate, Point, run_all};
 use std::alloc::AllocError;
 use std::sync::Wait;
 use std::sync::atomic::{AtomicBool, AtomicU64, Ordering};
@@ -15,6 +15,7 @@ fn adder(number: u32, turns: u32) -> Adder {
         turns: Some(turns),
         awaits: 0,
         starves: false,
+        offers: 0,
     }
 }
 
@@ -39,6 +40,10 @@ impl OneStarves {
     }
 }
 
+impl PieceGate for OneStarves {
+    fn piece(&self, _piece: usize) {}
+}
+
 impl Gate for OneStarves {
     fn pass(&self, point: &Point) {
         match (point.session, point.moment) {
@@ -50,6 +55,28 @@ impl Gate for OneStarves {
             _ => {}
         }
     }
+}
+
+/// Notes which shares are begun: the share of a number adds 1 at the digit of that number.
+#[derive(Drop)]
+struct Shares {
+    begun: AtomicU64,
+}
+
+impl PieceGate for Shares {
+    fn piece(&self, piece: usize) {
+        let digit = match piece {
+            0 => 1,
+            1 => 10,
+            2 => 100,
+            _ => 1000,
+        };
+        self.begun.fetch_add(digit, Ordering::SeqCst);
+    }
+}
+
+impl Gate for Shares {
+    fn pass(&self, _point: &Point) {}
 }
 
 /// What a counter that begins at 0 comes to where two sessions run over it.
@@ -75,6 +102,20 @@ fn counted<T: Threads + Wait + Sync + AllocGlobal, G: Gate>(
 #[test]
 fn two_sessions_add_to_a_counter(rt: HostRuntime) -> Result<(), Fail> {
     assert_eq!(rt; counted(&rt, &OpenGate, adder(0, 5), adder(1, 5))?, 10);
+    Ok(())
+}
+
+#[test]
+fn shares_are_made_ahead_of_each_visit(rt: HostRuntime) -> Result<(), Fail> {
+    let gate = Shares {
+        begun: AtomicU64::new(0),
+    };
+    let offering = Adder {
+        offers: 3,
+        ..adder(0, 2)
+    };
+    assert_eq!(rt; counted(&rt, &gate, offering, adder(1, 5))?, 7);
+    assert_eq!(rt; gate.begun.load(Ordering::SeqCst), 222);
     Ok(())
 }
 

@@ -6,7 +6,7 @@
 
 use hy_disk::NoDisk;
 use hy_outside::{StdSink, StdSource};
-use hy_threads::{Gate, Moment, Point};
+use hy_threads::{Gate, Moment, PieceGate, Point};
 use std::process::ExitCode;
 use std::rt::Runtime;
 use std::sync::Wait;
@@ -75,6 +75,10 @@ struct Watch<'a, C> {
     last: u32,
     began: Reading,
     ended: Reading,
+}
+
+impl<C: Clock + CpuClock + Sync> PieceGate for Watch<'_, C> {
+    fn piece(&self, _piece: usize) {}
 }
 
 impl<C: Clock + CpuClock + Sync> Gate for Watch<'_, C> {

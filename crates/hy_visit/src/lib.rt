@@ -10,7 +10,9 @@ mod reader;
 mod reading;
 mod writing;
 
-pub use gathering::{Found, Fresh, add_piece, found_with, gather_part, keep_keys, part_rows};
+pub use gathering::{
+    Found, Fresh, add_piece, found_with, gather_part, keep_keys, keep_shares, part_rows,
+};
 pub use parts::PartRows;
 pub use pruning::{stamp_visit, undo_visit};
 pub use reader::{Reader, Told, reader_of};

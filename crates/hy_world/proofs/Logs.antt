@@ -1,13 +1,13 @@
 -- Parts of a run that keeps a log, one after another.
 use Rattle.std.proofs.Common.{◌≡◌, ℕ, suc, ◌*◌, ◌≤◌, List, [], ◌∷◌, ◌++◌, Option, None, Some, Result, Ok, Err, true, is_some, length, map, take, drop, arith, refl, ap, sym, subst, ◌∙◌, inl, inr, le_refl, le_trans, append_assoc, append-nil}
-use Rattle.std.specs.Prelude.{slice_get, filter}
+use Rattle.std.specs.Prelude.{filter}
 use Rattle.std.proofs.Math.Logic.{⊎_elim}
 use Rattle.std.proofs.Math.Seq.{drop-append_seam, drop-length, take-append_seam}
 use Rattle.std.proofs.lemmas.List.{take_all, take-append-le, length-append, length-map, map-append}
 use Rattle.hy_journal.specs.declared.Entry.{Entry}
 use Rattle.hy_redo.specs.Logs.{IsLogOf}
 use Rattle.hy_redo.specs.Crashes.{AreLogsOf, Appends, IsBeforeOrAfter, next_gate}
-use Rattle.hy_world.specs.Logged.{LogsTellOrders, Extend, GrowByOne, with_next, IsLogOfFirst, IsLogButTheLast, IsKept, IsKeptButTheLast, Logs, IsKeptSince, IsUnderWay, RecoversAfter, IsDurable, IsLogOfRun, LogsRun}
+use Rattle.hy_world.specs.Logged.{LogsTellOrders, Extend, GrowByOne, IsLogOfFirst, IsLogButTheLast, IsKept, IsKeptButTheLast, Logs, IsKeptSince, IsUnderWay, RecoversAfter, IsDurable, IsLogOfRun, LogsRun}
 use Rattle.hy_value.specs.declared.Kind.{Kind}
 use Rattle.hy_stamp.specs.declared.Label.{Label}
 use Rattle.hy_value.specs.declared.change.Change.{Change}
@@ -43,13 +43,18 @@ first_further old new bytes more h =
     record { first = h.first; gate = h.gate; are_first = extend_then h.first old new h.are_first more; log = h.log }
 
 -- what stands behind the old entries is the one that is new, if there is one
-pub next_is : (old new : List Entry) → GrowByOne old new → with_next old (slice_get (drop (length old) new) 0) ≡ new
-next_is old new (inl same) =
-    subst (λ (x : List Entry). with_next old (slice_get (drop (length old) x) 0) ≡ x) (sym same)
-    (ap (λ (x : List Entry). with_next old (slice_get x 0)) (drop-length old))
-next_is old new (inr more) =
-    subst (λ (x : List Entry). with_next old (slice_get (drop (length old) x) 0) ≡ x) (sym more.1)
-    (ap (λ (x : List Entry). with_next old (slice_get x 0)) (drop-append_seam old (more.0 ∷ [])))
+pub new_behind : (old new : List Entry) → GrowByOne old new → old ++ drop (length old) new ≡ new
+new_behind old new (inl same) =
+    subst (λ (x : List Entry). old ++ drop (length old) x ≡ x) (sym same) (ap (λ (x : List Entry). old ++ x) (drop-length old) ∙ append-nil old)
+new_behind old new (inr more) =
+    subst (λ (x : List Entry). old ++ drop (length old) x ≡ x) (sym more.1)
+    (ap (λ (x : List Entry). old ++ x) (drop-append_seam old (more.0 ∷ [])))
+
+pub one_new : (old new : List Entry) → GrowByOne old new → length (drop (length old) new) ≤ 1
+one_new old new (inl same) =
+    subst (λ (x : List Entry). length (drop (length old) x) ≤ 1) (sym same) (omega (arith, ap length (drop-length old)))
+one_new old new (inr more) =
+    subst (λ (x : List Entry). length (drop (length old) x) ≤ 1) (sym more.1) (omega (arith, ap length (drop-append_seam old (more.0 ∷ []))))
 
 -- ---- parts of a run
 
@@ -68,36 +73,41 @@ logs_then clock image_since a b c first second third h k = record {
       (λ is. inr is) (k.moments time bytes (le_trans le h.later) left);
 }
 
-before_or_after : (entries : List Entry) (entry : Entry) (gate : ℕ) (bytes : List ℕ) → IsBeforeOrAfter entries entry gate bytes
-    → IsLogOfFirst (entries ++ entry ∷ []) bytes
-before_or_after entries entry gate bytes (inl log) =
-    record { first = entries; gate = gate; are_first = record { others = entry ∷ []; behind = refl }; log = log }
-before_or_after entries entry gate bytes (inr log) =
-    record { first = entries ++ entry ∷ []; gate = next_gate gate entry; are_first = none_behind (entries ++ entry ∷ []); log = log }
+before_or_after : (entries more : List Entry) (gate : ℕ) (bytes : List ℕ) → IsBeforeOrAfter entries more gate bytes
+    → IsLogOfFirst (entries ++ more) bytes
+before_or_after entries more gate bytes (inl log) =
+    record { first = entries; gate = gate; are_first = record { others = more; behind = refl }; log = log }
+before_or_after entries more gate bytes (inr log) =
+    record { first = entries ++ more; gate = next_gate gate more; are_first = none_behind (entries ++ more); log = log }
 
--- an entry is appended
-pub appended : {D : Type 0} (clock : D → ℕ) (image_since : D → ℕ → List ℕ → Type 0) (entries : List Entry) (entry : Entry) (gate : ℕ)
-    (before after : D) → Appends clock image_since entries entry gate before after
-    → Logs clock image_since entries (entries ++ entry ∷ []) before after
-appended clock image_since entries entry gate before after h = record {
-  grow = record { others = entry ∷ []; behind = refl };
+-- entries are appended
+pub appended : {D : Type 0} (clock : D → ℕ) (image_since : D → ℕ → List ℕ → Type 0) (entries more : List Entry) (gate : ℕ)
+    (before after : D) → Appends clock image_since entries more gate before after
+    → Logs clock image_since entries (entries ++ more) before after
+appended clock image_since entries more gate before after h = record {
+  grow = record { others = more; behind = refl };
   later = h.later;
-  moments = λ time bytes le left. ⊎_elim (λ earlier. inl earlier) (λ is. inr (before_or_after entries entry gate bytes is)) (h.moments time bytes le left);
+  moments = λ time bytes le left. ⊎_elim (λ earlier. inl earlier) (λ is. inr (before_or_after entries more gate bytes is)) (h.moments time bytes le left);
 }
 
+one_more : (entries more : List Entry) → length more ≤ 1 → GrowByOne entries (entries ++ more)
+one_more entries [] few = inl (append-nil entries)
+one_more entries (entry ∷ []) few = inr (entry, refl)
+one_more entries (entry ∷ next ∷ others) few = absurd (omega (arith, few))
+
 -- where it broke off, a crash leaves the log of all entries, or of all but the one that was to be appended
-but_the_last : (entries : List Entry) (entry : Entry) (gate : ℕ) (bytes : List ℕ) → IsBeforeOrAfter entries entry gate bytes
-    → IsLogButTheLast (entries ++ entry ∷ []) bytes
-but_the_last entries entry gate bytes (inl log) = record { first = entries; gate = gate; but_last = inr (entry, refl); log = log }
-but_the_last entries entry gate bytes (inr log) =
-    record { first = entries ++ entry ∷ []; gate = next_gate gate entry; but_last = inl refl; log = log }
+but_the_last : (entries more : List Entry) (gate : ℕ) (bytes : List ℕ) → length more ≤ 1 → IsBeforeOrAfter entries more gate bytes
+    → IsLogButTheLast (entries ++ more) bytes
+but_the_last entries more gate bytes few (inl log) = record { first = entries; gate = gate; but_last = one_more entries more few; log = log }
+but_the_last entries more gate bytes few (inr log) =
+    record { first = entries ++ more; gate = next_gate gate more; but_last = inl refl; log = log }
 
 pub append_cut : {D : Type 0} (clock : D → ℕ) (image : D → List ℕ → Type 0) (image_since : D → ℕ → List ℕ → Type 0)
     → ((disk : D) (time : ℕ) (bytes : List ℕ) → time ≤ clock disk → image disk bytes → image_since disk time bytes)
-    → (entries : List Entry) (entry : Entry) (gate : ℕ) (before after : D) → Appends clock image_since entries entry gate before after
-    → (bytes : List ℕ) → image after bytes → IsLogButTheLast (entries ++ entry ∷ []) bytes
-append_cut clock image image_since counts entries entry gate before after h bytes left =
-    but_the_last entries entry gate bytes (h.each bytes (counts after (clock before) bytes h.later left))
+    → (entries more : List Entry) (gate : ℕ) (before after : D) → length more ≤ 1 → Appends clock image_since entries more gate before after
+    → (bytes : List ℕ) → image after bytes → IsLogButTheLast (entries ++ more) bytes
+append_cut clock image image_since counts entries more gate before after few h bytes left =
+    but_the_last entries more gate bytes few (h.each bytes (counts after (clock before) bytes h.later left))
 
 -- a log that is kept has all entries
 pub all_kept : {D : Type 0} (image : D → List ℕ → Type 0) (entries : List Entry) (log : Option ℕ) (disk : D) → IsKept image entries log disk
@@ -106,11 +116,10 @@ all_kept image entries None disk kept = tt
 all_kept image entries (Some gate) disk kept = λ bytes left. record { first = entries; gate = gate; but_last = inl refl; log = kept bytes left }
 
 -- or none is, where no log is kept
-pub passed_by : {D : Type 0} (clock : D → ℕ) (image_since : D → ℕ → List ℕ → Type 0) (entries : List Entry) (next : Option Entry) (disk : D)
-    → Logs clock image_since entries (with_next entries next) disk disk
-passed_by clock image_since entries None disk = nothing_done clock image_since entries disk
-passed_by clock image_since entries (Some entry) disk = record {
-  grow = record { others = entry ∷ []; behind = refl };
+pub passed_by : {D : Type 0} (clock : D → ℕ) (image_since : D → ℕ → List ℕ → Type 0) (entries more : List Entry) (disk : D)
+    → Logs clock image_since entries (entries ++ more) disk disk
+passed_by clock image_since entries more disk = record {
+  grow = record { others = more; behind = refl };
   later = le_refl (clock disk);
   moments = λ time bytes le left. inl left;
 }

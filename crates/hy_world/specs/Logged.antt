@@ -26,11 +26,6 @@ pub record Extend {A : Type 0} (old new : List A) : Type 0 where
 abbrev pub GrowByOne : List Entry → List Entry → Type 0
 GrowByOne old new = (new ≡ old) ⊎ ((entry : Entry) × (new ≡ old ++ entry ∷ []))
 
--- the entries with one more, if there is one
-abbrev pub with_next : List Entry → Option Entry → List Entry
-with_next entries None = entries
-with_next entries (Some entry) = entries ++ entry ∷ []
-
 -- the bytes are the log of some first ones of these entries
 pub record IsLogOfFirst (entries : List Entry) (bytes : List ℕ) : Type 0 where
   pub first : List Entry

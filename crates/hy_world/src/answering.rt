@@ -1,12 +1,13 @@
-//! Lines that come to sessions of a world, one after another, and what is told of the answers.
+//! Lines that come to sessions of a world, one after another, and what is told of the answers and of where sessions stand.
 
-ghost use Rattle.std.specs.Prelude.{◌≡◌, OnErr, OnOk};
+ghost use Rattle.std.specs.Prelude.{◌≡◌, OnErr, OnOk, length, slice_get};
 ghost use Rattle.std.specs.Option.{option_copied};
 ghost use Rattle.hy_world.specs.Lines.{Awaits, Grows, HasLine, is_open_at, open_prefix_at, latest_reply_at, latest_ending_at};
 
 use crate::World;
 use hy_bound::{Ending, Reply};
 use hy_event::SessionLine;
+use hy_session::Session;
 use std::alloc::{AllocError, Global};
 
 impl World {
@@ -53,5 +54,19 @@ impl World {
         ensures { result ≡ latest_ending_at self.now.sessions number }
     {
         self.sessions.get(number as usize)?.latest_ending()
+    }
+
+    /// The session of this number, if there is one.
+    pub fn session(&self, number: u32) -> Option<&Session>
+        ensures { option_copied result ≡ slice_get self.now.sessions number }
+    {
+        self.sessions.get(number as usize)
+    }
+
+    /// How many entries the journal has.
+    pub fn entry_count(&self) -> usize
+        ensures { result ≡ length self.now.core.entries }
+    {
+        self.core.since(0).len()
     }
 }

@@ -1,7 +1,6 @@
 //! The entries of the journal in a redo log.
 
-ghost use Rattle.std.specs.Prelude.{◌≡◌, ◌≤◌, List, OnOk, IfOk, IsErrOf, is_some};
-ghost use Rattle.std.specs.Option.{option_copied};
+ghost use Rattle.std.specs.Prelude.{◌≡◌, ◌≤◌, ◌++◌, List, OnOk, IfOk, IsErrOf, is_some, length};
 ghost use Rattle.hy_outside.specs.Faults.{Rose};
 ghost use Rattle.hy_journal.specs.declared.Entry.{Entry};
 ghost use Rattle.hy_machine.specs.declared.Setting.{Setting};
@@ -10,7 +9,7 @@ ghost use Rattle.hy_machine.specs.Runs.{opening_of, run_of};
 ghost use Rattle.hy_stepping.specs.Texts.{CanBeLogged};
 ghost use Rattle.hy_redo.specs.Crashes.{AreLogsOf};
 ghost use Rattle.hy_value.specs.declared.Kind.{Kind};
-ghost use Rattle.hy_world.specs.Logged.{IsKept, IsKeptButTheLast, Logs, HasLogged, IsDurable, LogsRun, LogsTellOrders, with_next};
+ghost use Rattle.hy_world.specs.Logged.{IsKept, IsKeptButTheLast, Logs, HasLogged, IsDurable, LogsRun, LogsTellOrders};
 ghost use Rattle.hy_world.specs.Worlds.{ShowsState};
 
 use crate::World;
@@ -21,31 +20,28 @@ use hy_redo::{AppendError, Log, append};
 use hy_render::Outcome;
 use std::alloc::Global;
 
-/// Appends an entry, where there is one and a log is kept.
-pub(crate) fn log_entry<D: Disk>(
+/// Appends entries, where a log is kept: none, or one.
+pub(crate) fn log_entries<D: Disk>(
     alloc: Global,
     log: &mut Option<Log>,
     disk: &mut D,
-    entry: Option<&Entry>,
+    more: &[Entry],
 ) -> Result<(), AppendError>
+    requires few { length more.now ≤ 1 }
     requires kept { (entries : List Entry) × IsKept D.image entries log.old disk.old }
     ensures kept { OnOk result ((entries : List Entry) → IsKept D.image entries log.old disk.old
-        → IsKept D.image (with_next entries (option_copied entry.entry)) log.new disk.new) }
-    ensures cut { (entries : List Entry) → IsKept D.image entries log.old disk.old
-        → IsKeptButTheLast D.image (with_next entries (option_copied entry.entry)) log.new disk.new }
+        → IsKept D.image (entries ++ more.now) log.new disk.new) }
+    ensures cut { (entries : List Entry) → IsKept D.image entries log.old disk.old → IsKeptButTheLast D.image (entries ++ more.now) log.new disk.new }
     ensures stays { is_some log.new ≡ is_some log.old }
     ensures logs { (entries : List Entry) → IsKept D.image entries log.old disk.old
-        → Logs D.clock D.image_since entries (with_next entries (option_copied entry.entry)) disk.old disk.new }
+        → Logs D.clock D.image_since entries (entries ++ more.now) disk.old disk.new }
     ensures fault { IsErrOf result AppendError.DiskFault → Rose (D.faults disk.old) (D.faults disk.new) }
     ensures steady { ¬ IsErrOf result AppendError.DiskFault → D.faults disk.new ≡ D.faults disk.old }
 {
-    let Some(entry) = entry else {
-        return Ok(());
-    };
     let Some(log) = log else {
         return Ok(());
     };
-    append(alloc, log, disk, entry)
+    append(alloc, log, disk, more)
 }
 
 /// A law: what the log of a world tells is the commit order of the state that the world shows, or the first part of it, and it

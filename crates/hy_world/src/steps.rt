@@ -10,7 +10,7 @@ ghost use Rattle.hy_world.specs.Follows.{Follows, Steps};
 ghost use Rattle.hy_world.specs.Logged.{IsKept, IsKeptButTheLast, Logs, Approaches};
 
 use crate::World;
-use crate::logging::log_entry;
+use crate::logging::log_entries;
 use hy_bound::Item;
 use hy_disk::Disk;
 use hy_event::Need;
@@ -55,7 +55,7 @@ impl World {
     {
         let before = self.core.since(0).len();
         let stepped = self.step(alloc, number)?;
-        log_entry(alloc, log, disk, self.core.since(before).first())?;
+        log_entries(alloc, log, disk, self.core.since(before))?;
         Ok(stepped)
     }
 
@@ -144,7 +144,7 @@ impl World {
     }
 
     /// How many sessions there are.
-    fn session_count(&self) -> u32
+    pub fn session_count(&self) -> u32
         ensures { result ≡ length self.now.sessions }
     {
         self.sessions.len() as u32
@@ -175,7 +175,7 @@ impl World {
     }
 
     /// Whether every session is at its end.
-    pub(crate) fn is_done(&self) -> bool
+    pub fn is_done(&self) -> bool
         ensures { result ≡ are_done self.now.sessions }
     {
         for session in self.sessions.iter() {

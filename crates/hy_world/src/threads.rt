@@ -6,8 +6,10 @@ ghost use Rattle.std.specs.List.{All};
 ghost use Rattle.hy_value.specs.declared.Kind.{Kind};
 ghost use Rattle.hy_machine.specs.declared.Setting.{Setting};
 ghost use Rattle.hy_machine.specs.States.{State};
+ghost use Rattle.hy_session.specs.Ahead.{IsShareAhead};
 ghost use Rattle.hy_stepping.specs.Runnable.{IsRunnable};
 ghost use Rattle.hy_stepping.specs.Typed.{AreTyped};
+ghost use Rattle.hy_threads.specs.Shares.{AreShares};
 ghost use Rattle.hy_world.specs.Shared.{AreShared};
 ghost use Rattle.hy_world.specs.Points.{point_of, visited_of};
 ghost use Rattle.hy_world.specs.SomeRuns.{IsSomeRun};
@@ -17,6 +19,7 @@ use crate::opening::{Opened, open_all};
 use crate::shared::{SharedPart, share, unshare, visit_part};
 use crate::{Kinds, World};
 use hy_bound::Shapes;
+use hy_gathered::GroupTally;
 use hy_machine::Setting;
 use hy_protocol::Progress;
 use hy_render::Outcome;
@@ -69,6 +72,7 @@ impl<K: Case> Parted for Shown<K> {
 
 impl<K: Case> Worked for Shown<K> {
     ghost use Rattle.hy_world.specs.Shared.{HasToWait};
+    ghost use Rattle.hy_session.specs.Ahead.{IsShareAhead};
     ghost use Rattle.hy_session.specs.Standing.{width_of};
     ghost use Rattle.hy_world.specs.Points.{point_of, points_come_before, points_lie_within, visits_keep_width};
 
@@ -83,6 +87,25 @@ impl<K: Case> Worked for Shown<K> {
     ghost part_is_below = { points_lie_within };
 
     ghost width_stays = { visits_keep_width };
+
+    type Share = Option<GroupTally>;
+
+    ghost is_share = { IsShareAhead };
+
+    fn shares(session: &Session) -> usize {
+        session.shares()
+    }
+
+    fn share(alloc: Global, session: &Session, number: usize) -> Option<GroupTally> {
+        session.make_share(alloc, number)
+    }
+
+    fn take_shares(alloc: Global, session: &mut Session, shares: Vec<Option<GroupTally>>)
+        requires { AreShares IsShareAhead session.old shares.items }
+        ensures { session.new ≡ session.old }
+    {
+        session.take_shares(alloc, shares.as_slice());
+    }
 
     fn need(session: &Session) -> Option<Point> {
         next_point(session)

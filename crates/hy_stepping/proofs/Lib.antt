@@ -10,6 +10,7 @@ mod PushedSessions
 pub mod PushedShown
 pub mod Awaited
 pub mod Told
+pub mod Standing
 pub mod CoresNear
 pub mod VisitsLeft
 pub mod NeededChunks

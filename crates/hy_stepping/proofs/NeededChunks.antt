@@ -63,7 +63,7 @@ insert_there setting table visited checks there few left =
     (λ e. (there, let most = ltb-false visited checks e in omega (arith, most, left)))
 
 -- the checks are as many as the machine's, and at most the chunks
-same_checks : (session : SessionData) (setting : Setting) (key : Option ℕ) → session.chunks ≡ setting.chunks → checks_here session key ≡ checks_of setting key
+pub same_checks : (session : SessionData) (setting : Setting) (key : Option ℕ) → session.chunks ≡ setting.chunks → checks_here session key ≡ checks_of setting key
 same_checks session setting None e = refl
 same_checks session setting (Some key) e = e
 

@@ -4,6 +4,7 @@ pub mod Runnable
 pub mod Steps
 pub mod Pushed
 pub mod Told
+pub mod Standing
 pub mod Outcomes
 pub mod Bounds
 pub mod Logs

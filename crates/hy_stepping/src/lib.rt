@@ -12,6 +12,7 @@ ghost use Rattle.hy_stepping.specs.Outcomes.{EndsAreTheMachines, OutcomesAreTold
 ghost use Rattle.hy_stepping.specs.Bounds.{BoundsAreEnough, WholesAreSteps, RunsAreReached};
 ghost use Rattle.hy_stepping.specs.Pushed.{AwaitedIsReady, LinesAreRunnable, LinesAreShown, LinesAreTyped};
 ghost use Rattle.hy_stepping.specs.Told.{SessionsTell};
+ghost use Rattle.hy_stepping.specs.Standing.{SessionsStand};
 
 mod logs;
 
@@ -80,6 +81,16 @@ pub fn awaited_lines_are_the_machines()
 pub fn sessions_tell()
     ensures { SessionsTell }
 {}
+
+/// A session stands where the machine's does: at the same transaction, as far in it, and it needs the part that the
+/// machine's visits next. And the journal has as many entries as the commit order.
+pub fn sessions_stand()
+    ensures { SessionsStand }
+{
+    hy_lawful::reached_states_are_kept();
+    hy_refinement::written_chunks_are_the_machines();
+    hy_refinement::chunks_since_are_the_machines();
+}
 
 /// What is shown is shown with a line more, where its session is ready for the line and the line fits; the engine runs
 /// the longer script; and where the line's values are of its table's types, so are still those of all that is run.

@@ -1,0 +1,6 @@
+mod Pieces
+mod Names
+mod Put
+mod Hits
+mod Logged
+mod Telling

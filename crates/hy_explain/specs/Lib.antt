@@ -1,0 +1,7 @@
+pub mod Words
+pub mod Conditions
+pub mod Reads
+pub mod Found
+pub mod Choosing
+pub mod Explained
+pub mod Truth

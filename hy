@@ -16,6 +16,10 @@ hy runs a script of concurrent SQL transactions, and prints what each was told a
                  reads the script; prints what it has, or the line and the code of its first mistake
     ./hy recover [--script] [--chunks N] [--rows N] [FILE]
                  prints the script's tables as the log of an earlier run makes them
+    ./hy trace [--no-prune] [--chunks N] [--rows N] [FILE]
+                 runs the script by its schedule; prints its steps, one by one
+    ./hy explain [--no-prune] [--chunks N] [--rows N] [FILE]
+                 runs the script by its schedule; prints which transactions were refused, and why
     ./hy gen --seed N --sessions K --transactions M [--threads]
                  makes a bank and its sessions from the number N, runs them, and counts how they ended
     ./hy serve [--log] [--chunks N] [--rows N]
@@ -41,6 +45,7 @@ Examples:
 
     ./hy run examples/write_skew.hy
     ./hy run --chunks 1 --rows 4 examples/bank/phantom.hy
+    ./hy explain examples/write_skew.hy
     ./hy gen --seed 7 --sessions 8 --transactions 100
 
 Statuses: 0 done, 1 the words are refused, 2 the script is refused, 3 a read failed, 4 a write failed, 5 want of memory,
@@ -91,7 +96,7 @@ is_option() {
 }
 
 take_file() {
-    is_among "$command" 'run check recover' || refuse "$command takes no script, and $1 is one word too many"
+    is_among "$command" 'run check recover trace explain' || refuse "$command takes no script, and $1 is one word too many"
     [ -z "$named" ] || refuse "$command takes one script, and $1 is one word too many"
     named=yes
     file=$1
@@ -501,6 +506,7 @@ case $command in
     serve) flags=log numbers='chunks rows' ;;
     check) numbers='chunks rows' ;;
     recover) flags=script numbers='chunks rows' ;;
+    trace | explain) flags=no-prune numbers='chunks rows' ;;
     gen) flags=threads numbers='seed sessions transactions' ;;
     build) ;;
     help | -h | --help) help ;;

@@ -1,7 +1,8 @@
 //! Runs the scripts of the gallery, and tells of each whether it prints what it should.
 //!
 //! A line of `gallery.txt` names a script and the words it is run with. `NAME.hy` is the script, and
-//! `NAME.out` is what it should print. `hy.log` is the log that a run of the script `recovered_tables` left, made by another program.
+//! `NAME.out` is what `run` should print of it, `NAME.COMMAND` what another command should. `hy.log` is the log that a run of
+//! the script `recovered_tables` left, made by another program.
 #![tactic(auto)]
 
 use hy_disk::{Disk, FileDisk};
@@ -55,7 +56,11 @@ fn shows_what_is_expected(
 ) -> io::Result<bool> {
     let alloc = rt.alloc();
     let script = fs::read(rt, format!(in alloc; "{name}.hy")?)?;
-    let expected = fs::read(rt, format!(in alloc; "{name}.out")?)?;
+    let ending = match words.split_whitespace().next() {
+        None | Some("run") => "out",
+        Some(command) => command,
+    };
+    let expected = fs::read(rt, format!(in alloc; "{name}.{ending}")?)?;
     let printed = printed_by(rt, words, script, disk)?;
     let status = printed.status;
     if printed.bytes.as_slice() != expected.as_slice() {

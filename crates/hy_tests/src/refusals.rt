@@ -282,6 +282,10 @@ fn other_words(rt: HostRuntime) -> Result<(), Fail> {
     assert!(rt; are_refused(&rt, &["hy", "run", "run"])?);
     assert!(rt; are_refused(&rt, &["hy", "run", "--chunks", "65"])?);
     assert!(rt; are_refused(&rt, &["hy", "check", "--rows", "0"])?);
+    assert!(rt; are_refused(&rt, &["hy", "trace", "--threads"])?);
+    assert!(rt; are_refused(&rt, &["hy", "trace", "--rows", "1025"])?);
+    assert!(rt; are_refused(&rt, &["hy", "explain", "--log"])?);
+    assert!(rt; are_refused(&rt, &["hy", "explain", "--chunks", "65"])?);
     assert!(rt; are_refused(&rt, &["hy", "check", "--threads"])?);
     Ok(())
 }

@@ -37,8 +37,9 @@ pub fn written_beside<T: Threads + Wait + Sync + AllocGlobal, G: Gate>(
 ) -> Result<(u8, Vec<u8>), AllocError> {
     let alloc = rt.alloc();
     let words = words_of(alloc, words)?;
+    let room = script.len().saturating_mul(2).saturating_add(10_000);
     let mut source = MemSource::new(script, 4096, Vec::new(alloc));
-    let mut sink = MemSink::new(alloc, 10_000, Vec::new(alloc))?;
+    let mut sink = MemSink::new(alloc, room, Vec::new(alloc))?;
     let report = hy_top::run(rt, alloc, &words, &mut source, &mut sink, gate, &mut NoDisk);
     Ok((report.status, sink.bytes().to_vec(alloc)?))
 }

@@ -2,8 +2,8 @@
 
 use crate::made::AUDIT_TEXT;
 use crate::runs::written_beside;
-use hy_threads::{Gate, Moment, OpenGate, Point};
-use std::alloc::AllocError;
+use hy_threads::{Gate, Moment, OpenGate, PieceGate, Point};
+use std::alloc::{AllocError, Global};
 use std::sync::Wait;
 use std::sync::atomic::{AtomicBool, Ordering};
 use std::test::Fail;
@@ -82,6 +82,10 @@ struct Meeting {
     second: Guest,
 }
 
+impl PieceGate for Meeting {
+    fn piece(&self, _piece: usize) {}
+}
+
 impl Gate for Meeting {
     fn pass(&self, point: &Point) {
         if point.moment != Moment::Held {
@@ -121,6 +125,10 @@ impl OldReader {
             self.is_late.raise();
         }
     }
+}
+
+impl PieceGate for OldReader {
+    fn piece(&self, _piece: usize) {}
 }
 
 impl Gate for OldReader {
@@ -164,6 +172,10 @@ impl BlockedBegin {
     }
 }
 
+impl PieceGate for BlockedBegin {
+    fn piece(&self, _piece: usize) {}
+}
+
 impl Gate for BlockedBegin {
     fn pass(&self, point: &Point) {
         match (point.session, point.statement, point.moment) {
@@ -177,6 +189,41 @@ impl Gate for BlockedBegin {
             _ => {}
         }
     }
+}
+
+/// The first two shares of a visit's work, each of which waits for the other one to begin.
+#[derive(Drop)]
+struct SharesMeet {
+    first: Guest,
+    second: Guest,
+}
+
+impl PieceGate for SharesMeet {
+    fn piece(&self, piece: usize) {
+        match piece {
+            0 => self.first.meet(&self.second),
+            1 => self.second.meet(&self.first),
+            _ => {}
+        }
+    }
+}
+
+impl Gate for SharesMeet {
+    fn pass(&self, _point: &Point) {}
+}
+
+/// A script of so many rows in 7 groups, which a session counts and sums.
+fn grouped_script(alloc: Global, rows: u32) -> Result<String, AllocError> {
+    let mut script = String::new(alloc);
+    script.push_str("CREATE TABLE t (id INT PRIMARY KEY, kind INT, bal INT); ")?;
+    for id in 0..rows {
+        let row = format!(in alloc; "INSERT INTO t VALUES ({id},{},{id}); ", id % 7)?;
+        script.push_str(row.as_str())?;
+    }
+    script.push_str("SESSION a; BEGIN READ ONLY; ")?;
+    script.push_str("SELECT kind, COUNT(*) FROM t GROUP BY kind; ")?;
+    script.push_str("SELECT kind, SUM(bal) FROM t GROUP BY kind; COMMIT; END;")?;
+    Ok(script)
 }
 
 /// The status and the text of a run on threads of two accounts and this rest of a script. A table has so many chunks of so
@@ -252,6 +299,40 @@ SESSION b; BEGIN; SELECT * FROM note; COMMIT;";
     assert_eq!(rt; status, 0);
     assert!(rt; meeting.first.met.is_raised());
     assert!(rt; meeting.second.met.is_raised());
+    Ok(())
+}
+
+#[test]
+fn shares_of_a_visit_meet_and_groups_are_the_same(rt: HostRuntime) -> Result<(), Fail> {
+    let alloc = rt.alloc();
+    let layout = ["--chunks", "8", "--rows", "1000"];
+    let script = grouped_script(alloc, 8000)?;
+    let alone = ["hy", "run", layout[0], layout[1], layout[2], layout[3]];
+    let (status, expected) = written_beside(
+        &rt,
+        &OpenGate,
+        &alone,
+        script.as_bytes().to_vec(alloc)?,
+    )?;
+    assert_eq!(rt; status, 0);
+    let gate = SharesMeet {
+        first: Guest::new(),
+        second: Guest::new(),
+    };
+    let beside = [
+        "hy",
+        "run",
+        "--threads",
+        layout[0],
+        layout[1],
+        layout[2],
+        layout[3],
+    ];
+    let (status, text) = written_beside(&rt, &gate, &beside, script.as_bytes().to_vec(alloc)?)?;
+    assert_eq!(rt; status, 0);
+    assert!(rt; gate.first.met.is_raised());
+    assert!(rt; gate.second.met.is_raised());
+    assert!(rt; text.as_slice() == expected.as_slice());
     Ok(())
 }
 

@@ -22,7 +22,7 @@ use Rattle.hy_lawful.specs.Serial.{IsSerial}
 use Rattle.hy_lawful.specs.Laws.{SerialEnds}
 use Rattle.hy_words.specs.declared.Command.{Command}
 use Rattle.hy_words.specs.Words.{IsWithin}
-use Rattle.hy_words.specs.declared.Command.TheVariants.{Run, Check, Recover, Serve, Gen}
+use Rattle.hy_words.specs.declared.Command.TheVariants.{Run, Check, Recover, Trace, Explain, Serve, Gen}
 use Rattle.hy_value.specs.declared.Value.{Value}
 use Rattle.hy_top.specs.Lines.{refusal_line_of}
 use Rattle.hy_top.specs.Program.{MayCome, IsRead, bytes_read, bytes_left, keeps_log, options_by, made_by, reads_script}
@@ -175,6 +175,8 @@ few_of : (command : Command) → IsWithin command → AreFew (options_by command
 few_of (Run threads prune log chunks rows) within = record { some_chunk = within.0; few_chunks = within.1; some_row = within.2; few_rows = within.3 }
 few_of (Check chunks rows) within = record { some_chunk = within.0; few_chunks = within.1; some_row = within.2; few_rows = within.3 }
 few_of (Recover dumps chunks rows) within = record { some_chunk = within.0; few_chunks = within.1; some_row = within.2; few_rows = within.3 }
+few_of (Trace prune chunks rows) within = record { some_chunk = within.0; few_chunks = within.1; some_row = within.2; few_rows = within.3 }
+few_of (Explain prune chunks rows) within = record { some_chunk = within.0; few_chunks = within.1; some_row = within.2; few_rows = within.3 }
 few_of (Serve log chunks rows) within = record { some_chunk = within.0; few_chunks = within.1; some_row = within.2; few_rows = within.3 }
 few_of (Gen seed sessions txns threads) within = record { some_chunk = omega arith; few_chunks = omega arith; some_row = omega arith; few_rows = omega arith }
 
@@ -271,6 +273,10 @@ did_otherwise (Check chunks rows) script found status given before after done =
     done_otherwise 0 status before after _ (λ two. omega (arith, two)) done.writes
 did_otherwise (Recover dumps chunks rows) script found status given before after done =
     done_otherwise (restored_status done.restored) status before after _ (restored_otherwise done.restored) done.writes
+did_otherwise (Trace prune chunks rows) script found status given before after done =
+    done_otherwise 0 status before after _ (λ two. omega (arith, two)) done.writes
+did_otherwise (Explain prune chunks rows) script found status given before after ran =
+    done_otherwise 0 status before after _ (λ two. omega (arith, two)) ran.writes
 did_otherwise (Serve log chunks rows) script found status given before after never = absurd never
 
 pub done_is_no_refusal : (command : Command) (script : Script) (found : Option (List ℕ)) (status : ℕ) (given : Option Outcome)
@@ -299,6 +305,11 @@ done_answers (Check chunks rows) bytes found script status given before after on
 done_answers (Recover dumps chunks rows) bytes found script status given before after once law fit s (inr done) =
     quiet_answers (Recover dumps chunks rows) bytes found script status given before after once s done.nothing_is_run
     (did_otherwise (Recover dumps chunks rows) script found status given before after done) (inr done)
+done_answers (Trace prune chunks rows) bytes found script status given before after once law fit s (inr done) =
+    quiet_answers (Trace prune chunks rows) bytes found script status given before after once s done.no_outcome
+    (did_otherwise (Trace prune chunks rows) script found status given before after done) (inr done)
+done_answers (Explain prune chunks rows) bytes found script status given before after once law fit s (inr ran) =
+    ran_answers (Explain prune chunks rows) bytes found script status given before after false _ once law fit tt s ran ran
 done_answers (Serve log chunks rows) bytes found script status given before after once law fit s (inr never) = absurd never
 
 whole_is_read : (all : List ℕ) → length all ≤ MOST_BYTES → bytes_read all ≡ all

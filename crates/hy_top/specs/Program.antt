@@ -9,7 +9,7 @@ use Rattle.hy_machine.specs.Runs.{run_of}
 use Rattle.hy_machine.specs.Outcomes.{outcome_of}
 use Rattle.hy_world.specs.SomeRuns.{IsSomeRun}
 use Rattle.hy_words.specs.declared.Command.{Command}
-use Rattle.hy_words.specs.declared.Command.TheVariants.{Run, Check, Recover, Serve, Gen}
+use Rattle.hy_words.specs.declared.Command.TheVariants.{Run, Check, Recover, Trace, Explain, Serve, Gen}
 use Rattle.hy_gen.specs.Made.{made}
 use Rattle.hy_limits.specs.declared.TheConstants.{MOST_BYTES}
 
@@ -30,6 +30,8 @@ abbrev pub options_by : Command → Options
 options_by (Run threads prune log chunks rows) = record { chunks = chunks; rows = rows }
 options_by (Check chunks rows) = record { chunks = chunks; rows = rows }
 options_by (Recover dumps chunks rows) = record { chunks = chunks; rows = rows }
+options_by (Trace prune chunks rows) = record { chunks = chunks; rows = rows }
+options_by (Explain prune chunks rows) = record { chunks = chunks; rows = rows }
 options_by (Serve log chunks rows) = record { chunks = chunks; rows = rows }
 options_by (Gen seed sessions txns threads) = record { chunks = 4; rows = 16 }
 
@@ -38,6 +40,8 @@ abbrev pub served_by : Command → Option Options
 served_by (Run threads prune log chunks rows) = None
 served_by (Check chunks rows) = None
 served_by (Recover dumps chunks rows) = None
+served_by (Trace prune chunks rows) = None
+served_by (Explain prune chunks rows) = None
 served_by (Serve log chunks rows) = Some (record { chunks = chunks; rows = rows })
 served_by (Gen seed sessions txns threads) = None
 
@@ -49,6 +53,8 @@ abbrev pub reads_script : Command → Bool
 reads_script (Run threads prune log chunks rows) = true
 reads_script (Check chunks rows) = true
 reads_script (Recover dumps chunks rows) = true
+reads_script (Trace prune chunks rows) = true
+reads_script (Explain prune chunks rows) = true
 reads_script (Serve log chunks rows) = false
 reads_script (Gen seed sessions txns threads) = false
 
@@ -57,6 +63,8 @@ abbrev pub made_by : Command → Option Script
 made_by (Run threads prune log chunks rows) = None
 made_by (Check chunks rows) = None
 made_by (Recover dumps chunks rows) = None
+made_by (Trace prune chunks rows) = None
+made_by (Explain prune chunks rows) = None
 made_by (Serve log chunks rows) = None
 made_by (Gen seed sessions txns threads) = Some (made seed sessions txns)
 
@@ -65,6 +73,8 @@ abbrev pub keeps_log : Command → Bool
 keeps_log (Run threads prune log chunks rows) = log
 keeps_log (Check chunks rows) = false
 keeps_log (Recover dumps chunks rows) = false
+keeps_log (Trace prune chunks rows) = false
+keeps_log (Explain prune chunks rows) = false
 keeps_log (Serve log chunks rows) = log
 keeps_log (Gen seed sessions txns threads) = false
 
@@ -74,6 +84,8 @@ uses_disk None = false
 uses_disk (Some (Run threads prune log chunks rows)) = log
 uses_disk (Some (Check chunks rows)) = false
 uses_disk (Some (Recover dumps chunks rows)) = true
+uses_disk (Some (Trace prune chunks rows)) = false
+uses_disk (Some (Explain prune chunks rows)) = false
 uses_disk (Some (Serve log chunks rows)) = log
 uses_disk (Some (Gen seed sessions txns threads)) = false
 

@@ -3,6 +3,8 @@ use Rattle.std.specs.Prelude.{◌≡◌, ℕ, ◌<◌, ◌≤◌, pos, List, [],
 use Rattle.std.specs.List.{AllByRecursion}
 use Rattle.hy_outside.specs.Telling.{Takes, TakesSome}
 use Rattle.hy_dump.specs.Dump.{dump}
+use Rattle.hy_explain.specs.Explained.{explained_text}
+use Rattle.hy_trace.specs.Trace.{trace_text}
 use Rattle.hy_schema.specs.declared.TableDef.{TableDef}
 use Rattle.hy_script.specs.declared.Script.{Script}
 use Rattle.hy_script.specs.declared.Refused.{Refused}
@@ -16,7 +18,7 @@ use Rattle.hy_bank.specs.Endings.{EndInFourWays, EndingsAddUp}
 use Rattle.hy_lawful.specs.Lawful.{Lawful}
 use Rattle.hy_lawful.specs.Serial.{IsSerial}
 use Rattle.hy_words.specs.declared.Command.{Command}
-use Rattle.hy_words.specs.declared.Command.TheVariants.{Run, Check, Recover, Serve, Gen}
+use Rattle.hy_words.specs.declared.Command.TheVariants.{Run, Check, Recover, Trace, Explain, Serve, Gen}
 use Rattle.hy_value.specs.declared.Value.{Value}
 use Rattle.hy_render.specs.declared.Names.{Names}
 use Rattle.hy_render.specs.Report.{tables_text}
@@ -44,11 +46,13 @@ IsRefused command bytes refused = Reads bytes (options_by command) (Err refused)
 abbrev pub Spells : Command → List ℕ → Script → Type 0
 Spells command bytes script = Reads bytes (options_by command) (Ok script)
 
--- the command runs its script
+-- the command runs its script, and its report has what that came to
 abbrev pub IsRun : Command → Type 0
 IsRun (Run threads prune log chunks rows) = Unit {0}
 IsRun (Check chunks rows) = ⊥
 IsRun (Recover dumps chunks rows) = ⊥
+IsRun (Trace prune chunks rows) = ⊥
+IsRun (Explain prune chunks rows) = Unit {0}
 IsRun (Serve log chunks rows) = ⊥
 IsRun (Gen seed sessions txns threads) = Unit {0}
 
@@ -72,10 +76,19 @@ Runs threads script = HasRun (text (names_at script)) threads script
 abbrev pub Summarizes : Bool → Script → ℕ → Option Outcome → Option (List ℕ) → Option (List ℕ) → Type 0
 Summarizes threads script = HasRun summary_of threads script
 
+-- which of its transactions were refused, and why
+abbrev pub Explains : Script → ℕ → Option Outcome → Option (List ℕ) → Option (List ℕ) → Type 0
+Explains script = HasRun (explained_text script) false script
+
 -- the script was read: what it has was written
 pub record Checks (script : Script) (status : ℕ) (outcome : Option Outcome) (before after : Option (List ℕ)) : Type 0 where
   pub nothing_is_run : IsNone outcome
   pub writes : Writes 0 status before after (checked_line script)
+
+-- the steps of the script's run, by its schedule, were written, and no outcome beside them
+pub record Traces (script : Script) (status : ℕ) (outcome : Option Outcome) (before after : Option (List ℕ)) : Type 0 where
+  pub no_outcome : IsNone outcome
+  pub writes : Writes 0 status before after (trace_text (names_at script) (setting_at script) script.schedule)
 
 -- ---- with a disk, of which a read gave these bytes before, where it tells them: of any disk there are bytes that it held
 
@@ -135,6 +148,8 @@ Does (Run threads prune true chunks rows) script held status outcome before afte
     RunsLogged script held status outcome before after ⊎ FindsALog held status outcome before after
 Does (Check chunks rows) script held status outcome before after = Checks script status outcome before after
 Does (Recover dumps chunks rows) script held status outcome before after = Restores dumps script held status outcome before after
+Does (Trace prune chunks rows) script held status outcome before after = Traces script status outcome before after
+Does (Explain prune chunks rows) script held status outcome before after = Explains script status outcome before after
 Does (Serve log chunks rows) script held status outcome before after = ⊥
 Does (Gen seed sessions txns threads) script held status outcome before after = Summarizes threads script status outcome before after
 

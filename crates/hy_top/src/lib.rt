@@ -11,6 +11,7 @@ ghost use Rattle.hy_render.specs.Summary.{summary_of};
 ghost use Rattle.hy_words.specs.declared.Command.{Command};
 ghost use Rattle.hy_words.specs.Words.{IsWithin, command_of};
 ghost use Rattle.hy_gen.specs.Made.{made};
+ghost use Rattle.hy_script.specs.Reading.{Reads};
 ghost use Rattle.hy_script.specs.declared.Script.{Script};
 ghost use Rattle.hy_top.specs.Lines.{usage_line, refusal_line_of, checked_line};
 ghost use Rattle.hy_top.specs.Program.{MayCome, bytes_left, does_serve, keeps_log, options_by, made_by, names_at, reads_script, served_by, uses_disk};
@@ -23,6 +24,7 @@ mod lines;
 mod logs;
 mod serving;
 mod settings;
+mod steps;
 mod typing;
 
 use hy_bank::{made_outcomes_keep_the_money, made_scripts_fit, made_transactions_end_in_four_ways};
@@ -44,6 +46,7 @@ use settings::{Given, given_of};
 use std::alloc::{AllocError, Global};
 use std::sync::Wait;
 use std::thread::Threads;
+use steps::{explain_script, trace_script};
 pub use typing::{what_is_made_is_typed, what_is_read_is_typed};
 
 /// What a call of the program came to.
@@ -91,8 +94,9 @@ const USAGE: &[u8] = b"usage: hy run|check|gen\n";
 /// of its own, and the gate is told of each of its visits; then the call waits for locks and for the threads' ends. With
 /// `--log` a redo log is made on the disk, and has each entry of the commit order before another step is taken; `recover`
 /// reads a script, and writes the tables that the log on the disk makes of its first rows, with `--script` as the lines of a
-/// script that makes them. `serve` answers each line of the source before it reads the next, and keeps a log too with `--log`.
-/// What is said of a sink's bytes and of crashes holds where the sink and the disk tell them.
+/// script that makes them. `trace` reads a script, and writes the steps of its run; `explain` reads and runs one, and writes which
+/// transactions were refused, and why. `serve` answers each line of the source before it reads the next, and keeps a log too with
+/// `--log`. What is said of a sink's bytes and of crashes holds where the sink and the disk tell them.
 pub fn run<T: Threads + Wait + Sync, R: Source, W: Sink, G: Gate, D: Disk>(
     rt: &T,
     alloc: Global,
@@ -117,8 +121,9 @@ pub fn run<T: Threads + Wait + Sync, R: Source, W: Sink, G: Gate, D: Disk>(
     // Unless a read failed there are bytes that the source gave, its own where it tells them. Where these are refused the
     // refusal line is written. Where they spell a script it is run, and the text of its outcome is written: that is what the
     // machine's run of the script comes to, by its schedule or, on threads, by some order of steps; it is lawful, and it is
-    // serializable in the order that it prints; or the script is checked. A run that keeps a log leaves that of the outcome's
-    // order: what a crash after it leaves recovers to the outcome's tables. Whatever the status, what a crash leaves at any
+    // serializable in the order that it prints; or the script is checked. To trace writes the steps of the machine's run by the
+    // schedule, and to explain has the outcome of that run, and writes the reasons for it. A run that keeps a log leaves that of the
+    // outcome's order: what a crash after it leaves recovers to the outcome's tables. Whatever the status, what a crash leaves at any
     // moment is what one could leave before, what the making of the log may leave, or the log of some first entries of the order.
     ensures answers { IfSome (command_of (map string_bytes words.now)) (λ command. reads_script command ≡ true → (result.status ≡ 3)
         ⊎ IsAnswered D.held D.clock D.image D.image_since command (R.rest source.old) result.status result.outcome
@@ -340,6 +345,8 @@ fn options_of(command: Command) -> Options
         Command::Run { chunks, rows, .. } => Options { chunks, rows },
         Command::Check { chunks, rows } => Options { chunks, rows },
         Command::Recover { chunks, rows, .. } => Options { chunks, rows },
+        Command::Trace { chunks, rows, .. } => Options { chunks, rows },
+        Command::Explain { chunks, rows, .. } => Options { chunks, rows },
         Command::Serve { chunks, rows, .. } => Options { chunks, rows },
         Command::Gen { .. } => Options {
             chunks: 4,
@@ -380,20 +387,22 @@ fn answer<T: Threads + Wait + Sync, W: Sink, G: Gate, D: Disk>(
     runs_are_steps();
     ends_are_lawful();
     match hy_script::read(crew.alloc, bytes, &options_of(command)) {
-        Ok(script) => perform(crew, command, script, sink, disk),
+        Ok(script) => perform(crew, command, bytes, script, sink, disk),
         Err(ReadError::Refused(refused)) => refuse(crew.alloc, refused, sink),
         Err(ReadError::OutOfMemory) => without_outcome(NO_MEMORY),
     }
 }
 
-/// Does what a command asks for with a script.
+/// Does what a command asks for with a script, which these bytes spell.
 fn perform<T: Threads + Wait + Sync, W: Sink, G: Gate, D: Disk>(
     crew: &Crew<'_, T, G>,
     command: Command,
+    bytes: &[u8],
     script: Script,
     sink: &mut W,
     disk: &mut D,
 ) -> Report
+    requires spells { Reads bytes.now script.options (Ok script) }
     requires runs { CanRun script }
     requires texts { IsUtf8Script script }
     requires script { does_serve (Some command) ≡ false }
@@ -425,6 +434,8 @@ fn perform<T: Threads + Wait + Sync, W: Sink, G: Gate, D: Disk>(
         }
         Command::Check { .. } => check_script(crew.alloc, script, sink),
         Command::Recover { dumps, .. } => recover_script(crew.alloc, script, dumps, sink, disk),
+        Command::Trace { prune, .. } => trace_script(crew.alloc, script, prune, sink),
+        Command::Explain { prune, .. } => explain_script(crew.alloc, bytes, script, prune, sink),
         Command::Gen { threads, .. } => summarize_script(crew, script, threads, sink),
         Command::Serve { .. } => unreachable!(),
     }

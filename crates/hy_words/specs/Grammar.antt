@@ -58,6 +58,12 @@ check = sized (new_shape (codes "check"))
 abbrev pub recover : Shape
 recover = sized (record (new_shape (codes "recover")) { rules = script_flag ∷ [] })
 
+abbrev pub trace : Shape
+trace = sized (record (new_shape (codes "trace")) { rules = prune_flag ∷ [] })
+
+abbrev pub explain : Shape
+explain = sized (record (new_shape (codes "explain")) { rules = prune_flag ∷ [] })
+
 abbrev pub serve : Shape
 serve = sized (record (new_shape (codes "serve")) { rules = log_flag ∷ [] })
 
@@ -84,14 +90,18 @@ bare = record (new_shape (codes "hy")) {
   disable_version_flag = true;
 }
 
--- the commands that take a script
+-- the first commands that take a script
+abbrev pub first_words : App
+first_words = record { top = record bare { is_leaf = false }; subs = run ∷ check ∷ recover ∷ [] }
+
+-- all commands that take one
 abbrev pub script_words : App
-script_words = record { top = record bare { is_leaf = false }; subs = run ∷ check ∷ recover ∷ [] }
+script_words = record first_words { subs = run ∷ check ∷ recover ∷ trace ∷ explain ∷ [] }
 
 -- these, and the one that takes lines
 abbrev pub source_words : App
-source_words = record script_words { subs = run ∷ check ∷ recover ∷ serve ∷ [] }
+source_words = record script_words { subs = run ∷ check ∷ recover ∷ trace ∷ explain ∷ serve ∷ [] }
 
 -- the program: these and `gen`
 abbrev pub hy : App
-hy = record source_words { subs = run ∷ check ∷ recover ∷ serve ∷ generate ∷ [] }
+hy = record source_words { subs = run ∷ check ∷ recover ∷ trace ∷ explain ∷ serve ∷ generate ∷ [] }

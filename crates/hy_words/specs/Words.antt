@@ -12,7 +12,7 @@ use Rattle.clap.specs.declared.error.kind.ErrorKind.{ErrorKind}
 use Rattle.clap.specs.declared.error.kind.ErrorKind.TheVariants as kind
 use Rattle.hy_words.specs.Grammar.{hy}
 use Rattle.hy_words.specs.declared.Command.{Command}
-use Rattle.hy_words.specs.declared.Command.TheVariants.{Run, Check, Recover, Serve, Gen}
+use Rattle.hy_words.specs.declared.Command.TheVariants.{Run, Check, Recover, Trace, Explain, Serve, Gen}
 use Rattle.hy_words.specs.declared.WordsError.{WordsError}
 use Rattle.hy_words.specs.declared.WordsError.TheVariants.{Refused, OutOfMemory}
 
@@ -56,6 +56,16 @@ abbrev pub recover_with : Option Bool → Option (ℕ × ℕ) → Option Command
 recover_with (Some dumps) (Some (chunks, rows)) = Some (Recover dumps chunks rows)
 recover_with _ _ = None
 
+-- `trace` with these, where the matches have each
+abbrev pub trace_with : Option Bool → Option (ℕ × ℕ) → Option Command
+trace_with (Some keeps) (Some (chunks, rows)) = Some (Trace (not keeps) chunks rows)
+trace_with _ _ = None
+
+-- `explain` with these, where the matches have each
+abbrev pub explain_with : Option Bool → Option (ℕ × ℕ) → Option Command
+explain_with (Some keeps) (Some (chunks, rows)) = Some (Explain (not keeps) chunks rows)
+explain_with _ _ = None
+
 -- `serve` with these, where the matches have each
 abbrev pub serve_with : Option Bool → Option (ℕ × ℕ) → Option Command
 serve_with (Some log) (Some (chunks, rows)) = Some (Serve log chunks rows)
@@ -78,6 +88,12 @@ check_by matches = option_map (λ sizes. Check sizes.0 sizes.1) (sizes_in matche
 abbrev pub recover_by : List Row → Option Command
 recover_by matches = recover_with (truth_in (codes "script") matches) (sizes_in matches)
 
+abbrev pub trace_by : List Row → Option Command
+trace_by matches = trace_with (truth_in (codes "no-prune") matches) (sizes_in matches)
+
+abbrev pub explain_by : List Row → Option Command
+explain_by matches = explain_with (truth_in (codes "no-prune") matches) (sizes_in matches)
+
 abbrev pub serve_by : List Row → Option Command
 serve_by matches = serve_with (truth_in (codes "log") matches) (sizes_in matches)
 
@@ -91,6 +107,8 @@ abbrev pub asked_by : Option (Text × List Row) → Option Command
 asked_by = option_and_then (λ s. if bytes_eq s.0 (codes "run") then run_by s.1
     else if bytes_eq s.0 (codes "check") then check_by s.1
     else if bytes_eq s.0 (codes "recover") then recover_by s.1
+    else if bytes_eq s.0 (codes "trace") then trace_by s.1
+    else if bytes_eq s.0 (codes "explain") then explain_by s.1
     else if bytes_eq s.0 (codes "serve") then serve_by s.1
     else if bytes_eq s.0 (codes "gen") then gen_by s.1 else None)
 
@@ -108,6 +126,8 @@ abbrev pub IsWithin : Command → Type 0
 IsWithin (Run threads prune log chunks rows) = AreSizes chunks rows
 IsWithin (Check chunks rows) = AreSizes chunks rows
 IsWithin (Recover dumps chunks rows) = AreSizes chunks rows
+IsWithin (Trace prune chunks rows) = AreSizes chunks rows
+IsWithin (Explain prune chunks rows) = AreSizes chunks rows
 IsWithin (Serve log chunks rows) = AreSizes chunks rows
 IsWithin (Gen seed sessions txns threads) = (0 < sessions) × (sessions ≤ 64) × (0 < txns) × (txns ≤ 1000)
 

@@ -2,8 +2,8 @@
 ghost use Rattle.std.specs.Prelude.{◌≡◌, ◌≤◌, ◌≤ℤ◌, pos, IfOk, false, []};
 ghost use Rattle.clap.specs.Words.{app_of, rule_of, shape_of};
 ghost use Rattle.clap.specs.declared.Command.TheViews.{out-Command as fields_of};
-ghost use Rattle.hy_words.specs.Grammar.{bare, check, chunks, generate, hy, recover, rows, run, script_words, seed, serve, sessions, sized};
-ghost use Rattle.hy_words.specs.Grammar.{flag, needed_number, number_option, source_words, transactions};
+ghost use Rattle.hy_words.specs.Grammar.{bare, check, chunks, first_words, generate, hy, recover, rows, run, script_words, seed, serve, sessions, sized};
+ghost use Rattle.hy_words.specs.Grammar.{explain, flag, needed_number, number_option, source_words, trace, transactions};
 
 use clap::{Arg, ArgAction, Command, value_parser};
 use std::alloc::{AllocError, Global};
@@ -26,6 +26,16 @@ fn source_words<'a>(alloc: Global) -> Result<Command<'a>, AllocError>
 /// The words that take a script.
 fn script_words<'a>(alloc: Global) -> Result<Command<'a>, AllocError>
     ensures app { IfOk result (λ c. app_of c ≡ script_words) }
+    ensures local { IfOk result (λ c. (fields_of c).has_globals ≡ false) }
+{
+    first_words(alloc)?
+        .subcommand(trace(alloc)?)?
+        .subcommand(explain(alloc)?)
+}
+
+/// The first of them.
+fn first_words<'a>(alloc: Global) -> Result<Command<'a>, AllocError>
+    ensures app { IfOk result (λ c. app_of c ≡ first_words) }
     ensures local { IfOk result (λ c. (fields_of c).has_globals ≡ false) }
 {
     bare(alloc)
@@ -72,6 +82,24 @@ fn recover<'a>(alloc: Global) -> Result<Command<'a>, AllocError>
     ensures local { IfOk result (λ c. (fields_of c).has_globals ≡ false) }
 {
     let flags = Command::new(alloc, "recover").arg(flag(alloc, "script"))?;
+    sized(alloc, flags)
+}
+
+/// The words that `trace` takes.
+fn trace<'a>(alloc: Global) -> Result<Command<'a>, AllocError>
+    ensures shape { IfOk result (λ c. shape_of c ≡ trace) }
+    ensures local { IfOk result (λ c. (fields_of c).has_globals ≡ false) }
+{
+    let flags = Command::new(alloc, "trace").arg(flag(alloc, "no-prune"))?;
+    sized(alloc, flags)
+}
+
+/// The words that `explain` takes.
+fn explain<'a>(alloc: Global) -> Result<Command<'a>, AllocError>
+    ensures shape { IfOk result (λ c. shape_of c ≡ explain) }
+    ensures local { IfOk result (λ c. (fields_of c).has_globals ≡ false) }
+{
+    let flags = Command::new(alloc, "explain").arg(flag(alloc, "no-prune"))?;
     sized(alloc, flags)
 }
 

@@ -4,8 +4,8 @@
 ghost use Rattle.std.specs.Prelude.{◌≡◌, ◌≤◌, Some, None, Err, IfOk, IfSome, map};
 ghost use Rattle.std.specs.String.{string_bytes};
 ghost use Rattle.clap.specs.Words.{found_of, rows_of, subcommand_rows_of};
-ghost use Rattle.hy_words.specs.Words.{AreSizes, IsWithin, asked_by, check_by, command_of, gen_by, number_in, number_within};
-ghost use Rattle.hy_words.specs.Words.{recover_by, refusal_of, run_by, serve_by, sizes_in, truth_in};
+ghost use Rattle.hy_words.specs.Words.{AreSizes, IsWithin, asked_by, check_by, command_of, explain_by, gen_by, number_in, number_within};
+ghost use Rattle.hy_words.specs.Words.{recover_by, refusal_of, run_by, serve_by, sizes_in, trace_by, truth_in};
 
 mod grammar;
 
@@ -32,6 +32,24 @@ pub enum Command {
     },
     /// Read a script and count what it has.
     Check {
+        /// How many chunks a table has.
+        chunks: u32,
+        /// How many positions a chunk has.
+        rows: u32,
+    },
+    /// Run a script and tell each step.
+    Trace {
+        /// Whether chains of versions are pruned.
+        prune: bool,
+        /// How many chunks a table has.
+        chunks: u32,
+        /// How many positions a chunk has.
+        rows: u32,
+    },
+    /// Run a script and tell why transactions were refused.
+    Explain {
+        /// Whether chains of versions are pruned.
+        prune: bool,
         /// How many chunks a table has.
         chunks: u32,
         /// How many positions a chunk has.
@@ -121,6 +139,8 @@ fn asked(matches: &ArgMatches<'_>) -> Option<Command>
         "run" => run_asked(given),
         "check" => check_asked(given),
         "recover" => recover_asked(given),
+        "trace" => trace_asked(given),
+        "explain" => explain_asked(given),
         "serve" => serve_asked(given),
         "gen" => gen_asked(given),
         _ => None,
@@ -166,6 +186,34 @@ fn recover_asked(given: &ArgMatches<'_>) -> Option<Command>
     let (chunks, rows) = sizes(given)?;
     Some(Command::Recover {
         dumps,
+        chunks,
+        rows,
+    })
+}
+
+/// What the matches of `trace` ask for.
+fn trace_asked(given: &ArgMatches<'_>) -> Option<Command>
+    ensures asked { result ≡ trace_by (rows_of (found_of given.now)) }
+    ensures within { IfSome result (λ command. IsWithin command) }
+{
+    let keeps = truth(given, "no-prune")?;
+    let (chunks, rows) = sizes(given)?;
+    Some(Command::Trace {
+        prune: !keeps,
+        chunks,
+        rows,
+    })
+}
+
+/// What the matches of `explain` ask for.
+fn explain_asked(given: &ArgMatches<'_>) -> Option<Command>
+    ensures asked { result ≡ explain_by (rows_of (found_of given.now)) }
+    ensures within { IfSome result (λ command. IsWithin command) }
+{
+    let keeps = truth(given, "no-prune")?;
+    let (chunks, rows) = sizes(given)?;
+    Some(Command::Explain {
+        prune: !keeps,
         chunks,
         rows,
     })

@@ -1,9 +1,16 @@
-use Rattle.std.proofs.Common.{inl, inr, subst, Ok}
+use Rattle.std.proofs.Common.{inl, inr, subst, sym, Ok}
 use Rattle.std.proofs.Math.Logic.{⊎_elim}
 use Rattle.hy_script.specs.Reading.{Reads}
 use Rattle.hy_top.proofs.Answering.{done_answers, done_is_no_refusal, read_fits, leaves_spelled, leaves_nothing}
 use Rattle.hy_top.proofs.Logging.{same_syncs}
 use Rattle.hy_top.proofs.answer.Goals as goal
+
+pub perform-requires-clause-spells : goal.perform-requires-clause-spells
+perform-requires-clause-spells g c =
+    let bytes = c.args.bytes.now in
+    let script = c.in-Ok.script in
+    λ lifetimes outlive.
+    subst (λ options. Reads bytes options (Ok script)) (sym (c.what_is_read_fits.ensures.options bytes _ script c.in-Ok.ensures)) c.in-Ok.ensures
 
 pub returns-in-Ok-clause-answers : goal.returns-in-Ok-clause-answers
 returns-in-Ok-clause-answers g c =

@@ -25,9 +25,17 @@ struct Known {
     values: Vec<Value>,
 }
 
+/// The sum of a column over gathered rows.
+#[derive(Drop)]
+struct Summed {
+    column: PartColumn,
+    sum: i128,
+}
+
 /// Whether two columns are of the same number, in rows that are put together alike.
 fn is_same(one: PartColumn, other: PartColumn) -> bool
-    ensures { result ≡ true → (row : List Value) → value_in one row ≡ value_in other row }
+    ensures values { result ≡ true → (row : List Value) → value_in one row ≡ value_in other row }
+    ensures sums { result ≡ true → (rows : Table) → sum_by one rows ≡ sum_by other rows }
 {
     one.columns == other.columns && one.width == other.width && one.column == other.column
 }
@@ -43,12 +51,14 @@ pub struct Pieces {
     known: Option<Known>,
     /// The totals of all of them, kept for the visit that answers from them.
     kept: Option<GroupTally>,
+    /// The sum of one of its columns, kept for the visit that answers from it.
+    summed: Option<Summed>,
 }
 
 impl Model for Pieces {
     ghost use Rattle.std.specs.Prelude.{◌≡◌, length};
     ghost use Rattle.hy_meaning.specs.Statement.{Table};
-    ghost use Rattle.hy_gathered.specs.Pieces.{AreKnownOf, rows_in_pieces};
+    ghost use Rattle.hy_gathered.specs.Pieces.{AreKnownOf, IsSumOf, rows_in_pieces};
     ghost use Rattle.hy_gathered.specs.Shares.{AreKeptOf};
 
     ghost Value = { Table };
@@ -56,7 +66,7 @@ impl Model for Pieces {
     ghost view = { λ a. rows_in_pieces a.pieces.items };
 
     ghost invariant = { λ a. (a.len ≡ length (rows_in_pieces a.pieces.items)) × AreKnownOf (rows_in_pieces a.pieces.items) a.known
-        × AreKeptOf (rows_in_pieces a.pieces.items) a.kept };
+        × AreKeptOf (rows_in_pieces a.pieces.items) a.kept × IsSumOf (rows_in_pieces a.pieces.items) a.summed };
 }
 
 impl Pieces {
@@ -69,6 +79,7 @@ impl Pieces {
             pieces: Vec::new(alloc),
             known: None,
             kept: None,
+            summed: None,
         }
     }
 
@@ -94,6 +105,7 @@ impl Pieces {
         self.len = len;
         self.known = None;
         self.kept = None;
+        self.summed = None;
         Ok(())
     }
 
@@ -116,8 +128,8 @@ impl Pieces {
         self.known = Some(Known { column, values });
     }
 
-    /// The sum of a column over the rows. Err is for want of memory.
-    pub fn sum(&self, alloc: Global, column: PartColumn) -> Result<i128, AllocError>
+    /// The sum of a column over the rows of one piece after another. Err is for want of memory.
+    fn sum_each(&self, alloc: Global, column: PartColumn) -> Result<i128, AllocError>
         ensures value { IfOk result (λ sum. sum ≡ sum_by column self.now) }
         ensures small { IfOk result (λ sum. unsigned_abs sum ≤ 2 ^ 63 * length self.now) }
     {
@@ -127,6 +139,26 @@ impl Pieces {
             sum += column.sum(alloc, piece)?;
         }
         Ok(sum)
+    }
+
+    /// The sum of a column over the rows, at once where it is kept. Err is for want of memory.
+    pub fn sum(&self, alloc: Global, column: PartColumn) -> Result<i128, AllocError>
+        ensures value { IfOk result (λ sum. sum ≡ sum_by column self.now) }
+        ensures small { IfOk result (λ sum. unsigned_abs sum ≤ 2 ^ 63 * length self.now) }
+    {
+        match &self.summed {
+            Some(summed) if is_same(summed.column, column) => Ok(summed.sum),
+            _ => self.sum_each(alloc, column),
+        }
+    }
+
+    /// Keeps the sum of a column over the rows, in place of that of another one. Err is for want of memory.
+    pub fn keep_sum(&mut self, alloc: Global, column: PartColumn) -> Result<(), AllocError>
+        ensures { self.new ≡ self.old }
+    {
+        let sum = self.sum(alloc, column)?;
+        self.summed = Some(Summed { column, sum });
+        Ok(())
     }
 
     /// Adds the rows of one piece after another to a tally of others. Err is for want of memory.

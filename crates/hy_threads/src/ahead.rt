@@ -38,8 +38,8 @@ fn make_shares<T: Threads + Sync, P: Worked + Send + Sync, G: PieceGate>(
     )
 }
 
-/// Makes the shares of its next visit's work that a session offers, and lets it take them. Where there is no memory for
-/// that, the visit does all its work alone.
+/// Lets a session do what it can of its next visit's work, makes the shares that it offers of the rest, and lets it take
+/// them. Where there is no memory for that, the visit does all its work alone.
 pub(crate) fn prepare<T: Threads + Sync, P: Worked + Send + Sync, G: PieceGate>(
     rt: &T,
     alloc: Global,
@@ -48,6 +48,7 @@ pub(crate) fn prepare<T: Threads + Sync, P: Worked + Send + Sync, G: PieceGate>(
 )
     ensures { session.new ≡ session.old }
 {
+    P::make_ready(alloc, session);
     let count = P::shares(session);
     if count == 0 {
         return;

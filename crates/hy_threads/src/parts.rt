@@ -10,10 +10,11 @@ ghost use Rattle.hy_threads.specs.Rule.{AreHome};
 use crate::known::Known;
 use crate::parted::Parted;
 use crate::rule::{Giving, Joining, PartsRule, Splitting, Taking, Telling};
-use crate::waiting::Waiting;
+use crate::waiting::{LOOKS, Waiting};
 use atomic_table::{Seat as TableSeat, Table};
 use crossbeam_utils::CachePadded;
 use std::alloc::{AllocError, Global};
+use std::hint;
 use std::marker::{Brand, Model};
 use std::snapshot::Snapshot;
 use std::sync::Wait;
@@ -274,18 +275,41 @@ impl<P: Parted> Parts<P> {
             if let Some(part) = self.try_take(seat, k) {
                 return part;
             }
-            let waiting = &self.waiting[k];
-            waiting.begin_sleep();
-            let found = self.table.shared.peek(LINE * k);
-            if found != 0 {
-                // A thread sleeps on the lower half of the word, which has all of it.
-                self.table
-                    .shared
-                    .park(rt, LINE * k, (found % 0x1_0000_0000) as u32);
-            }
-            waiting.end_sleep();
+            self.rest(rt, k);
         }
         unreachable!()
+    }
+
+    /// Looks for a while whether the part k is at home.
+    fn look(&self, k: usize) -> bool
+        requires { k < self.now.slots }
+    {
+        for _ in 0..LOOKS {
+            if self.table.shared.peek(LINE * k) == 0 {
+                return true;
+            }
+            hint::spin_loop();
+        }
+        false
+    }
+
+    /// Looks for a while whether the part k is at home, and sleeps where it is still out. It may return earlier.
+    fn rest<T: Wait>(&self, rt: &T, k: usize)
+        requires { k < self.now.slots }
+    {
+        if self.look(k) {
+            return;
+        }
+        let waiting = &self.waiting[k];
+        waiting.begin_sleep();
+        let found = self.table.shared.peek(LINE * k);
+        if found != 0 {
+            // A thread sleeps on the lower half of the word, which has all of it.
+            self.table
+                .shared
+                .park(rt, LINE * k, (found % 0x1_0000_0000) as u32);
+        }
+        waiting.end_sleep();
     }
 
     /// Notes that the caller is blocked at the part k, and gives the part's turn. Who visits the part after this, and finds that

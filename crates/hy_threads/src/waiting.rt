@@ -1,10 +1,17 @@
-//! When threads that wait at a part are woken.
+//! How threads wait at a part, and when they are woken.
+//!
+//! Most visits are shorter than a call of the system. So a thread that waits looks for a while before it sleeps, and who gives
+//! a part calls the system only where a thread may sleep.
 //!
 //! Nothing here is part of the rule: a thread that wakes for no reason looks again, and one that is never woken only
 //! waits. So these are plain atomics, of which no clause knows what they contain.
 
+use std::hint;
 use std::sync::Wait;
 use std::sync::atomic::{AtomicU64, Ordering};
+
+/// How often a thread looks before it sleeps.
+pub(crate) const LOOKS: u32 = 16000;
 
 /// Who waits at a part: for its word, or for a change of it.
 #[derive(Drop)]
@@ -13,6 +20,8 @@ pub(crate) struct Waiting {
     sleepers: AtomicU64,
     // How many threads look at the turn, or may sleep on it.
     blocked: AtomicU64,
+    // How many threads may sleep on the turn.
+    dozers: AtomicU64,
     // How often the part was changed while somebody was blocked. Who sleeps on it compares its lower half.
     turn: AtomicU64,
 }
@@ -23,6 +32,7 @@ impl Waiting {
         Waiting {
             sleepers: AtomicU64::new(0),
             blocked: AtomicU64::new(0),
+            dozers: AtomicU64::new(0),
             turn: AtomicU64::new(0),
         }
     }
@@ -57,16 +67,35 @@ impl Waiting {
         (self.turn.load(Ordering::SeqCst) % 0x1_0000_0000) as u32
     }
 
-    /// Sleeps until the turn is another one. It may return earlier.
+    /// Waits until the turn is another one. It may return earlier.
     pub(crate) fn wait<T: Wait>(&self, rt: &T, turn: u32) {
+        if self.look(turn) {
+            return;
+        }
+        // Whoever changes the turn reads the count after that, and a thread sleeps only while the turn is as it was.
+        self.dozers.fetch_add(1, Ordering::SeqCst);
         self.turn.park(rt, turn);
+        self.dozers.fetch_sub(1, Ordering::SeqCst);
+    }
+
+    /// Looks for a while whether the turn is another one.
+    fn look(&self, turn: u32) -> bool {
+        for _ in 0..LOOKS {
+            if self.turn() != turn {
+                return true;
+            }
+            hint::spin_loop();
+        }
+        false
     }
 
     /// The next turn, where somebody is blocked; whoever sleeps on it is woken.
     pub(crate) fn announce(&self) {
         if self.blocked.load(Ordering::SeqCst) != 0 {
             self.turn.fetch_add(1, Ordering::SeqCst);
-            self.turn.wake_all();
+            if self.dozers.load(Ordering::SeqCst) != 0 {
+                self.turn.wake_all();
+            }
         }
     }
 }

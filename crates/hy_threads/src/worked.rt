@@ -23,8 +23,8 @@ pub enum Visited {
 /// Sessions that say what they need next, and visit it. The fact that the locks keep is that of `Parted`; a visit is
 /// one of its events, or changes nothing.
 ///
-/// Ahead of a visit, while it has no part, a session may offer shares of the visit's work. They are made on threads, and the
-/// session takes them. Contracts do not see that it has them: a visit comes to the same without them.
+/// Ahead of a visit, while it has no part, a session may do some of the visit's work, and offer shares of it. They are made on
+/// threads, and the session takes them. Contracts do not see that it has them: a visit comes to the same without them.
 pub trait Worked: Parted {
     /// What is made of a share of a session's work.
     type Share: Drop + Send;
@@ -40,6 +40,10 @@ pub trait Worked: Parted {
 
     /// This was made of the share of this number of the session's work.
     ghost is_share: { Self.Session → ℕ → Self.Share → Type 0 };
+
+    /// Does of its next visit's work what needs no part. Where there is no memory for that, the visit does it.
+    fn make_ready(alloc: Global, session: &mut Self::Session)
+        ensures { session.new ≡ session.old };
 
     /// How many shares of its next visit's work the session offers. None where threads would take longer to begin.
     fn shares(session: &Self::Session) -> usize;

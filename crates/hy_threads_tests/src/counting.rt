@@ -71,6 +71,8 @@ impl Worked for Counting {
 
     ghost is_share = { IsNumbered };
 
+    fn make_ready(_alloc: Global, _session: &mut Adder) {}
+
     fn shares(session: &Adder) -> usize {
         match session.turns {
             Some(_) => session.offers,

@@ -11,7 +11,7 @@ mod reading;
 mod writing;
 
 pub use gathering::{
-    Found, Fresh, add_piece, found_with, gather_part, keep_keys, keep_shares, part_rows,
+    Found, Fresh, add_piece, found_with, gather_part, keep_keys, keep_shares, keep_sum, part_rows,
 };
 pub use parts::PartRows;
 pub use pruning::{stamp_visit, undo_visit};

@@ -92,6 +92,10 @@ impl<K: Case> Worked for Shown<K> {
 
     ghost is_share = { IsShareAhead };
 
+    fn make_ready(alloc: Global, session: &mut Session) {
+        session.make_ready(alloc);
+    }
+
     fn shares(session: &Session) -> usize {
         session.shares()
     }

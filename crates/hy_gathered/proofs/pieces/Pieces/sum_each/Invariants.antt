@@ -2,7 +2,7 @@ use Rattle.std.proofs.Common.{◌≡◌, ◌+ℤ◌, ◌+◌, ◌≤◌, ◌*◌
 use Rattle.std.specs.Int.RustNames.{unsigned_abs}
 use Rattle.hy_gathered.specs.Pieces.{rows_in_pieces}
 use Rattle.hy_gathered.specs.Sums.{sum_by}
-use Rattle.hy_gathered.proofs.pieces.Pieces.sum.Given as goal
+use Rattle.hy_gathered.proofs.pieces.Pieces.sum_each.Given as goal
 
 -- the sum so far and that of the rest are the whole, and each row so far added at most 2^63
 abbrev pub invariant-loop-piece : goal.invariant-loop-piece

@@ -4,7 +4,7 @@ use mir.Syntax.{w128}
 use mir.Val.{SFits}
 use Rattle.std.proofs.lemmas.Int.{ints}
 use Rattle.hy_gathered.proofs.Summed.{piece_more, pieces_fewer}
-use Rattle.hy_gathered.proofs.pieces.Pieces.sum.Goals as goal
+use Rattle.hy_gathered.proofs.pieces.Pieces.sum_each.Goals as goal
 
 pub loop-piece-preserved : goal.loop-piece-preserved
 loop-piece-preserved c =

@@ -1,1 +1,17 @@
 mod Pieces
+mod Tokens
+mod Writing
+mod Lists
+mod ColumnsRead
+mod ValuesRead
+mod LinesRead
+mod Names
+mod TablesTaken
+mod RowsTaken
+mod Told
+mod TablesTold
+mod Utf8
+mod ReadBack
+mod TokensRead
+mod TablesRead
+mod RowsRead

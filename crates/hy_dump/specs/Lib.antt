@@ -1,1 +1,3 @@
 pub mod Dump
+pub mod Writable
+pub mod ReadBack

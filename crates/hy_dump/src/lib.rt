@@ -6,9 +6,12 @@ ghost use Rattle.std.specs.List.{flat_map};
 ghost use Rattle.hy_dump.specs.Dump.{column_text, columns_text, comma_before, create_line, dump, enclosed};
 ghost use Rattle.hy_dump.specs.Dump.{insert_line, is_key, key_mark, kind_word, rows_at, values_text};
 
+mod laws;
+
 use hy_bound::StoredRows;
 use hy_schema::{Catalog, Column, TableDef};
 use hy_value::{Kind, StoredRow, print};
+pub use laws::{what_is_read_can_be_written, what_is_written_is_read_back};
 use std::alloc::AllocError;
 
 /// Appends bytes.
@@ -149,7 +152,8 @@ fn rows_of(tables: &[StoredRows], number: usize) -> &[StoredRow]
 
 /// Appends the lines of a script that make these tables with these rows, which are by table.
 ///
-/// Err is for want of memory; some of the lines may be there then.
+/// With END behind them they are read back as just these tables and rows, where these can be written, as all are that were read:
+/// `what_is_written_is_read_back` and `what_is_read_can_be_written`. Err is for want of memory; some of the lines may be there then.
 pub fn dump(catalog: &Catalog, tables: &[StoredRows], out: &mut Vec<u8>) -> Result<(), AllocError>
     ensures { OnOk result (out.new.items ≡ out.old.items ++ dump catalog.now tables.now) }
 {

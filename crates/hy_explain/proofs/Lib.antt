@@ -4,3 +4,4 @@ mod Put
 mod Hits
 mod Logged
 mod Telling
+mod Laid

@@ -1,19 +1,20 @@
 -- What the lines tell of a refusal is so.
-use Rattle.std.proofs.Common.{◌≡◌, ℕ, zero, suc, ◌+◌, ◌≤◌, List, [], ◌∷◌, Option, None, Some, Bool, true, false, length, drop, map, refl, ap, sym, ◌∙◌, subst, arith}
-use Rattle.std.specs.Prelude.{◌&&◌, ◌||◌, ◌==◌, nat_lt, IsTrue, IsFalse, IfSome, find, flat_map, take, slice_get, slice_index_or}
-use Rattle.std.specs.List.{AllByRecursion}
+use Rattle.std.proofs.Common.{◌≡◌, ℕ, zero, suc, ◌+◌, ◌*◌, ◌≤◌, List, [], ◌∷◌, Option, None, Some, true, false, length, drop, map, refl, ap, sym, ◌∙◌, subst, arith}
+use Rattle.std.specs.Prelude.{◌||◌, ◌==◌, IsTrue, IsFalse, IfSome, find, take, slice_get, slice_index_or}
+use Rattle.std.specs.List.{AllByRecursion, range_with_len}
 use Rattle.std.specs.Option.{IsSomeAnd, option_map}
 use Rattle.std.proofs.lemmas.Bool.{eq-eqb, ltb-false}
-use Rattle.std.proofs.lemmas.Option.{same_Some}
+use Rattle.std.proofs.lemmas.Option.{same_Some, slice_get_within}
 use Rattle.hy_value.specs.declared.change.Change.{Change}
 use Rattle.hy_value.specs.declared.Value.{Value}
+use Rattle.hy_value.specs.Sorted.{sorted}
 use Rattle.hy_bind.specs.Shapes.{catalog_shapes}
 use Rattle.hy_bound.specs.declared.Bound.{Bound}
 use Rattle.hy_bound.specs.declared.Txn.{Txn}
 use Rattle.hy_bound.specs.declared.Ending.{Ending}
 use Rattle.hy_bound.specs.declared.Ending.TheVariants.{Committed, Read, RolledBack, Conflict, Invalid, Range, Full}
 use Rattle.hy_bound.specs.declared.Record.{Record}
-use Rattle.hy_bound.specs.declared.Shape.{Shape}
+use Rattle.hy_bound.specs.Changes.{present}
 use Rattle.hy_bound.specs.Predicate.{truth_at, changes_on}
 use Rattle.hy_bound.specs.Records.{is_hit}
 use Rattle.hy_script.specs.declared.NamedTxns.{NamedTxns}
@@ -22,11 +23,11 @@ use Rattle.hy_stamp.specs.declared.Label.{Label}
 use Rattle.hy_render.specs.declared.TxnOutcome.{TxnOutcome}
 use Rattle.hy_render.specs.declared.Committed.{Committed as Entry}
 use Rattle.hy_render.specs.declared.Outcome.{Outcome}
+use Rattle.hy_meaning.specs.Serial.{alone_of}
 use Rattle.hy_machine.specs.declared.Setting.{Setting}
-use Rattle.hy_machine.specs.Tables.{Cell}
-use Rattle.hy_machine.specs.Validation.{record_hit, first_hit}
-use Rattle.hy_lawful.specs.Cells.{after_changes, cell_at}
-use Rattle.hy_lawful.specs.Databases.{database_at, logged_by}
+use Rattle.hy_machine.specs.Validation.{record_hit}
+use Rattle.hy_lawful.specs.Cells.{bags_at, cell_at}
+use Rattle.hy_lawful.specs.Databases.{alone_at, database_at, logged_by}
 use Rattle.hy_lawful.specs.Lawful.{Lawful}
 use Rattle.hy_lawful.specs.Outcomes.{outcome_at, committed_at}
 use Rattle.hy_lawful.specs.Outcomes as outcomes
@@ -37,6 +38,7 @@ use Rattle.hy_lawful.specs.Refusing.{IsInConflictAt, IsInvalidAt, IsRefusedBy}
 use Rattle.hy_lawful.specs.Scripts.{numbered, statements_in, statements_of}
 use Rattle.hy_lawful.specs.Serial.{IsSerial}
 use Rattle.hy_lawful.specs.Written.{would_write}
+use Rattle.hy_explain.specs.Behind.{alone_behind, cells_after, tables_behind}
 use Rattle.hy_explain.specs.Found.{item_numbered, txns_in, statements_at, statement_at, refused_statement, rank_of, changes_in, changes_at, is_at, change_of, cell_before}
 use Rattle.hy_explain.specs.Reads.{is_hit_by, reads_of}
 use Rattle.hy_explain.specs.Truth.{IsSettingOf, Tells, TellsConflict, TellsInvalid, ExplanationsAreTrue}
@@ -76,12 +78,25 @@ one_of P [] h i x e = absurd cc
 one_of P (y ∷ xs) h zero x e = subst P (same_Some y x e) h.0
 one_of P (y ∷ xs) h (suc i) x e = one_of P xs h.1 i x e
 
+-- the tables behind the first entries are those that the printed changes leave
+tables_same : (script : Script) (setting : Setting) → IsSettingOf script setting → (order : List Entry) (rank : ℕ)
+    → bags_at setting order rank ≡ tables_behind script order rank
+tables_same script setting of order rank = λ j.
+    map (λ (table : ℕ). sorted (present (cells_after (slice_index_or (of.first j) table []) table (take rank order) (of.chunks j * of.rows j))))
+    (range_with_len 0 (length (of.first j)))
+
+-- and where these are those of the serial run, a transaction gives alone on them what it gives alone there
+alone_same : (script : Script) (setting : Setting) → IsSettingOf script setting → (order : List Entry) (label : Label) (rank : ℕ)
+    → bags_at setting order rank ≡ database_at setting order rank → alone_behind script order label rank ≡ alone_at setting order label rank
+alone_same script setting of order label rank history = λ j.
+    alone_of (sym of.shapes j) (sym (statements_same script setting of label) j) ((sym (tables_same script setting of order rank) ∙ history) j)
+
 -- ---- validation
 
 invalid_told : (script : Script) (setting : Setting) (outcome : Outcome) (txn : TxnOutcome) (table pos : ℕ) (other : Label) (number : ℕ)
-    → IsSettingOf script setting → Lawful setting outcome → IsInvalidAt setting outcome txn table pos other number
+    → IsSettingOf script setting → Lawful setting outcome → IsSerial setting outcome → IsInvalidAt setting outcome txn table pos other number
     → TellsInvalid script setting outcome txn table pos other number
-invalid_told script setting outcome txn table pos other number of lawful h =
+invalid_told script setting outcome txn table pos other number of lawful serial h =
     let records : List Record = logged_by setting outcome.order txn in
     let entry = entry_found records (drop txn.start outcome.order) (Invalid table pos other number) h.hit in
     let change = change_found records entry.entry.label entry.entry.changes (Invalid table pos other number) entry.hits in
@@ -130,6 +145,7 @@ invalid_told script setting outcome txn table pos other number of lawful h =
       is_true = and_left (truth_at shown.pred made.before || truth_at shown.pred made.after) (changes_on shown.columns made.before made.after) is_so;
       differs = and_right (truth_at shown.pred made.before || truth_at shown.pred made.after) (changes_on shown.columns made.before made.after) is_so;
       first = h.hit;
+      behind = alone_same script setting of outcome.order txn.label (suc rank) (serial.history (suc rank) (slice_get_within outcome.order rank entry.entry stands));
     }
 
 -- ---- conflicts
@@ -157,23 +173,24 @@ conflict_told script setting outcome txn table pos other of h = by_case (outcome
 
 -- ---- all of them
 
-told : (script : Script) (setting : Setting) (outcome : Outcome) → IsSettingOf script setting → Lawful setting outcome → (txn : TxnOutcome) (ending : Ending)
+told : (script : Script) (setting : Setting) (outcome : Outcome) → IsSettingOf script setting → Lawful setting outcome → IsSerial setting outcome
+    → (txn : TxnOutcome) (ending : Ending)
     → IsRefusedBy setting outcome txn ending → NamesFull setting outcome txn ending → Tells script setting outcome txn ending
-told script setting outcome of lawful txn (Committed rank) h full = tt
-told script setting outcome of lawful txn Read h full = tt
-told script setting outcome of lawful txn RolledBack h full = tt
-told script setting outcome of lawful txn (Conflict table pos other) h full = conflict_told script setting outcome txn table pos other of h
-told script setting outcome of lawful txn (Invalid table pos other number) h full = invalid_told script setting outcome txn table pos other number of lawful h
-told script setting outcome of lawful txn (Range table pos) h full = h
-told script setting outcome of lawful txn (Full table) h full = (h, full)
+told script setting outcome of lawful serial txn (Committed rank) h full = tt
+told script setting outcome of lawful serial txn Read h full = tt
+told script setting outcome of lawful serial txn RolledBack h full = tt
+told script setting outcome of lawful serial txn (Conflict table pos other) h full = conflict_told script setting outcome txn table pos other of h
+told script setting outcome of lawful serial txn (Invalid table pos other number) h full = invalid_told script setting outcome txn table pos other number of lawful serial h
+told script setting outcome of lawful serial txn (Range table pos) h full = h
+told script setting outcome of lawful serial txn (Full table) h full = (h, full)
 
-each_told : (script : Script) (setting : Setting) (outcome : Outcome) → IsSettingOf script setting → Lawful setting outcome → (txns : List TxnOutcome)
+each_told : (script : Script) (setting : Setting) (outcome : Outcome) → IsSettingOf script setting → Lawful setting outcome → IsSerial setting outcome → (txns : List TxnOutcome)
     → AllByRecursion (λ (txn : TxnOutcome). IsRefusedBy setting outcome txn txn.ending) txns
     → AllByRecursion (λ (txn : TxnOutcome). NamesFull setting outcome txn txn.ending) txns
     → AllByRecursion (λ (txn : TxnOutcome). Tells script setting outcome txn txn.ending) txns
-each_told script setting outcome of lawful [] h full = tt
-each_told script setting outcome of lawful (txn ∷ txns) h full =
-    (told script setting outcome of lawful txn txn.ending h.0 full.0, each_told script setting outcome of lawful txns h.1 full.1)
+each_told script setting outcome of lawful serial [] h full = tt
+each_told script setting outcome of lawful serial (txn ∷ txns) h full =
+    (told script setting outcome of lawful serial txn txn.ending h.0 full.0, each_told script setting outcome of lawful serial txns h.1 full.1)
 
 pub explanations_true : ExplanationsAreTrue
-explanations_true script setting outcome of lawful serial = each_told script setting outcome of lawful outcome.txns serial.refusals lawful.full
+explanations_true script setting outcome of lawful serial = each_told script setting outcome of lawful serial outcome.txns serial.refusals lawful.full

@@ -1,5 +1,5 @@
 -- The text of `hy explain`: of each transaction that was refused, what the refusal stands for.
-use Rattle.std.specs.Prelude.{ℕ, zero, suc, ◌+◌, ◌*◌, List, [], ◌∷◌, ◌++◌, Bool, true, false, ◌&&◌, ◌==◌, nat_lt, Option, None, Some, slice_index_or, slice_get, codes, flat_map, length, if◌then◌else◌}
+use Rattle.std.specs.Prelude.{ℕ, zero, suc, ◌+◌, List, [], ◌++◌, Bool, true, false, ◌==◌, Option, None, Some, slice_index_or, codes, flat_map, length, if◌then◌else◌}
 use Rattle.std.specs.List.{list_any}
 use Rattle.std.specs.Fmt.{decimal}
 use Rattle.hy_value.specs.declared.Value.{Value}
@@ -28,6 +28,7 @@ use Rattle.hy_lawful.specs.Overlaps.{may_take_room}
 use Rattle.hy_explain.specs.Words.{table_name, columns_at, names_where, txn_name}
 use Rattle.hy_explain.specs.Conditions.{where_text}
 use Rattle.hy_explain.specs.Reads.{reads_of, hit_of}
+use Rattle.hy_explain.specs.Behind.{behind_line}
 use Rattle.hy_explain.specs.Found.{statement_at, refused_statement, rank_of, change_of, cell_before, differs_in, goes_out_in, is_out}
 
 -- ---- what refusals have in common
@@ -138,6 +139,7 @@ abbrev pub invalid_text : Script → Outcome → Label → ℕ → ℕ → Label
 invalid_text script outcome label table pos other number =
     changed_text script label number other (rank_of outcome other)
     (reads_of (catalog_shapes script.catalog) number (statement_at script label number)) (change_of outcome other table pos)
+    ++ behind_line script outcome.order label number other (rank_of outcome other)
 
 -- ---- conflicts
 

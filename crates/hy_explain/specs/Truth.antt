@@ -1,5 +1,5 @@
 -- What the lines of `explain` tell is so, in outcomes that are lawful and serializable.
-use Rattle.std.specs.Prelude.{◌≡◌, ℕ, ◌≤◌, ◌||◌, IsTrue, IsFalse, IfSome, Some, drop, map}
+use Rattle.std.specs.Prelude.{◌≡◌, ℕ, suc, ◌≤◌, ◌||◌, IsTrue, IsFalse, IfSome, Some, drop, map}
 use Rattle.std.specs.List.{AllByRecursion}
 use Rattle.hy_value.specs.declared.change.Change.{Change}
 use Rattle.hy_bind.specs.Shapes.{catalog_shapes}
@@ -13,7 +13,7 @@ use Rattle.hy_render.specs.declared.TxnOutcome.{TxnOutcome}
 use Rattle.hy_render.specs.declared.Outcome.{Outcome}
 use Rattle.hy_machine.specs.declared.Setting.{Setting}
 use Rattle.hy_machine.specs.Validation.{first_hit}
-use Rattle.hy_lawful.specs.Databases.{logged_by}
+use Rattle.hy_lawful.specs.Databases.{alone_at, logged_by}
 use Rattle.hy_lawful.specs.Lawful.{Lawful}
 use Rattle.hy_lawful.specs.Outcomes.{outcome_at, committed_at}
 use Rattle.hy_lawful.specs.Overlaps.{IsFull}
@@ -21,6 +21,7 @@ use Rattle.hy_lawful.specs.Passing.{has_place}
 use Rattle.hy_lawful.specs.Refusing.{IsOutOfRangeAt, IsNewRow}
 use Rattle.hy_lawful.specs.Serial.{IsSerial}
 use Rattle.hy_lawful.specs.Written.{would_write}
+use Rattle.hy_explain.specs.Behind.{alone_behind}
 use Rattle.hy_explain.specs.Found.{statement_at, refused_statement, rank_of, change_of, cell_before}
 use Rattle.hy_explain.specs.Reads.{reads_of, hit_of}
 
@@ -29,10 +30,13 @@ pub record IsSettingOf (script : Script) (setting : Setting) : Type 0 where
   pub shapes : setting.shapes ≡ catalog_shapes script.catalog
   pub first : setting.first ≡ script.rows
   pub programs : setting.programs ≡ map (λ session. session.txns) script.sessions
+  pub chunks : setting.chunks ≡ script.options.chunks
+  pub rows : setting.rows ≡ script.options.rows
 
 -- validation: the one that is named has committed since the start, and its change and the read that this hits are found; that
--- read's condition is true of the row before or after, and the row comes, goes or differs in one of its columns; and of all
--- that the transaction logs it is the first hit by the entries from its start on
+-- read's condition is true of the row before or after, and the row comes, goes or differs in one of its columns; of all
+-- that the transaction logs it is the first hit by the entries from its start on; and what is told of it alone behind that
+-- one is what it is told alone where those up to that one ran alone, one after another
 pub record TellsInvalid (script : Script) (setting : Setting) (outcome : Outcome) (txn : TxnOutcome) (table pos : ℕ) (other : Label) (number : ℕ) : Type 0 where
   pub rank : ℕ
   pub committed : rank_of outcome other ≡ Some rank
@@ -44,6 +48,7 @@ pub record TellsInvalid (script : Script) (setting : Setting) (outcome : Outcome
   pub is_true : IsTrue (truth_at read.pred change.before || truth_at read.pred change.after)
   pub differs : IsTrue (changes_on read.columns change.before change.after)
   pub first : first_hit (logged_by setting outcome.order txn) (drop txn.start outcome.order) ≡ Some (Invalid table pos other number)
+  pub behind : alone_behind script outcome.order txn.label (suc rank) ≡ alone_at setting outcome.order txn.label (suc rank)
 
 -- conflict: the refused statement selects what stood there at the start, and the transaction has not written there; the one
 -- that is named has, and where it has committed, it did so since the start

@@ -13,7 +13,7 @@ use hy_stamp::Label;
 use hy_value::{Change, StoredRow};
 
 /// The statements of a transaction of a script.
-fn statements_at(script: &Script, label: Label) -> &[Bound]
+pub fn statements_at(script: &Script, label: Label) -> &[Bound]
     ensures { result.now ≡ statements_at script.now label }
 {
     let Some(session) = script.sessions.as_slice().get(label.session as usize) else {
@@ -160,7 +160,7 @@ pub fn cell_before<'a>(
 }
 
 /// The first entries, so many or all.
-fn front(order: &[Committed], count: usize) -> &[Committed]
+pub fn front(order: &[Committed], count: usize) -> &[Committed]
     ensures { result.now ≡ take count order.now }
 {
     if count >= order.len() {

@@ -8,6 +8,7 @@ ghost use Rattle.hy_explain.specs.Choosing.{is_chosen};
 ghost use Rattle.hy_explain.specs.Explained.{looked_text, read_text, invalid_line, since_text, change_line, true_words, truth_words, there_words};
 ghost use Rattle.hy_explain.specs.Explained.{differ_text, differing_text, hit_line, first_line, hit_lines, changed_text, invalid_text};
 
+use crate::behind_words::put_behind;
 use crate::choosing::Choice;
 use crate::conditions::put_where;
 use crate::found::{change_of, rank_of, statement_at};
@@ -301,5 +302,6 @@ pub fn put_invalid(
         rank,
         number,
     };
-    put_changed(told.script, named, reads.as_slice(), change, out)
+    put_changed(told.script, named, reads.as_slice(), change, out)?;
+    put_behind(told, label, number, other, rank, out)
 }

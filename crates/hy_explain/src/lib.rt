@@ -5,6 +5,8 @@ ghost use Rattle.std.specs.Prelude.{◌≡◌, ◌++◌, List, OnOk, IfOk};
 ghost use Rattle.std.specs.List.{flat_map};
 ghost use Rattle.hy_explain.specs.Explained.{named, row_text, refused_text, rank_text, refusal_text, txn_explained, explained_text};
 
+mod behind;
+mod behind_words;
 mod choosing;
 mod conditions;
 mod conflict;

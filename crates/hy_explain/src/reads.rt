@@ -28,7 +28,7 @@ fn shape_of(def: &TableDef) -> Result<Shape, AllocError>
 }
 
 /// The shapes of tables.
-fn shapes_of(alloc: Global, tables: &[TableDef]) -> Result<Shapes, AllocError>
+pub fn shapes_of(alloc: Global, tables: &[TableDef]) -> Result<Shapes, AllocError>
     ensures { IfOk result (λ shapes. shapes ≡ catalog_shapes tables.now) }
 {
     let mut shapes = Seq::new(alloc);

@@ -31,7 +31,7 @@ FILE is the script. Where none is named, or it is -, the script is standard inpu
 
     --threads           each session on a thread of its own; the schedule isn't used
     --no-prune          old versions are kept
-    --log               the commits are kept in a log; not with --threads
+    --log               the commits are kept in a log; with --threads all at once, behind the run
     --script            the tables as the beginning of a script that goes on from them
     --chunks N          each table has N chunks, 1 to 64; 4 where nothing is said
     --rows N            each chunk has N rows, 1 to 1024; 1024 where nothing is said

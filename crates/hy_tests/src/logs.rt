@@ -123,13 +123,19 @@ fn what_is_dumped_is_read_back(rt: HostRuntime) -> Result<(), Fail> {
     Ok(())
 }
 
-#[test]
-fn a_fault_at_each_call_of_the_disk(rt: HostRuntime) -> Result<(), Fail> {
-    // The log is made by three calls, and the one entry is appended by four.
+/// The status of the call where a call of the disk fails, one after another, each before the text is written: it is 6, and what
+/// a crash leaves recovers to the tables before the commit, or where the last call failed to those after it. The log is made by
+/// three calls, and the one entry is appended by four.
+fn is_told_of_each_fault<T: Threads + Wait + Sync + AllocGlobal>(
+    rt: &T,
+    words: &[&str],
+) -> Result<bool, AllocError> {
     for call in 1..=7u64 {
         let mut disk = disk_of(rt.alloc(), &[], &[call])?;
-        let (status, text) = came_to(&rt, &["hy", "run", "--log"], &mut disk)?;
-        assert_eq!(rt; (status, text.as_slice()), (6, b"".as_slice()));
+        let (status, text) = came_to(rt, words, &mut disk)?;
+        if status != 6 || !text.is_empty() {
+            return Ok(false);
+        }
         if call > 3 {
             let images = disk.images(rt.alloc(), MADE)?;
             let texts: &[&[u8]] = if call < 7 {
@@ -137,12 +143,58 @@ fn a_fault_at_each_call_of_the_disk(rt: HostRuntime) -> Result<(), Fail> {
             } else {
                 &[BEFORE, AFTER]
             };
-            assert!(rt; !images.is_empty());
-            assert!(rt;
-                each_recovers(&rt, images.as_slice(), texts)?,
-                "call {call}"
-            );
+            if images.is_empty() || !each_recovers(rt, images.as_slice(), texts)? {
+                return Ok(false);
+            }
         }
     }
+    Ok(true)
+}
+
+#[test]
+fn a_fault_at_each_call_of_the_disk(rt: HostRuntime) -> Result<(), Fail> {
+    assert!(rt; is_told_of_each_fault(&rt, &["hy", "run", "--log"])?);
+    assert!(rt; is_told_of_each_fault(&rt, &["hy", "run", "--log", "--threads"])?);
+    Ok(())
+}
+
+#[test]
+fn one_session_on_a_thread_leaves_the_same_log(rt: HostRuntime) -> Result<(), Fail> {
+    let alloc = rt.alloc();
+    let mut alone = disk_of(alloc, &[], &[])?;
+    let (status, told) = came_of(&rt, &["hy", "run", "--log"], KEPT, &mut alone)?;
+    assert_eq!(rt; status, 0);
+    let mut disk = disk_of(alloc, &[], &[])?;
+    let words = ["hy", "run", "--log", "--threads"];
+    let (status, text) = came_of(&rt, &words, KEPT, &mut disk)?;
+    assert_eq!(rt; (status, text.as_slice()), (0, told.as_slice()));
+    assert!(rt; disk.bytes() == alone.bytes());
+    let (status, text) = came_of(&rt, &words, KEPT, &mut disk)?;
+    assert_eq!(rt;
+        (status, text.as_slice()),
+        (7, b"log: not empty\n".as_slice())
+    );
+    Ok(())
+}
+
+#[test]
+fn sessions_on_threads_leave_a_log_of_their_order(rt: HostRuntime) -> Result<(), Fail> {
+    let alloc = rt.alloc();
+    let mut script = String::from_str(alloc, "CREATE TABLE t (n INT); INSERT INTO t VALUES (0); ")?;
+    for number in 1..=16u32 {
+        let session = format!(in alloc;
+            "SESSION s{number}; BEGIN; UPDATE t SET n = {number}; COMMIT; "
+        )?;
+        script.push_str(session.as_str())?;
+    }
+    script.push_str("END;")?;
+    let script = script.as_bytes();
+    let mut disk = disk_of(alloc, &[], &[])?;
+    let words = ["hy", "run", "--threads", "--log"];
+    let (status, text) = came_of(&rt, &words, script, &mut disk)?;
+    assert_eq!(rt; status, 0);
+    let (status, tables) = came_of(&rt, &["hy", "recover"], script, &mut disk)?;
+    assert_eq!(rt; status, 0);
+    assert!(rt; text.as_slice().ends_with(tables.as_slice()));
     Ok(())
 }

@@ -25,7 +25,7 @@ use Rattle.hy_words.specs.Words.{IsWithin}
 use Rattle.hy_words.specs.declared.Command.TheVariants.{Run, Check, Recover, Trace, Explain, Serve, Gen}
 use Rattle.hy_value.specs.declared.Value.{Value}
 use Rattle.hy_top.specs.Lines.{refusal_line_of}
-use Rattle.hy_top.specs.Program.{MayCome, IsRead, bytes_read, bytes_left, keeps_log, options_by, made_by, reads_script}
+use Rattle.hy_top.specs.Program.{MayCome, IsRead, bytes_read, bytes_left, comes_to, keeps_log, options_by, made_by, reads_script, runs_threads, scheduled}
 use Rattle.hy_world.specs.SomeRuns.{IsSomeRun}
 use Rattle.hy_gen.specs.Made.{made}
 use Rattle.hy_bank.specs.Fitting.{MadeFits}
@@ -37,10 +37,10 @@ use Rattle.std.specs.List.{AllByRecursion}
 use Rattle.std.specs.Prelude.{pos, IfOk}
 use Rattle.hy_stepping.specs.Runnable.{IsRunnable}
 use Rattle.hy_top.specs.Settings.{CanRun, setting_at}
-use Rattle.hy_top.specs.Reports.{IsRefused, Spells, IsRun, Writes, Answers, IsAnswered, Leaves, LeavesLog, IsLogged, HasRun, restored_status, Summarizes, GaveUp, Does, Makes}
+use Rattle.hy_top.specs.Reports.{IsRefused, Spells, IsRun, Writes, Answers, IsAnswered, Leaves, LeavesLog, LeavesLogOf, IsLogged, HasRun, restored_status, Summarizes, GaveUp, Does, Makes}
 use Rattle.hy_limits.specs.declared.TheConstants.{MOST_BYTES}
 
-none_is : (o : Option Outcome) → IsNone o → o ≡ None
+pub none_is : (o : Option Outcome) → IsNone o → o ≡ None
 none_is None h = refl
 none_is (Some x) h = cc
 
@@ -100,21 +100,42 @@ leaves_stay held clock image image_since script status given before after nothin
   logged = no_outcome (λ outcome. IsLogged held clock image image_since script outcome before after) given nothing;
 }
 
+-- where there is no outcome, it may be told by the script's own schedule
+pub leaves_own : {D : Type 0} (held : D → Option (List ℕ)) (clock : D → ℕ) (image : D → List ℕ → Type 0) (image_since : D → ℕ → List ℕ → Type 0)
+    (threads : Bool) (script : Script) (status : ℕ) (given : Option Outcome) (before after : D) → IsNone given
+    → LeavesLog held clock image image_since (scheduled script script.schedule) status given before after
+    → LeavesLogOf held clock image image_since threads script status given before after
+leaves_own held clock image image_since threads script status given before after nothing leaves = record {
+  schedule = script.schedule;
+  own = λ is. refl;
+  comes = no_outcome (λ outcome. outcome ≡ comes_to (scheduled script script.schedule)) given nothing;
+  leaves = leaves;
+}
+
+pub leaves_still : {D : Type 0} (held : D → Option (List ℕ)) (clock : D → ℕ) (image : D → List ℕ → Type 0) (image_since : D → ℕ → List ℕ → Type 0)
+    (threads : Bool) (script : Script) (status : ℕ) (given : Option Outcome) (before after : D) → IsNone given
+    → IsAsItWas held clock image image_since before after → LeavesLogOf held clock image image_since threads script status given before after
+leaves_still held clock image image_since threads script status given before after nothing stay =
+    leaves_own held clock image image_since threads script status given before after nothing
+    (leaves_stay held clock image image_since (scheduled script script.schedule) status given before after nothing stay)
+
 pub leaves_nothing : {D : Type 0} (held : D → Option (List ℕ)) (clock : D → ℕ) (image : D → List ℕ → Type 0) (image_since : D → ℕ → List ℕ → Type 0)
     (command : Command) (bytes : List ℕ) (status : ℕ) (given : Option Outcome) (disk : D) → IsNone given
     → Leaves held clock image image_since command bytes status given disk disk
 leaves_nothing held clock image image_since command bytes status given disk nothing = record {
   refused = λ why is. refl;
-  runs = λ script s. leaves_stay held clock image image_since script status given disk disk nothing (as_it_was held clock image image_since disk);
+  runs = λ script s. leaves_still held clock image image_since (runs_threads command) script status given disk disk nothing
+      (as_it_was held clock image image_since disk);
 }
 
 -- a script was spelled, so this is what its run leaves
 pub leaves_spelled : {D : Type 0} (held : D → Option (List ℕ)) (clock : D → ℕ) (image : D → List ℕ → Type 0) (image_since : D → ℕ → List ℕ → Type 0)
     (command : Command) (bytes : List ℕ) (script : Script) (status : ℕ) (given : Option Outcome) (before after : D) → Once → Spells command bytes script
-    → LeavesLog held clock image image_since script status given before after → Leaves held clock image image_since command bytes status given before after
+    → LeavesLogOf held clock image image_since (runs_threads command) script status given before after
+    → Leaves held clock image image_since command bytes status given before after
 leaves_spelled held clock image image_since command bytes script status given before after once s leaves = record {
   refused = λ why is. absurd (not_both script why (once bytes (options_by command) (Ok script) (Err why) s is));
-  runs = λ other t. subst (λ (x : Script). LeavesLog held clock image image_since x status given before after)
+  runs = λ other t. subst (λ (x : Script). LeavesLogOf held clock image image_since (runs_threads command) x status given before after)
       (same_script script other (once bytes (options_by command) (Ok script) (Ok other) s t)) leaves;
 }
 

@@ -1,12 +1,13 @@
 -- What the log of a run recovers to: the tables after some first entries of its commit order, and in the end its own.
-use Rattle.std.proofs.Common.{◌≡◌, ◌⊎◌, ℕ, ◌<◌, ◌≤◌, List, [], ◌∷◌, Bool, false, Option, None, Some, IsNone, IfSome, Ok, length, map, ap, sym, subst, refl, ◌∙◌, inl, inr, le_refl, le_trans, arith}
+use Rattle.std.proofs.Common.{◌≡◌, ◌⊎◌, ℕ, ◌<◌, ◌≤◌, List, [], ◌∷◌, Bool, true, false, Option, None, Some, IsNone, IfSome, Result, Ok, Err, length, map, ap, sym, subst, refl, ◌∙◌, inl, inr, le_refl, le_trans, arith}
 use Rattle.std.proofs.Math.Logic.{⊎_elim}
+use Rattle.std.specs.Prelude.{OnErr}
 use mathlib.Core.List.{map-map}
 use Rattle.std.proofs.lemmas.List.{take_all}
 use Rattle.hy_log_record.specs.declared.HeldTable.{HeldTable}
 use Rattle.hy_machine.specs.Tables.{Entry, history, opening_tables}
 use Rattle.hy_machine.specs.Outcomes.{rows_sorted}
-use Rattle.hy_machine.specs.Runs.{opening_of, run_of}
+use Rattle.hy_machine.specs.Runs.{RunsAreSteps, RunsEnd, opening_of, run_of}
 use Rattle.hy_machine.specs.declared.Setting.{Setting}
 use Rattle.hy_render.specs.declared.Outcome.{Outcome}
 use Rattle.hy_script.specs.declared.Script.{Script}
@@ -19,9 +20,10 @@ use Rattle.hy_bound.specs.declared.schedule.Item.{Item}
 use Rattle.hy_value.specs.declared.Kind.{Kind}
 use Rattle.hy_words.specs.declared.Command.{Command}
 use Rattle.hy_world.specs.Logged.{RecoversAfter, IsDurable, HasLogged, LogsRun}
+use Rattle.hy_world.specs.SomeRuns.{ShowsSomeRun}
 use Rattle.hy_world.specs.Worlds.{WorldData, ShowsState}
-use Rattle.hy_top.specs.Program.{comes_to, keeps_log}
-use Rattle.hy_top.specs.Reports.{IsRestored, IsLoggedSince, Writes, Runs, GaveUp, IsLogOfScript, KeepsLog, HasKept, IsHalfMade, IsLogged, LeavesLog, tables_after}
+use Rattle.hy_top.specs.Program.{MayCome, comes_to, keeps_log, scheduled}
+use Rattle.hy_top.specs.Reports.{IsRestored, IsLoggedSince, Writes, Runs, GaveUp, IsLogOfScript, KeepsLog, KeepsLogOf, HasKept, IsHalfMade, IsLogged, LeavesLog, LeavesLogOf, tables_after}
 use Rattle.hy_top.specs.Settings.{setting_at}
 use Rattle.hy_top.proofs.Answering.{no_outcome, given_is_there, leaves_stay}
 
@@ -154,6 +156,110 @@ leaves_kept held clock image image_since alone script status given before made a
         (keeps.moments time bytes (le_trans le begun.writes.later) left);
   };
   logged = logged_so held clock image image_since script given before made after begun keeps since;
+}
+
+-- ---- on threads, or by the schedule
+
+-- what a run by a schedule comes to may come of the script, if that is its own or it is on threads
+pub comes_so : RunsAreSteps → RunsEnd → (script : Script) (schedule : List Item) (outcome : Outcome) → outcome ≡ comes_to (scheduled script schedule)
+    → MayCome true script outcome
+comes_so steps ends script schedule outcome is = record {
+  state = run_of (setting_at script) schedule;
+  reached = steps (setting_at script) schedule;
+  ended = ends (setting_at script) schedule;
+  outcome_is = is;
+}
+
+-- nothing was put into the log
+pub kept_nothing : {D : Type 0} (clock : D → ℕ) (image : D → List ℕ → Type 0) (image_since : D → ℕ → List ℕ → Type 0) (threads : Bool)
+    (script : Script) (disk : D) → KeepsLogOf clock image image_since threads script None disk disk
+kept_nothing clock image image_since threads script disk = record {
+  schedule = script.schedule;
+  own = λ is. refl;
+  comes = tt;
+  keeps = keeps_still clock image_since (scheduled script script.schedule) disk;
+  logged = tt;
+}
+
+-- what the log has is there too where the outcome isn't told
+pub kept_untold : {D : Type 0} (clock : D → ℕ) (image : D → List ℕ → Type 0) (image_since : D → ℕ → List ℕ → Type 0) (threads : Bool)
+    (script : Script) (given : Option Outcome) (before after : D) → KeepsLogOf clock image image_since threads script given before after
+    → KeepsLogOf clock image image_since threads script None before after
+kept_untold clock image image_since threads script given before after kept =
+    record { schedule = kept.schedule; own = kept.own; comes = tt; keeps = kept.keeps; logged = tt }
+
+-- by the script's own schedule
+pub kept_own : {D : Type 0} (clock : D → ℕ) (image : D → List ℕ → Type 0) (image_since : D → ℕ → List ℕ → Type 0) (threads : Bool)
+    (script : Script) (outcome : Outcome) (before after : D) → outcome ≡ comes_to (scheduled script script.schedule)
+    → KeepsLog clock image_since (scheduled script script.schedule) before after
+    → IsLoggedSince image image_since (scheduled script script.schedule) outcome (clock before) after
+    → KeepsLogOf clock image image_since threads script (Some outcome) before after
+kept_own clock image image_since threads script outcome before after is keeps logged =
+    record { schedule = script.schedule; own = λ same. refl; comes = is; keeps = keeps; logged = logged }
+
+pub cut_own : {D : Type 0} (clock : D → ℕ) (image : D → List ℕ → Type 0) (image_since : D → ℕ → List ℕ → Type 0) (threads : Bool)
+    (script : Script) (before after : D) → KeepsLog clock image_since (scheduled script script.schedule) before after
+    → KeepsLogOf clock image image_since threads script None before after
+cut_own clock image image_since threads script before after keeps =
+    record { schedule = script.schedule; own = λ same. refl; comes = tt; keeps = keeps; logged = tt }
+
+-- a world shows a run of the script by some schedule
+pub some_run_shown : (script : Script) (setting : Setting) (world : WorldData) → setting ≡ setting_at script → (some : ShowsSomeRun setting world)
+    → ShowsState (setting_at script) (run_of (setting_at script) some.schedule) world
+some_run_shown script setting world same some =
+    subst (λ (s : Setting). ShowsState s (run_of s some.schedule) world) same some.shows
+
+-- by the schedule that the threads decided
+pub kept_by : {D : Type 0} (clock : D → ℕ) (image : D → List ℕ → Type 0) (image_since : D → ℕ → List ℕ → Type 0) (script : Script)
+    (schedule : List Item) (outcome : Outcome) (before after : D) → outcome ≡ comes_to (scheduled script schedule)
+    → LogsRun clock image_since (setting_at script) (catalog_kinds script.catalog) (run_of (setting_at script) schedule) before after
+    → HasLogged image image_since outcome.order (clock before) after
+    → IsDurable image image_since (setting_at script) (catalog_kinds script.catalog) (run_of (setting_at script) schedule) (clock before) after
+    → KeepsLogOf clock image image_since true script (Some outcome) before after
+kept_by clock image image_since script schedule outcome before after is logs has durable = record {
+  schedule = schedule;
+  own = λ same. absurd (cc same);
+  comes = is;
+  keeps = keeps_so clock image_since (scheduled script schedule) before after logs;
+  logged = logged_since image image_since (scheduled script schedule) outcome (clock before) after is has durable;
+}
+
+pub cut_by : {D : Type 0} (clock : D → ℕ) (image : D → List ℕ → Type 0) (image_since : D → ℕ → List ℕ → Type 0) (script : Script)
+    (schedule : List Item) (before after : D)
+    → LogsRun clock image_since (setting_at script) (catalog_kinds script.catalog) (run_of (setting_at script) schedule) before after
+    → KeepsLogOf clock image image_since true script None before after
+cut_by clock image image_since script schedule before after logs = record {
+  schedule = schedule;
+  own = λ same. absurd (cc same);
+  comes = tt;
+  keeps = keeps_so clock image_since (scheduled script schedule) before after logs;
+  logged = tt;
+}
+
+-- it is said of a result that is an error
+pub if_err : {T E : Type 0} (r : Result T E) (P : Type 0) → P → OnErr r P
+if_err (Ok x) P h = tt
+if_err (Err e) P h = h
+
+-- the outcome of a report is another name of it
+pub kept_given : {D : Type 0} (clock : D → ℕ) (image : D → List ℕ → Type 0) (image_since : D → ℕ → List ℕ → Type 0) (threads : Bool)
+    (script : Script) (given other : Option Outcome) (before after : D) → other ≡ given
+    → KeepsLogOf clock image image_since threads script given before after → KeepsLogOf clock image image_since threads script other before after
+kept_given clock image image_since threads script given other before after same kept =
+    subst (λ (o : Option Outcome). KeepsLogOf clock image image_since threads script o before after) (sym same) kept
+
+-- a log was made, and kept
+pub leaves_kept_of : {D : Type 0} (held : D → Option (List ℕ)) (clock : D → ℕ) (image : D → List ℕ → Type 0) (image_since : D → ℕ → List ℕ → Type 0)
+    → ((disk : D) (bytes : List ℕ) → image_since disk (clock disk) bytes → image disk bytes) → (threads : Bool) (script : Script) (status : ℕ)
+    (given : Option Outcome) (before made after : D) (gate : ℕ) → IsBegun held clock image image_since before made → AreLogsOf (image made) [] gate
+    → KeepsLogOf clock image image_since threads script given made after → (IsNone given → GaveUp status)
+    → LeavesLogOf held clock image image_since threads script status given before after
+leaves_kept_of held clock image image_since alone threads script status given before made after gate begun empty kept gave = record {
+  schedule = kept.schedule;
+  own = kept.own;
+  comes = kept.comes;
+  leaves = leaves_kept held clock image image_since alone (scheduled script kept.schedule) status given before made after gate begun empty kept.keeps
+      kept.logged gave;
 }
 
 -- where there is no outcome, the run gave up

@@ -1,5 +1,6 @@
 -- What a script comes to.
 use Rattle.std.specs.Prelude.{◌≡◌, ℕ, ◌+◌, List, Bool, true, false, Option, None, Some, IfSome, is_some, option_and_then, take, drop, map}
+use Rattle.hy_bound.specs.declared.schedule.Item.{Item}
 use Rattle.hy_script.specs.declared.Script.{Script}
 use Rattle.hy_script.specs.declared.Options.{Options}
 use Rattle.hy_render.specs.declared.Names.{Names}
@@ -78,6 +79,16 @@ keeps_log (Explain prune chunks rows) = false
 keeps_log (Serve log chunks rows) = log
 keeps_log (Gen seed sessions txns threads) = false
 
+-- whether a command runs each session of a script that it reads on a thread of its own
+abbrev pub runs_threads : Command → Bool
+runs_threads (Run threads prune log chunks rows) = threads
+runs_threads (Check chunks rows) = false
+runs_threads (Recover dumps chunks rows) = false
+runs_threads (Trace prune chunks rows) = false
+runs_threads (Explain prune chunks rows) = false
+runs_threads (Serve log chunks rows) = false
+runs_threads (Gen seed sessions txns threads) = false
+
 -- whether a command has to do with the disk: it keeps a log there, or reads one; no command has nothing to do with it
 abbrev pub uses_disk : Option Command → Bool
 uses_disk None = false
@@ -96,6 +107,10 @@ names_at script = record { tables = map (λ table. table.name) script.catalog; s
 -- what the machine's run of the script comes to, by its schedule and then rounds
 abbrev pub comes_to : Script → Outcome
 comes_to script = outcome_of (setting_at script) (run_of (setting_at script) script.schedule)
+
+-- the script with this schedule in place of its own
+abbrev pub scheduled : Script → List Item → Script
+scheduled script schedule = record script { schedule = schedule }
 
 -- what a run of the script may come to: with each session on a thread of its own, what the machine comes to by some steps of the
 -- sessions, whatever their order; else what it comes to by the schedule

@@ -5,6 +5,7 @@ use Rattle.hy_outside.specs.Telling.{Takes, TakesSome}
 use Rattle.hy_dump.specs.Dump.{dump}
 use Rattle.hy_explain.specs.Explained.{explained_text}
 use Rattle.hy_trace.specs.Trace.{trace_text}
+use Rattle.hy_bound.specs.declared.schedule.Item.{Item}
 use Rattle.hy_schema.specs.declared.TableDef.{TableDef}
 use Rattle.hy_script.specs.declared.Script.{Script}
 use Rattle.hy_script.specs.declared.Refused.{Refused}
@@ -35,7 +36,7 @@ use Rattle.hy_machine.specs.Outcomes.{rows_sorted}
 use Rattle.hy_machine.specs.Runs.{run_of}
 use Rattle.hy_machine.specs.Sessions.{snapshot}
 use Rattle.hy_top.specs.Lines.{refusal_line_of, checked_line, not_empty_line, damaged_line}
-use Rattle.hy_top.specs.Program.{MayCome, IsRead, comes_to, keeps_log, options_by, names_at}
+use Rattle.hy_top.specs.Program.{MayCome, IsRead, comes_to, keeps_log, options_by, names_at, runs_threads, scheduled}
 use Rattle.hy_top.specs.Settings.{setting_at}
 
 -- the bytes are refused by a command, and how
@@ -92,10 +93,10 @@ pub record Traces (script : Script) (status : ℕ) (outcome : Option Outcome) (b
 
 -- ---- with a disk, of which a read gave these bytes before, where it tells them: of any disk there are bytes that it held
 
--- the disk was empty, and the script was run by its schedule, with a log made on the disk
-pub record RunsLogged (script : Script) (held : Option (List ℕ)) (status : ℕ) (outcome : Option Outcome) (before after : Option (List ℕ)) : Type 0 where
+-- the disk was empty, and the script was run, on threads or by its schedule, with a log made on the disk
+pub record RunsLogged (threads : Bool) (script : Script) (held : Option (List ℕ)) (status : ℕ) (outcome : Option Outcome) (before after : Option (List ℕ)) : Type 0 where
   pub empty : IfSome held (λ own. own ≡ [])
-  pub runs : Runs false script status outcome before after
+  pub runs : Runs threads script status outcome before after
 
 -- the disk has bytes: so no log was made, nothing was run, and this was told
 pub record FindsALog (held : Option (List ℕ)) (status : ℕ) (outcome : Option Outcome) (before after : Option (List ℕ)) : Type 0 where
@@ -145,7 +146,7 @@ pub record Restores (dumps : Bool) (script : Script) (held : Option (List ℕ)) 
 abbrev pub Does : Command → Script → Option (List ℕ) → ℕ → Option Outcome → Option (List ℕ) → Option (List ℕ) → Type 0
 Does (Run threads prune false chunks rows) script held status outcome before after = Runs threads script status outcome before after
 Does (Run threads prune true chunks rows) script held status outcome before after =
-    RunsLogged script held status outcome before after ⊎ FindsALog held status outcome before after
+    RunsLogged threads script held status outcome before after ⊎ FindsALog held status outcome before after
 Does (Check chunks rows) script held status outcome before after = Checks script status outcome before after
 Does (Recover dumps chunks rows) script held status outcome before after = Restores dumps script held status outcome before after
 Does (Trace prune chunks rows) script held status outcome before after = Traces script status outcome before after
@@ -238,7 +239,17 @@ pub record HasKept {D : Type 0} (held : D → Option (List ℕ)) (clock : D → 
   pub empty : AreLogsOf (image made) [] gate
   pub since : (bytes : List ℕ) → image_since after (clock made) bytes → image made bytes ⊎ IsLogOfScript script bytes
 
--- what a run of this script that keeps a log leaves
+-- What a run, on threads or by the script's schedule, kept in a log that was empty: that of a run by some schedule, which comes to the
+-- outcome, where there is one.
+pub record KeepsLogOf {D : Type 0} (clock : D → ℕ) (image : D → List ℕ → Type 0) (image_since : D → ℕ → List ℕ → Type 0) (threads : Bool)
+    (script : Script) (outcome : Option Outcome) (before after : D) : Type 0 where
+  pub schedule : List Item
+  pub own : threads ≡ false → schedule ≡ script.schedule
+  pub comes : IfSome outcome (λ given. given ≡ comes_to (scheduled script schedule))
+  pub keeps : KeepsLog clock image_since (scheduled script schedule) before after
+  pub logged : IfSome outcome (λ given. IsLoggedSince image image_since (scheduled script schedule) given (clock before) after)
+
+-- what a run of this script by its schedule leaves that keeps a log
 pub record LeavesLog {D : Type 0} (held : D → Option (List ℕ)) (clock : D → ℕ) (image : D → List ℕ → Type 0)
     (image_since : D → ℕ → List ℕ → Type 0) (script : Script) (status : ℕ) (outcome : Option Outcome) (before after : D) : Type 0 where
   -- where nothing was run, the disk is as it was, unless memory ran out or the disk failed
@@ -251,12 +262,22 @@ pub record LeavesLog {D : Type 0} (held : D → Option (List ℕ)) (clock : D �
   pub safe : IsSafe held clock image image_since script before after
   pub logged : IfSome outcome (λ given. IsLogged held clock image image_since script given before after)
 
+-- What a run on threads, or by the script's schedule, that keeps a log leaves: what one leaves that comes to the same outcome by some
+-- schedule. On threads that is one that the threads decide, else the script's own.
+pub record LeavesLogOf {D : Type 0} (held : D → Option (List ℕ)) (clock : D → ℕ) (image : D → List ℕ → Type 0)
+    (image_since : D → ℕ → List ℕ → Type 0) (threads : Bool) (script : Script) (status : ℕ) (outcome : Option Outcome) (before after : D) : Type 0 where
+  pub schedule : List Item
+  pub own : threads ≡ false → schedule ≡ script.schedule
+  pub comes : IfSome outcome (λ given. given ≡ comes_to (scheduled script schedule))
+  pub leaves : LeavesLog held clock image image_since (scheduled script schedule) status outcome before after
+
 -- what a command that keeps a log leaves, beside the bytes that it read
 pub record Leaves {D : Type 0} (held : D → Option (List ℕ)) (clock : D → ℕ) (image : D → List ℕ → Type 0)
     (image_since : D → ℕ → List ℕ → Type 0) (command : Command) (bytes : List ℕ) (status : ℕ) (outcome : Option Outcome)
     (before after : D) : Type 0 where
   pub refused : (why : Refused) → IsRefused command bytes why → after ≡ before
-  pub runs : (script : Script) → Spells command bytes script → LeavesLog held clock image image_since script status outcome before after
+  pub runs : (script : Script) → Spells command bytes script
+      → LeavesLogOf held clock image image_since (runs_threads command) script status outcome before after
 
 -- ---- a command that reads a script
 

@@ -14,10 +14,10 @@ ghost use Rattle.hy_gen.specs.Made.{made};
 ghost use Rattle.hy_script.specs.Reading.{Reads};
 ghost use Rattle.hy_script.specs.declared.Script.{Script};
 ghost use Rattle.hy_top.specs.Lines.{usage_line, refusal_line_of, checked_line};
-ghost use Rattle.hy_top.specs.Program.{MayCome, bytes_left, does_serve, keeps_log, options_by, made_by, names_at, reads_script, served_by, uses_disk};
+ghost use Rattle.hy_top.specs.Program.{MayCome, bytes_left, does_serve, keeps_log, options_by, made_by, names_at, reads_script, runs_threads, served_by, uses_disk};
 ghost use Rattle.hy_top.specs.Served.{IsServed, LeavesServed};
 ghost use Rattle.hy_top.specs.Settings.{CanRun, IsUtf8Script};
-ghost use Rattle.hy_top.specs.Reports.{Writes, Answers, IsAnswered, Leaves, LeavesLog, Runs, Checks, Summarizes, GaveUp, Does, Makes};
+ghost use Rattle.hy_top.specs.Reports.{Writes, Answers, IsAnswered, Leaves, LeavesLogOf, Runs, Checks, Summarizes, GaveUp, Does, Makes};
 
 mod laws;
 mod lines;
@@ -92,11 +92,12 @@ const USAGE: &[u8] = b"usage: hy run|check|gen\n";
 /// text of its outcome to the sink; `check` reads a script and writes what it has; `gen` makes a script, runs it, and
 /// writes a summary of its outcome. The first word is the program's name. With `--threads` each session runs on a thread
 /// of its own, and the gate is told of each of its visits; then the call waits for locks and for the threads' ends. With
-/// `--log` a redo log is made on the disk, and has each entry of the commit order before another step is taken; `recover`
-/// reads a script, and writes the tables that the log on the disk makes of its first rows, with `--script` as the lines of a
-/// script that makes them. `trace` reads a script, and writes the steps of its run; `explain` reads and runs one, and writes which
-/// transactions were refused, and why. `serve` answers each line of the source before it reads the next, and keeps a log too with
-/// `--log`. What is said of a sink's bytes and of crashes holds where the sink and the disk tell them.
+/// `--log` a redo log is made on the disk, and has each entry of the commit order before another step is taken, or on threads
+/// all of them before anything is written; `recover` reads a script, and writes the tables that the log on the disk makes of
+/// its first rows, with `--script` as the lines of a script that makes them. `trace` reads a script, and writes the steps of its
+/// run; `explain` reads and runs one, and writes which transactions were refused, and why. `serve` answers each line of the
+/// source before it reads the next, and keeps a log too with `--log`. What is said of a sink's bytes and of crashes holds where
+/// the sink and the disk tell them.
 pub fn run<T: Threads + Wait + Sync, R: Source, W: Sink, G: Gate, D: Disk>(
     rt: &T,
     alloc: Global,
@@ -123,8 +124,9 @@ pub fn run<T: Threads + Wait + Sync, R: Source, W: Sink, G: Gate, D: Disk>(
     // machine's run of the script comes to, by its schedule or, on threads, by some order of steps; it is lawful, and it is
     // serializable in the order that it prints; or the script is checked. To trace writes the steps of the machine's run by the
     // schedule, and to explain has the outcome of that run, and writes the reasons for it. A run that keeps a log leaves that of the
-    // outcome's order: what a crash after it leaves recovers to the outcome's tables. Whatever the status, what a crash leaves at any
-    // moment is what one could leave before, what the making of the log may leave, or the log of some first entries of the order.
+    // outcome's order, which on threads is the order of a run by some schedule: what a crash after it leaves recovers to the
+    // outcome's tables. Whatever the status, what a crash leaves at any moment is what one could leave before, what the making of
+    // the log may leave, or the log of some first entries of the order.
     ensures answers { IfSome (command_of (map string_bytes words.now)) (λ command. reads_script command ≡ true → (result.status ≡ 3)
         ⊎ IsAnswered D.held D.clock D.image D.image_since command (R.rest source.old) result.status result.outcome
         (W.written sink.old) (W.written sink.new) disk.old disk.new) }
@@ -413,7 +415,7 @@ fn perform<T: Threads + Wait + Sync, W: Sink, G: Gate, D: Disk>(
     ensures disk_fault { result.status ≡ 6 → Rose (D.faults disk.old) (D.faults disk.new) }
     ensures disk_steady { result.status ≢ 6 → D.faults disk.new ≡ D.faults disk.old }
     ensures leaves { keeps_log command ≡ true
-        → LeavesLog D.held D.clock D.image D.image_since script result.status result.outcome disk.old disk.new }
+        → LeavesLogOf D.held D.clock D.image D.image_since (runs_threads command) script result.status result.outcome disk.old disk.new }
     ensures untouched { uses_disk (Some command) ≡ false → disk.new ≡ disk.old }
     ensures held { keeps_log command ≡ false → D.held disk.new ≡ D.held disk.old }
     ensures syncs { keeps_log command ≡ false → Syncs D.held D.clock D.image D.image_since disk.old disk.new }
@@ -421,10 +423,17 @@ fn perform<T: Threads + Wait + Sync, W: Sink, G: Gate, D: Disk>(
 {
     match command {
         Command::Run {
+            threads,
             prune,
             log: true,
             ..
-        } => run_logged(crew.alloc, script, prune, sink, disk),
+        } => {
+            let mode = Mode {
+                threads,
+                prunes: prune,
+            };
+            run_logged(crew, script, mode, sink, disk)
+        }
         Command::Run { threads, prune, .. } => {
             let mode = Mode {
                 threads,

@@ -45,10 +45,9 @@ sizes_in matches = option_zip (number_within 1 64 (codes "chunks") matches) (num
 abbrev pub truth_in : Text → List Row → Option Bool
 truth_in name matches = option_and_then truth_of (one_of name matches)
 
--- `run` with these, where the matches have each; a run on threads keeps no log
+-- `run` with these, where the matches have each
 abbrev pub run_with : Option Bool → Option Bool → Option Bool → Option (ℕ × ℕ) → Option Command
-run_with (Some threads) (Some keeps) (Some log) (Some (chunks, rows)) =
-    if threads && log then None else Some (Run threads (not keeps) log chunks rows)
+run_with (Some threads) (Some keeps) (Some log) (Some (chunks, rows)) = Some (Run threads (not keeps) log chunks rows)
 run_with _ _ _ _ = None
 
 -- `recover` with these, where the matches have each

@@ -156,9 +156,6 @@ fn run_asked(given: &ArgMatches<'_>) -> Option<Command>
     let keeps = truth(given, "no-prune")?;
     let log = truth(given, "log")?;
     let (chunks, rows) = sizes(given)?;
-    if threads && log {
-        return None;
-    }
     Some(Command::Run {
         threads,
         prune: !keeps,

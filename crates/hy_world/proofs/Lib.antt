@@ -16,6 +16,7 @@ mod Runs
 pub mod Growing
 pub mod Logs
 mod Orders
+mod SomeSchedules
 pub mod SharedWorlds
 pub mod VisitsLeave
 mod BlockedSteps

@@ -32,14 +32,13 @@ use Rattle.hy_refinement.specs.Laws.{OpeningIsShown}
 use Rattle.hy_session.specs.Standing.{needed_number, number_within, width_of}
 use Rattle.hy_world.specs.Points.{visit_at, point_of}
 use Rattle.hy_world.specs.Worlds.{WorldData, ShowsState, IsWorld, HaveTypes, parts_of, plain, seen_world}
-use Rattle.hy_world.specs.Follows.{Tells}
 use Rattle.hy_world.specs.Openings.{IsOpened}
-use Rattle.hy_world.specs.SomeRuns.{IsSomeRun}
+use Rattle.hy_world.specs.SomeRuns.{ShowsSomeRun}
 use Rattle.hy_world.specs.declared.opening.Opened.{Opened}
 use Rattle.hy_world.proofs.ListsAt.{got, below, got_is, read_got}
 use Rattle.hy_world.proofs.OpenedWorlds.{shown_opened, types_opened}
+use Rattle.hy_world.proofs.SomeSchedules.{shows_some_run}
 use Rattle.hy_bound.specs.declared.Shape.{Shape}
-use Rattle.hy_render.specs.declared.Outcome.{Outcome}
 
 -- ---- parts and shared parts
 
@@ -290,19 +289,15 @@ pub shared_few : (setting : Setting) (kinds : List (List Kind)) (parts : List Sh
 shared_few setting kinds parts sessions count shared is =
     omega (arith, is, shared.shown.shows.sessions_show.count, shared.shown.runnable.fits.few_sessions)
 
--- ---- what it tells
+-- ---- what it shows
 
--- where all sessions are at their end, what the world tells is what some steps come to
-pub some_told : {E : Type 0} (r : Result Outcome E) → EndsAreTheMachines → (setting : Setting) (kinds : List (List Kind)) (parts : List SharedData)
-    (sessions : List SessionData) (world : WorldData) → AreShared setting kinds parts sessions
-    → All (λ (session : SessionData). point_of session ≡ None) sessions → (state : State) × ShowsState setting state world → world.sessions ≡ sessions
-    → IfOk r (λ outcome. Tells world outcome) → IfOk r (λ outcome. IsSomeRun setting outcome)
-some_told (Ok outcome) ends setting kinds parts sessions world shared none shows same tells =
+-- where all sessions are at their end, the world shows what the machine comes to by some schedule
+pub some_shown : {E : Type 0} (r : Result WorldData E) → EndsAreTheMachines → (setting : Setting) (kinds : List (List Kind)) (parts : List SharedData)
+    (sessions : List SessionData) → AreShared setting kinds parts sessions → All (λ (session : SessionData). point_of session ≡ None) sessions
+    → IfOk r (λ world. (state : State) × ShowsState setting state world) → IfOk r (λ world. world.sessions ≡ sessions)
+    → IfOk r (λ world. ShowsSomeRun setting world)
+some_shown (Ok world) ends setting kinds parts sessions shared none shows same =
     let done : are_done world.sessions ≡ true = ap are_done same ∙ shared_done setting kinds parts sessions shared none in
-    record {
-      state = shows.0;
-      reached = shows.1.shown.reached;
-      ended = sym (ends setting shows.0 (parts_of world.chunks world.core) world.sessions shows.1.shown) ∙ done;
-      outcome_is = tells setting shows.0 shows.1 done;
-    }
-some_told (Err e) ends setting kinds parts sessions world shared none shows same tells = tt
+    shows_some_run setting world shows.0 shows.1
+    (sym (ends setting shows.0 (parts_of world.chunks world.core) world.sessions shows.1.shown) ∙ done)
+some_shown (Err e) ends setting kinds parts sessions shared none shows same = tt

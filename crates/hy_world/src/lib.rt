@@ -28,7 +28,7 @@ use hy_render::Outcome;
 use hy_value::{Kind, Seq};
 pub use logging::logs_tell_orders;
 use std::alloc::{AllocError, Global};
-pub use threads::run_threads;
+pub use threads::{run_threads, world_by_threads};
 pub use world::World;
 
 /// The types of a table's columns.

@@ -12,7 +12,7 @@ ghost use Rattle.hy_stepping.specs.Typed.{AreTyped};
 ghost use Rattle.hy_threads.specs.Shares.{AreShares};
 ghost use Rattle.hy_world.specs.Shared.{AreShared};
 ghost use Rattle.hy_world.specs.Points.{point_of, visited_of};
-ghost use Rattle.hy_world.specs.SomeRuns.{IsSomeRun};
+ghost use Rattle.hy_world.specs.SomeRuns.{IsSomeRun, ShowsSomeRun};
 ghost use Rattle.hy_world.specs.Worlds.{ShowsState};
 
 use crate::opening::{Opened, open_all};
@@ -206,12 +206,12 @@ fn run_case<K: Case + Send + Sync, T: Threads + Wait + Sync, G: Gate>(
     kinds: &[Kinds],
     prunes: bool,
     gate: &G,
-) -> Result<Outcome, AllocError>
+) -> Result<World, AllocError>
     requires setting { setting ≡ K.setting }
     requires kinds { kinds.now ≡ K.kinds }
     requires runnable { IsRunnable setting }
     requires typed { AreTyped kinds.now setting.shapes setting.first setting.programs }
-    ensures { IfOk result (λ outcome. IsSomeRun setting outcome) }
+    ensures { IfOk result (λ world. ShowsSomeRun setting world) }
 {
     hy_refinement::the_opening_is_shown();
     hy_stepping::cores_are_near();
@@ -228,13 +228,30 @@ fn run_case<K: Case + Send + Sync, T: Threads + Wait + Sync, G: Gate>(
     } = open_all(alloc, setting, kinds, prunes)?;
     let parts = share(alloc, chunks, core)?;
     let (parts, sessions) = run_shared::<K, T, G>(rt, alloc, parts, sessions, gate)?;
-    world_of::<K>(alloc, shapes, per_table, parts, sessions)?.finish(alloc)
+    world_of::<K>(alloc, shapes, per_table, parts, sessions)
 }
 
-/// Runs a setting with each session on a thread of its own, until every session has ended. The outcome is one that the
-/// snapshot machine comes to by some steps, whether chunks are pruned or not: which ones, the threads decide. The gate
-/// is told of each visit. It waits for locks and for the threads' ends. Err is for want of memory: the session that finds
-/// none stops before its step, the others go on to their end, and there is no outcome.
+/// The world of a setting after a run with each session on a thread of its own, until every session has ended. It shows what
+/// the snapshot machine comes to by some schedule, whether chunks are pruned or not: by which one, the threads decide. The
+/// gate is told of each visit. It waits for locks and for the threads' ends. Err is for want of memory: the session that
+/// finds none stops before its step, the others go on to their end, and there is no world.
+pub fn world_by_threads<T: Threads + Wait + Sync, G: Gate>(
+    rt: &T,
+    alloc: Global,
+    setting: Setting,
+    kinds: &[Kinds],
+    prunes: bool,
+    gate: &G,
+) -> Result<World, AllocError>
+    requires runnable { IsRunnable setting }
+    requires typed { AreTyped kinds.now setting.shapes setting.first setting.programs }
+    ensures { IfOk result (λ world. ShowsSomeRun setting world) }
+{
+    run_case::<Brand, T, G>(rt, alloc, setting, kinds, prunes, gate)
+}
+
+/// What a run comes to with each session on a thread of its own, as `world_by_threads` runs them: an outcome that the
+/// snapshot machine comes to by some steps. Err is for want of memory, and then there is no outcome.
 pub fn run_threads<T: Threads + Wait + Sync, G: Gate>(
     rt: &T,
     alloc: Global,
@@ -247,5 +264,7 @@ pub fn run_threads<T: Threads + Wait + Sync, G: Gate>(
     requires typed { AreTyped kinds.now setting.shapes setting.first setting.programs }
     ensures { IfOk result (λ outcome. IsSomeRun setting outcome) }
 {
-    run_case::<Brand, T, G>(rt, alloc, setting, kinds, prunes, gate)
+    hy_stepping::ends_are_the_machines();
+    hy_machine::runs_are_steps();
+    world_by_threads(rt, alloc, setting, kinds, prunes, gate)?.finish(alloc)
 }

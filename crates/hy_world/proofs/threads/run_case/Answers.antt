@@ -1,8 +1,8 @@
 use Rattle.std.proofs.Common.{subst, sym}
 use Rattle.std.specs.Prelude.{IfOk}
 use Rattle.hy_machine.specs.declared.Setting.{Setting}
-use Rattle.hy_world.specs.SomeRuns.{IsSomeRun}
-use Rattle.hy_world.proofs.SharedWorlds.{case_shared, some_told}
+use Rattle.hy_world.specs.SomeRuns.{ShowsSomeRun}
+use Rattle.hy_world.proofs.SharedWorlds.{case_shared, some_shown}
 use Rattle.hy_world.proofs.threads.run_case.Goals as goal
 
 pub run_shared-requires-after_bounds : goal.run_shared-requires-after_bounds
@@ -19,7 +19,6 @@ run_shared-requires-after_bounds g c κs within =
 
 pub returns : goal.returns
 returns g c =
-    subst (λ (setting : Setting). IfOk c.finish.result (λ outcome. IsSomeRun setting outcome)) (sym c.requires.setting)
-    (some_told c.finish.result c.ends_are_the_machines.ensures g.K.Case.setting g.K.Case.kinds c.in_ok-parts-2.parts.items c.in_ok-parts-2.sessions.items
-    c.in_ok-world_of.field-0 c.in_ok-parts-2.ensures.shared c.in_ok-parts-2.ensures.ended c.in_ok-world_of.ensures.shows c.in_ok-world_of.ensures.sessions
-    c.finish.ensures.tells)
+    subst (λ (setting : Setting). IfOk c.world_of.result (λ world. ShowsSomeRun setting world)) (sym c.requires.setting)
+    (some_shown c.world_of.result c.ends_are_the_machines.ensures g.K.Case.setting g.K.Case.kinds c.in_ok-parts-2.parts.items
+    c.in_ok-parts-2.sessions.items c.in_ok-parts-2.ensures.shared c.in_ok-parts-2.ensures.ended c.world_of.ensures.shows c.world_of.ensures.sessions)

@@ -34,14 +34,14 @@ returns-in_err-run-clause-moments g c =
     let d = g.D.Disk in
     λ setting kinds shows typed.
     logs_run d.clock d.image_since c.logs_recover_tables.ensures c.entries_tell_changes.ensures setting kinds (run_of setting c.args.schedule.now)
-    c.args.self c.run.new.self c.args.disk.now c.run.new.disk (c.in_err-run.ensures.under_way setting (opening_of setting) shows) typed c.run.ensures.logs
+    c.args.self.core.entries c.run.new.self c.args.disk.now c.run.new.disk (c.in_err-run.ensures.under_way setting (opening_of setting) shows) typed c.run.ensures.logs
 
 pub returns-in_err-finish-clause-moments : goal.returns-in_err-finish-clause-moments
 returns-in_err-finish-clause-moments g c =
     let d = g.D.Disk in
     λ setting kinds shows typed.
     logs_run d.clock d.image_since c.logs_recover_tables.ensures c.entries_tell_changes.ensures setting kinds (run_of setting c.args.schedule.now)
-    c.args.self c.run.new.self c.args.disk.now c.run.new.disk
+    c.args.self.core.entries c.run.new.self c.args.disk.now c.run.new.disk
     (near_done (all_of c.args.schedule.now) c.args.self c.run.new.self c.in_ok-run.ensures.follows setting (opening_of setting) shows) typed c.run.ensures.logs
 
 pub returns-clause-moments : goal.returns-clause-moments
@@ -49,5 +49,5 @@ returns-clause-moments g c =
     let d = g.D.Disk in
     λ setting kinds shows typed.
     logs_run d.clock d.image_since c.logs_recover_tables.ensures c.entries_tell_changes.ensures setting kinds (run_of setting c.args.schedule.now)
-    c.args.self c.run.new.self c.args.disk.now c.run.new.disk
+    c.args.self.core.entries c.run.new.self c.args.disk.now c.run.new.disk
     (near_done (all_of c.args.schedule.now) c.args.self c.run.new.self c.in_ok-run.ensures.follows setting (opening_of setting) shows) typed c.run.ensures.logs

@@ -1,4 +1,4 @@
-use Rattle.hy_world.proofs.threads.run_threads.Given as goal
+use Rattle.hy_world.proofs.threads.world_by_threads.Given as goal
 
 -- the setting of the run, and the types of its tables
 abbrev pub ghosts-run_case : goal.ghosts-run_case

@@ -314,7 +314,7 @@ done_answers command bytes found script status given before after once law fit s
 done_answers (Run threads prune false chunks rows) bytes found script status given before after once law fit s (inr ran) =
     ran_answers (Run threads prune false chunks rows) bytes found script status given before after threads _ once law fit tt s ran ran
 done_answers (Run threads prune true chunks rows) bytes found script status given before after once law fit s (inr (inl ran)) =
-    ran_answers (Run threads prune true chunks rows) bytes found script status given before after false _ once law fit tt s ran.runs (inl ran)
+    ran_answers (Run threads prune true chunks rows) bytes found script status given before after threads _ once law fit tt s ran.runs (inl ran)
 done_answers (Run threads prune true chunks rows) bytes found script status given before after once law fit s (inr (inr there)) =
     quiet_answers (Run threads prune true chunks rows) bytes found script status given before after once s there.nothing_is_run
     (did_otherwise (Run threads prune true chunks rows) script found status given before after (inr there)) (inr (inr there))

@@ -1,0 +1,37 @@
+-- What transactions that could not commit are told alone behind w: rows behind a DELETE of one's own, a duplicate, a sum behind
+-- ROLLBACK TO, and nothing where a value goes out of 64 bits before.
+CREATE TABLE acc (id INT PRIMARY KEY, owner TEXT, bal INT);
+INSERT INTO acc VALUES (1, 'ann', 100);
+INSERT INTO acc VALUES (2, 'ann', 50);
+INSERT INTO acc VALUES (3, 'bob', 70);
+INSERT INTO acc VALUES (5, 'eve', 1);
+INSERT INTO acc VALUES (6, 'fay', 2);
+SESSION w;
+BEGIN;
+INSERT INTO acc VALUES (4, 'cid', 10);
+UPDATE acc SET bal = 9223372036854775807 WHERE id = 2;
+COMMIT;
+SESSION g;
+BEGIN;
+DELETE FROM acc WHERE id = 3;
+SELECT owner, bal FROM acc;
+COMMIT;
+SESSION i;
+BEGIN;
+INSERT INTO acc VALUES (4, 'dan', 1);
+SELECT bal FROM acc WHERE id = 5;
+COMMIT;
+SESSION s;
+BEGIN;
+SAVEPOINT p;
+UPDATE acc SET bal = 0 WHERE id = 5;
+ROLLBACK TO p;
+SELECT SUM(bal) FROM acc WHERE bal < 60;
+COMMIT;
+SESSION r;
+BEGIN;
+UPDATE acc SET bal = bal * 1000000000000000000 WHERE owner = 'cid';
+SELECT owner FROM acc WHERE bal = 50;
+UPDATE acc SET bal = 3 WHERE id = 6;
+COMMIT;
+END;

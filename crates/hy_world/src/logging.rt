@@ -100,8 +100,8 @@ impl World {
     }
 
     /// What its sessions came to, the commit order and the last rows of its tables, as `finish` tells them, with the whole
-    /// commit order appended to an empty log before, all of it or nothing. What a crash leaves at any moment recovers to the
-    /// tables before the run, or to those at its end. Err is for a fault of the disk, or for want of memory.
+    /// commit order appended to an empty log before. What a crash leaves at any moment recovers to the tables after some first
+    /// entries of that order. Err is for a fault of the disk, or for want of memory.
     pub fn finish_logged<D: Disk>(
         self,
         alloc: Global,

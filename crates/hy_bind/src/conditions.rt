@@ -36,6 +36,15 @@ pub fn tested(
     ensures pred { IfOk result (λ tested. tested.pred ≡ where_bound (scope_of scope.now) (option_map test_of (option_copied condition.entry))) }
 {
     match condition {
+        // Most conditions are one comparison.
+        Some(
+            Test::Compare {
+                left,
+                op,
+                right,
+                ..
+            },
+        ) => comparison(alloc, scope, left, *op, right),
         Some(condition) => test(alloc, scope, condition),
         None => Ok(BoundTest {
             fault: None,
@@ -137,6 +146,7 @@ pub fn unequal(
 }
 
 /// A comparison with a text; one that is refused, as any.
+#[inline(never)]
 fn compared_text(
     alloc: Global,
     script: &[u8],

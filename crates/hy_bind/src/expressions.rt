@@ -3,7 +3,9 @@
 ghost use Rattle.std.specs.Prelude.{◌≡◌, ◌&&◌, not, IfOk, is_none};
 ghost use Rattle.std.specs.Option.{option_map, option_map_or};
 ghost use Rattle.hy_ast.specs.Trees.{formula_of};
+ghost use Rattle.hy_bound.specs.Expression as expressed;
 ghost use Rattle.hy_bound.specs.Expression.{Column};
+ghost use Rattle.hy_bind.specs.Literals.{literal_value};
 ghost use Rattle.hy_bind.specs.Refusals.{fault_if, first_of};
 ghost use Rattle.hy_bind.specs.Scope.{scope_of, operand_fault, operand_kind};
 ghost use Rattle.hy_bind.specs.Expressions.{formula_kind, formula_fault, formula_bound, operand_bound, binary_bound, is_number};
@@ -11,7 +13,7 @@ ghost use Rattle.hy_bind.specs.Expressions.{formula_kind, formula_fault, formula
 use crate::literals::{kind_of, plain, value};
 use crate::refusals::{BindFault, agree, fault_if, first_of};
 use crate::scope::{Found, Scope, kind_in, missing, number, resolve};
-use hy_ast::{Formula, Operand, Operator};
+use hy_ast::{Formula, Literal, Operand, Operator};
 use hy_bound::{SetExpr, SideView};
 use hy_value::Kind;
 use std::alloc::{AllocError, Global};
@@ -66,11 +68,19 @@ fn single(alloc: Global, scope: &Scope, operand: &Operand) -> Result<Judged, All
                 kind: kind_of(literal),
                 value: match seen.side {
                     Some(SideView::Int(number)) => SetExpr::number(number),
-                    _ => SetExpr::literal(alloc, value(alloc, scope.script, literal)?)?,
+                    _ => written(alloc, scope.script, literal)?,
                 },
             })
         }
     }
+}
+
+/// A literal that is no number as an expression. It stands by itself, since a value takes as much room as the longest text.
+#[inline(never)]
+fn written(alloc: Global, script: &[u8], literal: &Literal) -> Result<SetExpr, AllocError>
+    ensures { IfOk result (λ made. made ≡ expressed.Literal (literal_value script.now literal.now)) }
+{
+    SetExpr::literal(alloc, value(alloc, script, literal)?)
 }
 
 /// What a reference means as an expression, if it means a column.

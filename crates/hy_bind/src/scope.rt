@@ -53,8 +53,17 @@ pub fn resolve(scope: &Scope, reference: &ColumnRef) -> Option<Found>
     ensures { result ≡ resolved (scope_of scope.now) reference.now }
 {
     if let [table] = scope.tables {
-        return found_in_table(scope, reference, *table, 0);
+        found_in_table(scope, reference, *table, 0)
+    } else {
+        resolve_among(scope, reference)
     }
+}
+
+/// The same of any number of tables. It stands by itself, since few statements join tables.
+#[inline(never)]
+fn resolve_among(scope: &Scope, reference: &ColumnRef) -> Option<Found>
+    ensures { result ≡ resolved (scope_of scope.now) reference.now }
+{
     let mut so_far = Search::Nowhere;
     let mut from = 0u128;
     for table in scope.tables {

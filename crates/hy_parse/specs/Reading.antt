@@ -361,6 +361,10 @@ selection_at pieces =
 
 -- ---- statements
 
+-- a SELECT as a statement
+abbrev pub selected : Read Selection → Read Statement
+selected read = read >>= λ selection. Done (tree.Select selection.0) selection.1
+
 abbrev pub kind_of : Piece → Option Kind
 kind_of piece =
     if same (word Int) piece.token then Some kinds.Int

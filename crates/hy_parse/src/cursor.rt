@@ -17,6 +17,9 @@ pub enum Halt<'a> {
     OutOfMemory,
 }
 
+/// The pieces behind what is put into a place.
+pub type Rest<'a> = Result<&'a [Piece], Halt<'a>>;
+
 impl<'a> From<AllocError> for Halt<'a> {
     ghost from_gives = { λ _ e. e ≡ OutOfMemory };
 

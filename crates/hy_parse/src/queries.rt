@@ -1,15 +1,15 @@
 // SELECT. Each function gives what it read and the pieces behind it.
 
 ghost use Rattle.std.specs.Prelude.{◌≡◌, [], ◌∷◌};
-ghost use Rattle.hy_ast.specs.Trees.{selection_of};
-ghost use Rattle.hy_parse.specs.Reading.{Gives, sum_at, from_at, joined_at, joins_at, rows_at, count_at, groups_at, second_at, columns_at, selection_at};
+ghost use Rattle.hy_ast.specs.Trees.{statement_of};
+ghost use Rattle.hy_parse.specs.Reading.{Gives, sum_at, from_at, joined_at, joins_at, rows_at, count_at, groups_at, second_at, columns_at, selection_at, selected};
 
 use crate::Piece;
 use crate::conditions::where_clause;
-use crate::cursor::{Halt, begins, expect, name, next_span};
+use crate::cursor::{Halt, Rest, begins, expect, name, next_span};
 use crate::lists::items;
 use crate::operands::column;
-use hy_ast::{ColumnRef, Join, Listed, Selection, Total};
+use hy_ast::{ColumnRef, Join, Listed, Selection, Statement, Total};
 use hy_token::{Keyword, Sign, Span, Token};
 use hy_value::Seq;
 use std::alloc::Global;
@@ -79,41 +79,43 @@ fn joins(alloc: Global, pieces: &[Piece]) -> Result<(Seq<Join>, &[Piece]), Halt>
 
 /// What follows the items of a SELECT of rows.
 #[tactic(auto, unfolding(crate::specs::Reading::rows_at))]
-fn rows(alloc: Global, listed: Listed, pieces: &[Piece]) -> Result<(Selection, &[Piece]), Halt>
-    ensures { Gives (λ x. (selection_of x.0, x.1.now)) result (rows_at listed pieces.now) }
+fn rows<'a>(alloc: Global, listed: Listed, pieces: &'a [Piece], into: &mut Statement) -> Rest<'a>
+    ensures { Gives (λ rest. (statement_of into.new, rest.now)) result (selected (rows_at listed pieces.now)) }
 {
     let (table, rest) = from_table(pieces)?;
     let (joins, rest) = joins(alloc, rest)?;
     let (condition, rest) = where_clause(alloc, rest)?;
-    let query = Selection::Rows {
+    *into = Statement::Select(Selection::Rows {
         listed,
         table,
         joins,
         condition,
-    };
-    Ok((query, rest))
+    });
+    Ok(rest)
 }
 
 /// A count of the rows of a table.
 #[tactic(auto, unfolding(crate::specs::Reading::count_at))]
-fn count(alloc: Global, pieces: &[Piece]) -> Result<(Selection, &[Piece]), Halt>
-    ensures { Gives (λ x. (selection_of x.0, x.1.now)) result (count_at pieces.now) }
+fn count<'a>(alloc: Global, pieces: &'a [Piece], into: &mut Statement) -> Rest<'a>
+    ensures { Gives (λ rest. (statement_of into.new, rest.now)) result (selected (count_at pieces.now)) }
 {
     let rest = expect(pieces, &COUNT_OF_ALL)?;
     let (table, rest) = from_table(rest)?;
     let (condition, rest) = where_clause(alloc, rest)?;
-    Ok((Selection::Count { table, condition }, rest))
+    *into = Statement::Select(Selection::Count { table, condition });
+    Ok(rest)
 }
 
 /// What follows the items of a SELECT of groups.
 #[tactic(auto, unfolding(crate::specs::Reading::groups_at))]
-fn groups(
+fn groups<'a>(
     alloc: Global,
     listed: ColumnRef,
     total: Total,
-    pieces: &[Piece],
-) -> Result<(Selection, &[Piece]), Halt>
-    ensures { Gives (λ x. (selection_of x.0, x.1.now)) result (groups_at listed total pieces.now) }
+    pieces: &'a [Piece],
+    into: &mut Statement,
+) -> Rest<'a>
+    ensures { Gives (λ rest. (statement_of into.new, rest.now)) result (selected (groups_at listed total pieces.now)) }
 {
     let (table, rest) = from_table(pieces)?;
     let (condition, rest) = where_clause(alloc, rest)?;
@@ -125,63 +127,68 @@ fn groups(
         ],
     )?;
     let (key, rest) = column(rest)?;
-    let query = Selection::Groups {
+    *into = Statement::Select(Selection::Groups {
         column: listed,
         total,
         table,
         condition,
         key,
-    };
-    Ok((query, rest))
+    });
+    Ok(rest)
 }
 
 /// What follows a first column and a comma.
 #[tactic(auto, unfolding(crate::specs::Reading::second_at))]
-fn second(alloc: Global, column: ColumnRef, pieces: &[Piece]) -> Result<(Selection, &[Piece]), Halt>
-    ensures { Gives (λ x. (selection_of x.0, x.1.now)) result (second_at column pieces.now) }
+fn second<'a>(
+    alloc: Global,
+    column: ColumnRef,
+    pieces: &'a [Piece],
+    into: &mut Statement,
+) -> Rest<'a>
+    ensures { Gives (λ rest. (statement_of into.new, rest.now)) result (selected (second_at column pieces.now)) }
 {
     if begins(pieces, COUNT) {
         let rest = expect(pieces, &COUNT_OF_ALL)?;
-        return groups(alloc, column, Total::Count, rest);
+        return groups(alloc, column, Total::Count, rest, into);
     }
     if begins(pieces, SUM) {
         let (summed, rest) = sum(pieces)?;
-        return groups(alloc, column, Total::Sum(summed), rest);
+        return groups(alloc, column, Total::Sum(summed), rest, into);
     }
     let first = Seq::from_slice(alloc, &[column])?;
     let (columns, rest) = items(first, pieces)?;
-    rows(alloc, Listed::Columns(columns), rest)
+    rows(alloc, Listed::Columns(columns), rest, into)
 }
 
 /// A SELECT that lists a column first.
 #[tactic(auto, unfolding(crate::specs::Reading::columns_at))]
-fn columns(alloc: Global, pieces: &[Piece]) -> Result<(Selection, &[Piece]), Halt>
-    ensures { Gives (λ x. (selection_of x.0, x.1.now)) result (columns_at pieces.now) }
+fn columns<'a>(alloc: Global, pieces: &'a [Piece], into: &mut Statement) -> Rest<'a>
+    ensures { Gives (λ rest. (statement_of into.new, rest.now)) result (selected (columns_at pieces.now)) }
 {
     let (column, rest) = column(pieces)?;
     if begins(rest, Token::Sign(Sign::Comma)) {
         let rest = expect(rest, &[Token::Sign(Sign::Comma)])?;
-        return second(alloc, column, rest);
+        return second(alloc, column, rest, into);
     }
     let only = Seq::from_slice(alloc, &[column])?;
-    rows(alloc, Listed::Columns(only), rest)
+    rows(alloc, Listed::Columns(only), rest, into)
 }
 
 /// What follows SELECT.
 #[tactic(auto, unfolding(crate::specs::Reading::selection_at))]
-pub fn query(alloc: Global, pieces: &[Piece]) -> Result<(Selection, &[Piece]), Halt>
-    ensures { Gives (λ x. (selection_of x.0, x.1.now)) result (selection_at pieces.now) }
+pub fn query<'a>(alloc: Global, pieces: &'a [Piece], into: &mut Statement) -> Rest<'a>
+    ensures { Gives (λ rest. (statement_of into.new, rest.now)) result (selected (selection_at pieces.now)) }
 {
     if begins(pieces, Token::Sign(Sign::Star)) {
         let rest = expect(pieces, &[Token::Sign(Sign::Star)])?;
-        return rows(alloc, Listed::All, rest);
+        return rows(alloc, Listed::All, rest, into);
     }
     if begins(pieces, SUM) {
         let (column, rest) = sum(pieces)?;
-        return rows(alloc, Listed::Sum(column), rest);
+        return rows(alloc, Listed::Sum(column), rest, into);
     }
     if begins(pieces, COUNT) {
-        return count(alloc, pieces);
+        return count(alloc, pieces, into);
     }
-    columns(alloc, pieces)
+    columns(alloc, pieces, into)
 }

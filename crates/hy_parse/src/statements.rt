@@ -4,13 +4,12 @@ ghost use Rattle.std.specs.Prelude.{◌≡◌, [], ◌∷◌};
 ghost use Rattle.hy_ast.specs.Trees as tree;
 ghost use Rattle.hy_ast.specs.Trees.{statement_of};
 ghost use Rattle.hy_token.specs.declared.Keyword.TheVariants as words;
-ghost use Rattle.hy_parse.specs.Reading.{Gives, piece_at, kind_of, column_def_at, create_at, insert_at, session_at, begin_at, alone_at, select_at};
-ghost use Rattle.hy_parse.specs.Reading.{savepoint_at, release_at, back_at, rollback_at};
-ghost use Rattle.hy_parse.specs.Reading.{update_at, delete_at, turns_at, schedule_at, body_at, read_statement};
+ghost use Rattle.hy_parse.specs.Reading.{Gives, piece_at, kind_of, column_def_at, create_at, insert_at, session_at, begin_at, alone_at, select_at, release_at};
+ghost use Rattle.hy_parse.specs.Reading.{savepoint_at, back_at, rollback_at, update_at, delete_at, turns_at, schedule_at, body_at, read_statement};
 
 use crate::Piece;
 use crate::conditions::where_clause;
-use crate::cursor::{Halt, begins, expect, flag, name, next_span};
+use crate::cursor::{Halt, Rest, begins, expect, flag, name, next_span};
 use crate::expressions::assignments;
 use crate::lists::{Item, items};
 use crate::queries::{from_table, query};
@@ -22,8 +21,6 @@ use std::alloc::Global;
 const CREATE: Token = Token::Reserved(Keyword::Create);
 
 const INSERT: Token = Token::Reserved(Keyword::Insert);
-
-const TO: Token = Token::Reserved(Keyword::To);
 
 const LEFT_PAREN: Token = Token::Sign(Sign::LeftParen);
 
@@ -79,44 +76,45 @@ impl Item for ColumnDef {
 
 /// CREATE TABLE.
 #[tactic(auto, unfolding(crate::specs::Reading::create_at))]
-fn create(alloc: Global, pieces: &[Piece]) -> Result<(Statement, &[Piece]), Halt>
-    ensures { Gives (λ x. (statement_of x.0, x.1.now)) result (create_at pieces.now) }
+fn create<'a>(alloc: Global, pieces: &'a [Piece], into: &mut Statement) -> Rest<'a>
+    ensures { Gives (λ rest. (statement_of into.new, rest.now)) result (create_at pieces.now) }
 {
     let rest = expect(pieces, &[CREATE, Token::Reserved(Keyword::Table)])?;
     let (table, rest) = name(rest)?;
     let rest = expect(rest, &[LEFT_PAREN])?;
     let (columns, rest) = items(Seq::new(alloc), rest)?;
-    let rest = expect(rest, &[RIGHT_PAREN])?;
-    Ok((Statement::Create { table, columns }, rest))
+    *into = Statement::Create { table, columns };
+    expect(rest, &[RIGHT_PAREN])
 }
 
 /// INSERT INTO.
 #[tactic(auto, unfolding(crate::specs::Reading::insert_at))]
-fn insert(alloc: Global, pieces: &[Piece]) -> Result<(Statement, &[Piece]), Halt>
-    ensures { Gives (λ x. (statement_of x.0, x.1.now)) result (insert_at pieces.now) }
+fn insert<'a>(alloc: Global, pieces: &'a [Piece], into: &mut Statement) -> Rest<'a>
+    ensures { Gives (λ rest. (statement_of into.new, rest.now)) result (insert_at pieces.now) }
 {
     let rest = expect(pieces, &[INSERT, Token::Reserved(Keyword::Into)])?;
     let (table, rest) = name(rest)?;
     let rest = expect(rest, &[Token::Reserved(Keyword::Values), LEFT_PAREN])?;
     let (values, rest) = items(Seq::new(alloc), rest)?;
-    let rest = expect(rest, &[RIGHT_PAREN])?;
-    Ok((Statement::Insert { table, values }, rest))
+    *into = Statement::Insert { table, values };
+    expect(rest, &[RIGHT_PAREN])
 }
 
 /// SESSION.
 #[tactic(auto, unfolding(crate::specs::Reading::session_at))]
-fn session(pieces: &[Piece]) -> Result<(Statement, &[Piece]), Halt>
-    ensures { Gives (λ x. (statement_of x.0, x.1.now)) result (session_at pieces.now) }
+fn session<'a>(pieces: &'a [Piece], into: &mut Statement) -> Rest<'a>
+    ensures { Gives (λ rest. (statement_of into.new, rest.now)) result (session_at pieces.now) }
 {
     let rest = expect(pieces, &[Token::Reserved(Keyword::Session)])?;
     let (name, rest) = name(rest)?;
-    Ok((Statement::Session { name }, rest))
+    *into = Statement::Session { name };
+    Ok(rest)
 }
 
 /// BEGIN.
 #[tactic(auto, unfolding(crate::specs::Reading::begin_at))]
-fn begin(pieces: &[Piece]) -> Result<(Statement, &[Piece]), Halt>
-    ensures { Gives (λ x. (statement_of x.0, x.1.now)) result (begin_at pieces.now) }
+fn begin<'a>(pieces: &'a [Piece], into: &mut Statement) -> Rest<'a>
+    ensures { Gives (λ rest. (statement_of into.new, rest.now)) result (begin_at pieces.now) }
 {
     let rest = expect(pieces, &[Token::Reserved(Keyword::Begin)])?;
     let (read_only, rest) = flag(
@@ -124,106 +122,111 @@ fn begin(pieces: &[Piece]) -> Result<(Statement, &[Piece]), Halt>
         Token::Reserved(Keyword::Read),
         &[Token::Reserved(Keyword::Only)],
     )?;
-    Ok((Statement::Begin { read_only }, rest))
+    *into = Statement::Begin { read_only };
+    Ok(rest)
 }
 
 /// COMMIT.
 #[tactic(auto, unfolding(crate::specs::Reading::alone_at))]
-fn commit(pieces: &[Piece]) -> Result<(Statement, &[Piece]), Halt>
-    ensures { Gives (λ x. (statement_of x.0, x.1.now)) result (alone_at words.Commit tree.Commit pieces.now) }
+fn commit<'a>(pieces: &'a [Piece], into: &mut Statement) -> Rest<'a>
+    ensures { Gives (λ rest. (statement_of into.new, rest.now)) result (alone_at words.Commit tree.Commit pieces.now) }
 {
-    let rest = expect(pieces, &[Token::Reserved(Keyword::Commit)])?;
-    Ok((Statement::Commit, rest))
+    *into = Statement::Commit;
+    expect(pieces, &[Token::Reserved(Keyword::Commit)])
 }
 
 /// END.
 #[tactic(auto, unfolding(crate::specs::Reading::alone_at))]
-fn end(pieces: &[Piece]) -> Result<(Statement, &[Piece]), Halt>
-    ensures { Gives (λ x. (statement_of x.0, x.1.now)) result (alone_at words.End tree.End pieces.now) }
+fn end<'a>(pieces: &'a [Piece], into: &mut Statement) -> Rest<'a>
+    ensures { Gives (λ rest. (statement_of into.new, rest.now)) result (alone_at words.End tree.End pieces.now) }
 {
-    let rest = expect(pieces, &[Token::Reserved(Keyword::End)])?;
-    Ok((Statement::End, rest))
+    *into = Statement::End;
+    expect(pieces, &[Token::Reserved(Keyword::End)])
 }
 
 /// SAVEPOINT.
 #[tactic(auto, unfolding(crate::specs::Reading::savepoint_at))]
-fn savepoint(pieces: &[Piece]) -> Result<(Statement, &[Piece]), Halt>
-    ensures { Gives (λ x. (statement_of x.0, x.1.now)) result (savepoint_at pieces.now) }
+fn savepoint<'a>(pieces: &'a [Piece], into: &mut Statement) -> Rest<'a>
+    ensures { Gives (λ rest. (statement_of into.new, rest.now)) result (savepoint_at pieces.now) }
 {
     let rest = expect(pieces, &[Token::Reserved(Keyword::Savepoint)])?;
     let (name, rest) = name(rest)?;
-    Ok((Statement::Savepoint { name }, rest))
+    *into = Statement::Savepoint { name };
+    Ok(rest)
 }
 
 /// RELEASE.
 #[tactic(auto, unfolding(crate::specs::Reading::release_at))]
-fn release(pieces: &[Piece]) -> Result<(Statement, &[Piece]), Halt>
-    ensures { Gives (λ x. (statement_of x.0, x.1.now)) result (release_at pieces.now) }
+fn release<'a>(pieces: &'a [Piece], into: &mut Statement) -> Rest<'a>
+    ensures { Gives (λ rest. (statement_of into.new, rest.now)) result (release_at pieces.now) }
 {
     let rest = expect(pieces, &[Token::Reserved(Keyword::Release)])?;
     let (name, rest) = name(rest)?;
-    Ok((Statement::Release { name }, rest))
+    *into = Statement::Release { name };
+    Ok(rest)
 }
 
 /// What follows ROLLBACK: TO and the name of a savepoint, or nothing.
 #[tactic(auto, unfolding(crate::specs::Reading::back_at))]
-fn back(pieces: &[Piece]) -> Result<(Statement, &[Piece]), Halt>
-    ensures { Gives (λ x. (statement_of x.0, x.1.now)) result (back_at pieces.now) }
+fn back<'a>(pieces: &'a [Piece], into: &mut Statement) -> Rest<'a>
+    ensures { Gives (λ rest. (statement_of into.new, rest.now)) result (back_at pieces.now) }
 {
-    if !begins(pieces, TO) {
-        return Ok((Statement::Rollback, pieces));
+    if !begins(pieces, Token::Reserved(Keyword::To)) {
+        *into = Statement::Rollback;
+        return Ok(pieces);
     }
-    let rest = expect(pieces, &[TO])?;
+    let rest = expect(pieces, &[Token::Reserved(Keyword::To)])?;
     let (name, rest) = name(rest)?;
-    Ok((Statement::RollbackTo { name }, rest))
+    *into = Statement::RollbackTo { name };
+    Ok(rest)
 }
 
 /// ROLLBACK, or ROLLBACK TO.
 #[tactic(auto, unfolding(crate::specs::Reading::rollback_at))]
-fn rollback(pieces: &[Piece]) -> Result<(Statement, &[Piece]), Halt>
-    ensures { Gives (λ x. (statement_of x.0, x.1.now)) result (rollback_at pieces.now) }
+fn rollback<'a>(pieces: &'a [Piece], into: &mut Statement) -> Rest<'a>
+    ensures { Gives (λ rest. (statement_of into.new, rest.now)) result (rollback_at pieces.now) }
 {
     let rest = expect(pieces, &[Token::Reserved(Keyword::Rollback)])?;
-    back(rest)
+    back(rest, into)
 }
 
 /// SELECT.
 #[tactic(auto, unfolding(crate::specs::Reading::select_at))]
-fn select(alloc: Global, pieces: &[Piece]) -> Result<(Statement, &[Piece]), Halt>
-    ensures { Gives (λ x. (statement_of x.0, x.1.now)) result (select_at pieces.now) }
+fn select<'a>(alloc: Global, pieces: &'a [Piece], into: &mut Statement) -> Rest<'a>
+    ensures { Gives (λ rest. (statement_of into.new, rest.now)) result (select_at pieces.now) }
 {
     let rest = expect(pieces, &[Token::Reserved(Keyword::Select)])?;
-    let (query, rest) = query(alloc, rest)?;
-    Ok((Statement::Select(query), rest))
+    query(alloc, rest, into)
 }
 
 /// UPDATE.
 #[tactic(auto, unfolding(crate::specs::Reading::update_at))]
-fn update(alloc: Global, pieces: &[Piece]) -> Result<(Statement, &[Piece]), Halt>
-    ensures { Gives (λ x. (statement_of x.0, x.1.now)) result (update_at pieces.now) }
+fn update<'a>(alloc: Global, pieces: &'a [Piece], into: &mut Statement) -> Rest<'a>
+    ensures { Gives (λ rest. (statement_of into.new, rest.now)) result (update_at pieces.now) }
 {
     let rest = expect(pieces, &[Token::Reserved(Keyword::Update)])?;
     let (table, rest) = name(rest)?;
     let rest = expect(rest, &[Token::Reserved(Keyword::Set)])?;
     let (sets, rest) = assignments(alloc, rest)?;
     let (condition, rest) = where_clause(alloc, rest)?;
-    let statement = Statement::Update {
+    *into = Statement::Update {
         table,
         sets,
         condition,
     };
-    Ok((statement, rest))
+    Ok(rest)
 }
 
 /// DELETE FROM.
 #[tactic(auto, unfolding(crate::specs::Reading::delete_at))]
-fn delete(alloc: Global, pieces: &[Piece]) -> Result<(Statement, &[Piece]), Halt>
-    ensures { Gives (λ x. (statement_of x.0, x.1.now)) result (delete_at pieces.now) }
+fn delete<'a>(alloc: Global, pieces: &'a [Piece], into: &mut Statement) -> Rest<'a>
+    ensures { Gives (λ rest. (statement_of into.new, rest.now)) result (delete_at pieces.now) }
 {
     let rest = expect(pieces, &[Token::Reserved(Keyword::Delete)])?;
     let (table, rest) = from_table(rest)?;
     let (condition, rest) = where_clause(alloc, rest)?;
-    Ok((Statement::Delete { table, condition }, rest))
+    *into = Statement::Delete { table, condition };
+    Ok(rest)
 }
 
 /// The turns of a schedule.
@@ -246,49 +249,45 @@ fn turns(alloc: Global, pieces: &[Piece]) -> Result<(Seq<Turn>, &[Piece]), Halt>
 
 /// SCHEDULE.
 #[tactic(auto, unfolding(crate::specs::Reading::schedule_at))]
-fn schedule(alloc: Global, pieces: &[Piece]) -> Result<(Statement, &[Piece]), Halt>
-    ensures { Gives (λ x. (statement_of x.0, x.1.now)) result (schedule_at pieces.now) }
+fn schedule<'a>(alloc: Global, pieces: &'a [Piece], into: &mut Statement) -> Rest<'a>
+    ensures { Gives (λ rest. (statement_of into.new, rest.now)) result (schedule_at pieces.now) }
 {
     let rest = expect(pieces, &[Token::Reserved(Keyword::Schedule)])?;
     let (turns, rest) = turns(alloc, rest)?;
-    Ok((Statement::Schedule { turns }, rest))
+    *into = Statement::Schedule { turns };
+    Ok(rest)
 }
 
 /// A statement up to its `;`.
 #[tactic(auto, unfolding(crate::specs::Reading::body_at))]
-fn body(alloc: Global, pieces: &[Piece]) -> Result<(Statement, &[Piece]), Halt>
-    ensures { Gives (λ x. (statement_of x.0, x.1.now)) result (body_at pieces.now) }
+fn body<'a>(alloc: Global, pieces: &'a [Piece], into: &mut Statement) -> Rest<'a>
+    ensures { Gives (λ rest. (statement_of into.new, rest.now)) result (body_at pieces.now) }
 {
     let [piece, ..] = pieces else {
-        return end(pieces);
+        return end(pieces, into);
     };
     match piece.token {
-        Token::Reserved(Keyword::Create) => create(alloc, pieces),
-        Token::Reserved(Keyword::Insert) => insert(alloc, pieces),
-        Token::Reserved(Keyword::Session) => session(pieces),
-        Token::Reserved(Keyword::Begin) => begin(pieces),
-        Token::Reserved(Keyword::Commit) => commit(pieces),
-        Token::Reserved(Keyword::Rollback) => rollback(pieces),
-        Token::Reserved(Keyword::Select) => select(alloc, pieces),
-        Token::Reserved(Keyword::Update) => update(alloc, pieces),
-        Token::Reserved(Keyword::Delete) => delete(alloc, pieces),
-        Token::Reserved(Keyword::Schedule) => schedule(alloc, pieces),
-        Token::Reserved(Keyword::Savepoint) => savepoint(pieces),
-        Token::Reserved(Keyword::Release) => release(pieces),
-        _ => end(pieces),
+        Token::Reserved(Keyword::Create) => create(alloc, pieces, into),
+        Token::Reserved(Keyword::Insert) => insert(alloc, pieces, into),
+        Token::Reserved(Keyword::Session) => session(pieces, into),
+        Token::Reserved(Keyword::Begin) => begin(pieces, into),
+        Token::Reserved(Keyword::Commit) => commit(pieces, into),
+        Token::Reserved(Keyword::Rollback) => rollback(pieces, into),
+        Token::Reserved(Keyword::Select) => select(alloc, pieces, into),
+        Token::Reserved(Keyword::Update) => update(alloc, pieces, into),
+        Token::Reserved(Keyword::Delete) => delete(alloc, pieces, into),
+        Token::Reserved(Keyword::Schedule) => schedule(alloc, pieces, into),
+        Token::Reserved(Keyword::Savepoint) => savepoint(pieces, into),
+        Token::Reserved(Keyword::Release) => release(pieces, into),
+        _ => end(pieces, into),
     }
 }
 
 /// Puts a statement with its `;` where the caller has room for it, since it is large to hand on.
 #[tactic(auto, unfolding(crate::specs::Reading::read_statement))]
-pub fn statement<'a>(
-    alloc: Global,
-    pieces: &'a [Piece],
-    into: &mut Statement,
-) -> Result<&'a [Piece], Halt<'a>>
+pub fn statement<'a>(alloc: Global, pieces: &'a [Piece], into: &mut Statement) -> Rest<'a>
     ensures { Gives (λ rest. (statement_of into.new, rest.now)) result (read_statement pieces.now) }
 {
-    let (statement, rest) = body(alloc, pieces)?;
-    *into = statement;
+    let rest = body(alloc, pieces, into)?;
     expect(rest, &[Token::Sign(Sign::Semicolon)])
 }

@@ -1,4 +1,3 @@
-pub mod Utf8
 pub mod Causes
 pub mod NumbersApart
 pub mod Tables

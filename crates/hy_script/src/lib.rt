@@ -1,13 +1,13 @@
 //! Scripts: from bytes to tables, first rows, sessions and a schedule, or to the first refusal.
 #![tactic(auto)]
 
-ghost use Rattle.std.specs.Prelude.{◌≡◌, ℕ, List, Result, MatchBool};
-ghost use Rattle.std.specs.Str.{IsUtf8};
+ghost use Rattle.std.specs.Prelude.{◌≡◌, ℕ, List, Result};
 ghost use Rattle.hy_script.specs.declared.Options.{Options};
 ghost use Rattle.hy_script.specs.declared.Script.{Script};
 ghost use Rattle.hy_script.specs.declared.Refused.{Refused};
 ghost use Rattle.hy_script.specs.Reading.{Reads, Answers, Says, error_of_halt};
 
+use hy_ast::Statement;
 use hy_bound::{Schedule, StoredRows, Txns};
 use hy_limits::MOST_BYTES;
 use hy_schema::Catalog;
@@ -116,20 +116,13 @@ pub fn read(alloc: Global, bytes: &[u8], options: &Options) -> Result<Script, Re
             code: Code::TooLong,
         }));
     }
-    if !is_text(bytes) {
+    if !simdutf8::is_utf8(bytes) {
         return Err(ReadError::Refused(Refused {
             line: 1,
             code: Code::NotUtf8,
         }));
     }
     statements(alloc, bytes, options)
-}
-
-/// Whether bytes are UTF-8.
-fn is_text(bytes: &[u8]) -> bool
-    ensures { MatchBool result (IsUtf8 bytes.now) (IsUtf8 bytes.now → ⊥) }
-{
-    str::from_utf8(bytes).is_ok()
 }
 
 /// Reads the statements of a script.
@@ -139,9 +132,10 @@ fn statements(alloc: Global, script: &[u8], options: &Options) -> Result<Script,
     let input = Input { script, options };
     let mut sofar = SoFar::new(alloc);
     let mut room = Vec::new(alloc);
+    let mut ast = Statement::End;
     let mut at = 0;
     loop {
-        match sofar.step(alloc, &input, at, &mut room) {
+        match sofar.step(alloc, &input, at, &mut room, &mut ast) {
             Ok(Step::GoOn(end)) => at = end,
             Ok(Step::End) => return Ok(sofar.into_script(alloc, options)?),
             Err(halt) => return Err(error_of(script, halt)),

@@ -183,6 +183,7 @@ impl SoFar {
         input: &Input,
         first: Piece,
         room: &mut Vec<Piece>,
+        ast: &mut Statement,
     ) -> Result<Step, Halt>
         requires in_range { first.span.start ≤ length input.now.script.now }
         requires found { token_at input.now.script.now first.span.start ≡ Ok (first.token, first.span) }
@@ -190,22 +191,22 @@ impl SoFar {
             (parsed input.now.script.now first.span.start)) input.now.options.now self.new }
         ensures goes { IfOk result (λ step. Goes first.span.start (length input.now.script.now) step) }
     {
-        let mut ast = Statement::End;
-        match parse(alloc, input.script, first, room, &mut ast) {
-            Ok(end) => self.accept(alloc, input, &ast, first.span.start, end),
+        match parse(alloc, input.script, first, room, ast) {
+            Ok(end) => self.accept(alloc, input, ast, first.span.start, end),
             Err(ParseError::Syntax { at }) => Err(refused(Code::Syntax, at)),
             Err(ParseError::BadToken { at }) => Err(refused(Code::BadToken, at)),
             Err(ParseError::OutOfMemory) => Err(Halt::OutOfMemory),
         }
     }
 
-    /// Reads the statement that stands at an offset.
+    /// Reads the statement that stands at an offset. What `room` and `ast` hold doesn't matter: they serve for one after another.
     pub fn step(
         &mut self,
         alloc: Global,
         input: &Input,
         at: usize,
         room: &mut Vec<Piece>,
+        ast: &mut Statement,
     ) -> Result<Step, Halt>
         requires { at ≤ length input.now.script.now }
         ensures comes { Comes result (next_at input.now.script.now input.now.options.now self.old at) input.now.options.now self.new }
@@ -216,7 +217,7 @@ impl SoFar {
             Ok((Token::Reserved(word), span)) => {
                 if self.section.may_stand(word) {
                     let token = Token::Reserved(word);
-                    self.statement_at(alloc, input, Piece { token, span }, room)
+                    self.statement_at(alloc, input, Piece { token, span }, room, ast)
                 } else {
                     Err(refused(Code::Syntax, span.start))
                 }

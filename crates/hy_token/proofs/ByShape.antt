@@ -14,39 +14,42 @@ use Rattle.hy_token.specs.declared.Keyword.TheVariants as keyword
 use Rattle.hy_token.proofs.Progress.{find_passes}
 
 -- a reserved word in small letters
-abbrev small : Keyword → List ℕ
-small k = str_to_ascii_lowercase (word_spelling k)
+abbrev pub low_of : Keyword → List ℕ
+low_of k = str_to_ascii_lowercase (word_spelling k)
 
 -- the first of some reserved words that these small letters spell
-abbrev among : List Keyword → List ℕ → Option Keyword
-among ks low = find (λ k. bytes_eq (small k) low) ks
+abbrev pub among : List Keyword → List ℕ → Option Keyword
+among ks low = find (λ k. bytes_eq (low_of k) low) ks
 
 -- the reserved word that a word in small letters can be, where it is that one
 abbrev pub confirmed : Option Keyword → List ℕ → Option Keyword
 confirmed None low = None
-confirmed (Some k) low = then_some (bytes_eq (small k) low) k
+confirmed (Some k) low = then_some (bytes_eq (low_of k) low) k
 
 abbrev by_shape : List ℕ → Option Keyword
 by_shape low = confirmed (candidate (length low) (get_or low 0 0) (get_or low 1 0)) low
 
-shape_found : (k : Keyword) → by_shape (small k) ≡ Some k
+shape_found : (k : Keyword) → by_shape (low_of k) ≡ Some k
 shape_found keyword.And = refl
 shape_found _ = refl
 
-spelled : (low : List ℕ) (found : Option Keyword) → IfSome found (λ k. bytes_eq (small k) low ≡ true) → IfSome found (λ k. small k ≡ low)
+spelled : (low : List ℕ) (found : Option Keyword) → IfSome found (λ k. bytes_eq (low_of k) low ≡ true) → IfSome found (λ k. low_of k ≡ low)
 spelled low None passes = tt
-spelled low (Some k) passes = (bytes_eq-Decides (small k) low).0 passes
+spelled low (Some k) passes = (bytes_eq-Decides (low_of k) low).0 passes
 
-tested : (low : List ℕ) (k : Keyword) (test : Bool) → bytes_eq (small k) low ≡ test → IfSome (then_some test k) (λ k. small k ≡ low)
-tested low k true h = (bytes_eq-Decides (small k) low).0 h
+tested : (low : List ℕ) (k : Keyword) (test : Bool) → bytes_eq (low_of k) low ≡ test → IfSome (then_some test k) (λ k. low_of k ≡ low)
+tested low k true h = (bytes_eq-Decides (low_of k) low).0 h
 tested low k false h = tt
 
-confirmed_spelled : (low : List ℕ) (found : Option Keyword) → IfSome (confirmed found low) (λ k. small k ≡ low)
+confirmed_spelled : (low : List ℕ) (found : Option Keyword) → IfSome (confirmed found low) (λ k. low_of k ≡ low)
 confirmed_spelled low None = tt
-confirmed_spelled low (Some k) = tested low k (bytes_eq (small k) low) refl
+confirmed_spelled low (Some k) = tested low k (bytes_eq (low_of k) low) refl
+
+pub among_spelled : (low : List ℕ) → IfSome (among keywords low) (λ k. low_of k ≡ low)
+among_spelled low = spelled low _ (find_passes (λ k. bytes_eq (low_of k) low) keywords)
 
 -- two ways to look that both find each word by its spelling find the same
-same_found : {X L : Type 0} (A B : L → Option X) (spell : X → L) → ((x : X) → A (spell x) ≡ Some x) → ((x : X) → B (spell x) ≡ Some x) → (low : L) (a b : Option X) → A low ≡ a → B low ≡ b
+pub same_found : {X L : Type 0} (A B : L → Option X) (spell : X → L) → ((x : X) → A (spell x) ≡ Some x) → ((x : X) → B (spell x) ≡ Some x) → (low : L) (a b : Option X) → A low ≡ a → B low ≡ b
     → IfSome a (λ x. spell x ≡ low) → IfSome b (λ x. spell x ≡ low) → a ≡ b
 same_found A B spell finds_a finds_b low None None is_a is_b of_a of_b = refl
 same_found A B spell finds_a finds_b low a (Some y) is_a is_b of_a of_b = sym is_a ∙ ap A (sym of_b) ∙ finds_a y
@@ -55,9 +58,9 @@ same_found A B spell finds_a finds_b low (Some x) b is_a is_b of_a of_b = sym (f
 by_shape_is : (low : List ℕ) → by_shape low ≡ among keywords low
 unfolding keyword_of
 by_shape_is low =
-    same_found by_shape (among keywords) small shape_found (λ k. word_found k) low (by_shape low) (among keywords low) refl refl
+    same_found by_shape (among keywords) low_of shape_found (λ k. word_found k) low (by_shape low) (among keywords low) refl refl
     (confirmed_spelled low (candidate (length low) (get_or low 0 0) (get_or low 1 0)))
-    (spelled low _ (find_passes (λ k. bytes_eq (small k) low) keywords))
+    (among_spelled low)
 
 by_letters : (word : List ℕ) → 2 ≤ length word → confirmed (candidate (length word) (to_ascii_lowercase (get_or word 0 0)) (to_ascii_lowercase (get_or word 1 0))) (str_to_ascii_lowercase word) ≡ keyword_of word
 unfolding keyword_of

@@ -5,3 +5,4 @@ pub mod RunSteps
 pub mod Texts
 pub mod FirstTwo
 pub mod WordBytes
+pub mod Letters

@@ -2,7 +2,7 @@
 use Rattle.std.specs.Prelude.{ℕ, ◌+◌, Bool, true, false, not, ◌||◌, ◌==◌, nat_lt, if◌then◌else◌, Option, Some, None, List, [], ◌∷◌, nat_eq, codes}
 use Rattle.std.specs.List.{prefix_len, starts_with}
 use Rattle.std.specs.Option.{option_map}
-use Rattle.std.specs.Char.{is_ascii_alphabetic, is_ascii_alphanumeric, is_ascii_digit}
+use Rattle.std.specs.Char.{is_ascii_alphabetic, is_ascii_alphanumeric, is_ascii_digit, to_ascii_lowercase}
 
 -- a space, a tab, a carriage return or a line feed
 abbrev pub is_space : ℕ → Bool
@@ -41,6 +41,10 @@ begins_word b = is_ascii_alphabetic b || b == 95
 -- what a word goes on with: an ASCII letter, a digit or `_`
 abbrev pub continues_word : ℕ → Bool
 continues_word b = is_ascii_alphanumeric b || b == 95
+
+-- a byte that a word goes on with in lower case, and 0 for any other
+abbrev pub small : ℕ → ℕ
+small b = if continues_word b then to_ascii_lowercase b else 0
 
 -- the longest run of letters, digits and `_`
 abbrev pub word_len : List ℕ → ℕ

@@ -3,7 +3,7 @@
 ghost use Rattle.std.specs.Prelude.{◌≡◌};
 ghost use Rattle.std.specs.Char.{to_ascii_lowercase};
 ghost use Rattle.hy_token.specs.Keyword.{word_spelling, same_but_case, keyword_of};
-ghost use Rattle.hy_token.specs.Letters.{candidate};
+ghost use Rattle.hy_token.specs.Letters.{candidate, reserved};
 
 use crate::Keyword;
 
@@ -124,5 +124,50 @@ impl Keyword {
         };
         let keyword = candidate(word.len(), *first, *second)?;
         is_same_but_case(keyword.spelling().as_bytes(), word).then_some(keyword)
+    }
+}
+
+/// The reserved word of this many letters, at most eight, whose letters in lower case are this number: 0x61 is `a`.
+pub fn reserved(len: usize, letters: u64) -> Option<Keyword>
+    ensures { result ≡ reserved len letters }
+{
+    match (len, letters) {
+        (2, 0x62_79) => Some(Keyword::By),
+        (2, 0x69_73) => Some(Keyword::Is),
+        (2, 0x6f_6e) => Some(Keyword::On),
+        (2, 0x6f_72) => Some(Keyword::Or),
+        (2, 0x74_6f) => Some(Keyword::To),
+        (3, 0x61_6e_64) => Some(Keyword::And),
+        (3, 0x65_6e_64) => Some(Keyword::End),
+        (3, 0x69_6e_74) => Some(Keyword::Int),
+        (3, 0x6b_65_79) => Some(Keyword::Key),
+        (3, 0x6e_6f_74) => Some(Keyword::Not),
+        (3, 0x73_65_74) => Some(Keyword::Set),
+        (3, 0x73_75_6d) => Some(Keyword::Sum),
+        (4, 0x66_72_6f_6d) => Some(Keyword::From),
+        (4, 0x69_6e_74_6f) => Some(Keyword::Into),
+        (4, 0x6a_6f_69_6e) => Some(Keyword::Join),
+        (4, 0x6e_75_6c_6c) => Some(Keyword::Null),
+        (4, 0x6f_6e_6c_79) => Some(Keyword::Only),
+        (4, 0x72_65_61_64) => Some(Keyword::Read),
+        (4, 0x74_65_78_74) => Some(Keyword::Text),
+        (5, 0x62_65_67_69_6e) => Some(Keyword::Begin),
+        (5, 0x63_6f_75_6e_74) => Some(Keyword::Count),
+        (5, 0x67_72_6f_75_70) => Some(Keyword::Group),
+        (5, 0x74_61_62_6c_65) => Some(Keyword::Table),
+        (5, 0x77_68_65_72_65) => Some(Keyword::Where),
+        (6, 0x63_6f_6d_6d_69_74) => Some(Keyword::Commit),
+        (6, 0x63_72_65_61_74_65) => Some(Keyword::Create),
+        (6, 0x64_65_6c_65_74_65) => Some(Keyword::Delete),
+        (6, 0x69_6e_73_65_72_74) => Some(Keyword::Insert),
+        (6, 0x73_65_6c_65_63_74) => Some(Keyword::Select),
+        (6, 0x75_70_64_61_74_65) => Some(Keyword::Update),
+        (6, 0x76_61_6c_75_65_73) => Some(Keyword::Values),
+        (7, 0x70_72_69_6d_61_72_79) => Some(Keyword::Primary),
+        (7, 0x72_65_6c_65_61_73_65) => Some(Keyword::Release),
+        (7, 0x73_65_73_73_69_6f_6e) => Some(Keyword::Session),
+        (8, 0x72_6f_6c_6c_62_61_63_6b) => Some(Keyword::Rollback),
+        (8, 0x73_63_68_65_64_75_6c_65) => Some(Keyword::Schedule),
+        _ => None,
     }
 }

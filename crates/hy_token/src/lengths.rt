@@ -1,7 +1,8 @@
 // How many bytes of each kind stand first.
 
 ghost use Rattle.std.specs.Prelude.{◌≡◌, ◌≤◌, length, IfSome};
-ghost use Rattle.hy_token.specs.Lengths.{is_space, is_within_line, piece_len, begins_word, continues_word, blank_len, word_len, digits_len, text_rest_len};
+ghost use Rattle.hy_token.specs.Lengths.{is_space, is_within_line, piece_len, begins_word, small, blank_len, digits_len, text_rest_len};
+ghost use Rattle.hy_token.specs.Letters.{word_on};
 ghost use Rattle.std.specs.List.{prefix_len};
 
 fn is_space(byte: u8) -> bool
@@ -15,37 +16,6 @@ pub fn begins_word(byte: u8) -> bool
     ensures { result ≡ begins_word byte }
 {
     byte.is_ascii_alphabetic() || byte == b'_'
-}
-
-// For each byte 1 if a word goes on with it.
-const CONTINUES_WORD: [u8; 256] = [
-    0, 0, 0, 0, 0, 0, 0, 0, 0, 0, 0, 0, 0, 0, 0, 0, 0, 0, 0, 0, 0, 0, 0, 0, 0, 0, 0, 0, 0, 0, 0, 0,
-    0, 0, 0, 0, 0, 0, 0, 0, 0, 0, 0, 0, 0, 0, 0, 0, 1, 1, 1, 1, 1, 1, 1, 1, 1, 1, 0, 0, 0, 0, 0, 0,
-    0, 1, 1, 1, 1, 1, 1, 1, 1, 1, 1, 1, 1, 1, 1, 1, 1, 1, 1, 1, 1, 1, 1, 1, 1, 1, 1, 0, 0, 0, 0, 1,
-    0, 1, 1, 1, 1, 1, 1, 1, 1, 1, 1, 1, 1, 1, 1, 1, 1, 1, 1, 1, 1, 1, 1, 1, 1, 1, 1, 0, 0, 0, 0, 0,
-    0, 0, 0, 0, 0, 0, 0, 0, 0, 0, 0, 0, 0, 0, 0, 0, 0, 0, 0, 0, 0, 0, 0, 0, 0, 0, 0, 0, 0, 0, 0, 0,
-    0, 0, 0, 0, 0, 0, 0, 0, 0, 0, 0, 0, 0, 0, 0, 0, 0, 0, 0, 0, 0, 0, 0, 0, 0, 0, 0, 0, 0, 0, 0, 0,
-    0, 0, 0, 0, 0, 0, 0, 0, 0, 0, 0, 0, 0, 0, 0, 0, 0, 0, 0, 0, 0, 0, 0, 0, 0, 0, 0, 0, 0, 0, 0, 0,
-    0, 0, 0, 0, 0, 0, 0, 0, 0, 0, 0, 0, 0, 0, 0, 0, 0, 0, 0, 0, 0, 0, 0, 0, 0, 0, 0, 0, 0, 0, 0, 0,
-];
-
-/// What a word goes on with.
-fn continues_word(byte: u8) -> bool
-    ensures { result ≡ continues_word byte }
-{
-    CONTINUES_WORD[byte as usize] == 1
-}
-
-/// A word's bytes.
-#[tactic(auto, using(crate::proofs::RunSteps::run_steps))]
-pub fn word_len(bytes: &[u8]) -> usize
-    ensures { result ≡ word_len bytes.now }
-{
-    let mut len = 0;
-    while len < bytes.len() && continues_word(bytes[len]) {
-        len += 1;
-    }
-    len
 }
 
 /// The bytes of an integer.
@@ -123,4 +93,42 @@ pub fn text_rest_len(bytes: &[u8]) -> Option<usize>
         }
     }
     None
+}
+
+// For each byte that a word goes on with the byte in lower case, and else 0.
+const SMALL: [u8; 256] = [
+    0, 0, 0, 0, 0, 0, 0, 0, 0, 0, 0, 0, 0, 0, 0, 0, 0, 0, 0, 0, 0, 0, 0, 0, 0, 0, 0, 0, 0, 0, 0, 0,
+    0, 0, 0, 0, 0, 0, 0, 0, 0, 0, 0, 0, 0, 0, 0, 0, 48, 49, 50, 51, 52, 53, 54, 55, 56, 57, 0, 0,
+    0, 0, 0, 0, 0, 97, 98, 99, 100, 101, 102, 103, 104, 105, 106, 107, 108, 109, 110, 111, 112,
+    113, 114, 115, 116, 117, 118, 119, 120, 121, 122, 0, 0, 0, 0, 95, 0, 97, 98, 99, 100, 101, 102,
+    103, 104, 105, 106, 107, 108, 109, 110, 111, 112, 113, 114, 115, 116, 117, 118, 119, 120, 121,
+    122, 0, 0, 0, 0, 0, 0, 0, 0, 0, 0, 0, 0, 0, 0, 0, 0, 0, 0, 0, 0, 0, 0, 0, 0, 0, 0, 0, 0, 0, 0,
+    0, 0, 0, 0, 0, 0, 0, 0, 0, 0, 0, 0, 0, 0, 0, 0, 0, 0, 0, 0, 0, 0, 0, 0, 0, 0, 0, 0, 0, 0, 0, 0,
+    0, 0, 0, 0, 0, 0, 0, 0, 0, 0, 0, 0, 0, 0, 0, 0, 0, 0, 0, 0, 0, 0, 0, 0, 0, 0, 0, 0, 0, 0, 0, 0,
+    0, 0, 0, 0, 0, 0, 0, 0, 0, 0, 0, 0, 0, 0, 0, 0, 0, 0, 0, 0, 0, 0, 0, 0, 0, 0, 0, 0, 0, 0, 0, 0,
+    0, 0, 0, 0, 0, 0, 0,
+];
+
+/// A byte that a word goes on with in lower case, and 0 for any other.
+fn small(byte: u8) -> u8
+    ensures { result ≡ small byte }
+{
+    SMALL[byte as usize]
+}
+
+/// A word's bytes, and the number that they are in lower case, the first weighing most: up to eight bytes are told by it.
+pub fn word_with_letters(bytes: &[u8]) -> (usize, u64)
+    ensures { result ≡ word_on 0 0 bytes.now }
+{
+    let mut len = 0;
+    let mut letters: u64 = 0;
+    while len < bytes.len() {
+        let small = small(bytes[len]);
+        if small == 0 {
+            return (len, letters);
+        }
+        letters = letters.wrapping_mul(256).wrapping_add(u64::from(small));
+        len += 1;
+    }
+    (len, letters)
 }

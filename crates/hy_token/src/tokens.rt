@@ -1,26 +1,42 @@
 // The token that stands first.
 
-ghost use Rattle.std.specs.Prelude.{◌≡◌, ◌<◌, ◌≤◌, length};
+ghost use Rattle.std.specs.Prelude.{◌≡◌, ◌<◌, ◌≤◌, length, take};
+ghost use Rattle.hy_token.specs.Keyword.{keyword_of};
+ghost use Rattle.hy_token.specs.Lengths.{word_len};
 ghost use Rattle.hy_token.specs.Token.{first_word, first_text, first_sign, first_token, token_at};
 
-use crate::lengths::{begins_word, blank_len, digits_len, text_rest_len, word_len};
+use crate::keywords::reserved;
+use crate::lengths::{begins_word, blank_len, digits_len, text_rest_len, word_with_letters};
 use crate::{Bad, Keyword, Sign, Span, Token};
 
 // A word of more bytes is no token.
 const LONGEST_WORD: usize = 32;
 
+// As many letters are told by a number of 64 bits.
+const MOST_LETTERS: usize = 8;
+
+/// How many bytes the word has that stands first, and the reserved word that it is, if it is one.
+fn first_keyword(bytes: &[u8]) -> (usize, Option<Keyword>)
+    ensures len { result.0 ≡ word_len bytes.now }
+    ensures keyword { result.1 ≡ keyword_of (take (word_len bytes.now) bytes.now) }
+{
+    let (len, letters) = word_with_letters(bytes);
+    if len > MOST_LETTERS {
+        (len, Keyword::from_word(&bytes[..len]))
+    } else {
+        (len, reserved(len, letters))
+    }
+}
+
 /// The word that stands first, and how many bytes it takes.
 fn first_word(bytes: &[u8]) -> Option<(Token, usize)>
     ensures { result ≡ first_word bytes.now }
 {
-    let len = word_len(bytes);
+    let (len, keyword) = first_keyword(bytes);
     if len > LONGEST_WORD {
         return None;
     }
-    Some((
-        Keyword::from_word(&bytes[..len]).map_or(Token::Name, Token::Reserved),
-        len,
-    ))
+    Some((keyword.map_or(Token::Name, Token::Reserved), len))
 }
 
 /// The text whose opening quote stands first.

@@ -1,7 +1,7 @@
 use Rattle.std.proofs.Common.{◌≡◌, ◌*◌, ◌^◌, ◌≤◌, drop}
 use Rattle.hy_bind.specs.declared.scope.Search.TheVariants.{Nowhere}
 use Rattle.hy_bind.specs.Scope.{searched}
-use Rattle.hy_bind.proofs.scope.resolve.Given as goal
+use Rattle.hy_bind.proofs.scope.resolve_among.Given as goal
 
 -- the tables that are left complete what was found so far
 abbrev pub invariant-loop-table : goal.invariant-loop-table

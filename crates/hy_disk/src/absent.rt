@@ -37,6 +37,10 @@ impl Disk for NoDisk {
         Err(Failed)
     }
 
+    fn take(&mut self) -> NoDisk {
+        NoDisk
+    }
+
     ghost held_is_image = { λ s bytes is. absurd (none-some bytes is) };
 
     ghost image_counts = { λ s time image le left. left };

@@ -7,6 +7,7 @@ use crate::handle::{FileFault, Handle};
 use crate::{Disk, DiskError};
 use hy_outside::Failed;
 use std::marker::Model;
+use std::mem;
 
 /// The name of a log's file where none is given, in the folder that the process runs in.
 const NAME: &str = "hy.log";
@@ -129,6 +130,12 @@ impl Disk for FileDisk<'_> {
             return Err(Failed);
         }
         Ok(())
+    }
+
+    // The file stays open in the disk that is taken: what is left holds none.
+    fn take(&mut self) -> Self {
+        let left = FileDisk::named(self.rt, self.name());
+        mem::replace(self, left)
     }
 
     ghost held_is_image = { λ s bytes is. absurd (none-some bytes is) };

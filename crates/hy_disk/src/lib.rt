@@ -41,7 +41,7 @@ impl From<AllocError> for DiskError {
 }
 
 /// Bytes that outlive a crash. Offsets and counts are in bytes.
-pub trait Disk {
+pub trait Disk: Drop {
     // What a read gives, where the disk tells it. Where it does not, nothing is claimed of the bytes.
     ghost held: { Self → Option (List ℕ) };
 
@@ -101,6 +101,10 @@ pub trait Disk {
         ensures fault { OnErr result (Rose (faults self.old) (faults self.new)) }
         ensures never_fell { faults self.old ≤ faults self.new }
         ensures in_range { faults self.new < 2 ^ 64 };
+
+    /// Takes the disk out of its place, as `mem::take` does. What is left there is a disk of which nothing is known.
+    fn take(&mut self) -> Self
+        ensures { result ≡ self.old };
 
     // What a read gives is an image.
     ghost held_is_image: { (disk : Self) (bytes : List ℕ) → held disk ≡ Some bytes → image disk bytes };

@@ -14,6 +14,7 @@ use crate::{Disk, DiskError};
 use hy_outside::Failed;
 use std::alloc::{AllocError, Global};
 use std::marker::Model;
+use std::mem;
 
 /// What begins a moment.
 #[derive(Drop)]
@@ -79,6 +80,28 @@ impl MemDisk {
             calls: 0,
             faults: 0,
         })
+    }
+
+    /// A disk of no bytes, of which no call fails.
+    fn empty(alloc: Global) -> MemDisk
+        ensures { result ≡ record {
+          present = record { durable = []; pending = [] };
+          earlier = [];
+          failing = [];
+          calls = 0;
+          faults = 0;
+        } }
+    {
+        MemDisk {
+            alloc,
+            start: Vec::new(alloc),
+            bytes: Vec::new(alloc),
+            events: Vec::new(alloc),
+            is_pending: false,
+            fails: Vec::new(alloc),
+            calls: 0,
+            faults: 0,
+        }
     }
 
     /// The bytes that a read gives.
@@ -208,6 +231,11 @@ impl Disk for MemDisk {
             self.is_pending = false;
         }
         Ok(())
+    }
+
+    fn take(&mut self) -> MemDisk {
+        let left = MemDisk::empty(self.alloc);
+        mem::replace(self, left)
     }
 
     ghost held_is_image = { λ s bytes is. told_is_left s bytes is };

@@ -15,7 +15,7 @@ use Rattle.hy_disk.specs.declared.DiskError.TheVariants as disks
 use Rattle.hy_redo.specs.declared.errors.AppendError.{AppendError}
 use Rattle.hy_redo.specs.declared.errors.AppendError.TheVariants as appending
 use Rattle.hy_redo.specs.Errors.{as_append}
-use Rattle.hy_redo.specs.Logs.{header, gated, closing, log_of, OpenWith, Leads, IsLogOf, IsWholeLog}
+use Rattle.hy_redo.specs.Logs.{header, gated, closing, log_of, OpenWith, Leads, IsLogOf, IsWholeLog, IsBatchOf}
 use Rattle.hy_redo.specs.Crashes.{next_gate, AreLogsOf, AreClosedAt, IsBeforeOrAfter, Appends}
 use Rattle.hy_redo.proofs.LogFronts.{front_of, leads_all}
 use Rattle.hy_redo.proofs.TouchedBytes.{touched_behind, touched_at, written_behind, written_at}
@@ -218,6 +218,15 @@ module _ {D : Type 0} (held : D → Option (List ℕ)) (clock : D → ℕ) (imag
         let old = told_before (λ bytes. overwritten bytes gate (1 ∷ [])) (held between) bytes (sym written ∙ durable bytes now) in
         subst (IsLogOf (entries ++ more) (next_gate gate more)) old.2
         (gate_opened entries more gate old.0 some has (staged old.0 (held_is_image between old.0 old.1)))
+
+-- what is said of bytes and a gate holds of the batch and the log that are seen as these
+pub seen_moments : {D : Type 0} (clock : D → ℕ) (images : List ℕ → Type 0) (image_since : D → ℕ → List ℕ → Type 0) (before after : D) {bytes batch : List ℕ}
+    {gate log : ℕ} → bytes ≡ batch → gate ≡ log
+    → ((entries more : List Entry) → IsBatchOf more bytes → AreLogsOf images entries gate → Appends clock image_since entries more gate before after)
+    → (entries more : List Entry) → IsBatchOf more batch → AreLogsOf images entries log → Appends clock image_since entries more log before after
+seen_moments clock images image_since before after {bytes} {batch} {gate} {log} same_bytes same_gate moments entries more is_batch =
+    subst (λ (n : ℕ). AreLogsOf images entries n → Appends clock image_since entries more n before after) same_gate
+    (moments entries more (subst (λ (bs : List ℕ). IsBatchOf more bs) (sym same_bytes) is_batch))
 
 -- an append that tells of want of memory passes on that of the disk
 pub memory_only : {T : Type 0} (result : Result T AppendError) (e : DiskError) (out : AppendError) → result ≡ Err out → out ≡ as_append e

@@ -1,6 +1,6 @@
 -- The bytes of a log.
 use Rattle.std.specs.Prelude.{◌≡◌, ℕ, ◌+◌, ◌<◌, List, [], ◌∷◌, ◌++◌, Option, Some, length, codes}
-use Rattle.std.specs.List.{flat_map}
+use Rattle.std.specs.List.{flat_map, AllByRecursion}
 use Rattle.hy_journal.specs.declared.Entry.{Entry}
 use Rattle.hy_log_record.specs.Bytes.{record_of, HasBytes}
 
@@ -19,6 +19,12 @@ log_of entries = header ++ (flat_map gated entries ++ 0 ∷ [])
 abbrev pub closing : List Entry → List ℕ
 closing [] = 0 ∷ []
 closing (entry ∷ others) = (record_of entry ++ flat_map gated others) ++ 0 ∷ []
+
+-- the bytes are a batch of these entries, of which there are some: what stands behind the gate of the first
+pub record IsBatchOf (more : List Entry) (batch : List ℕ) : Type 0 where
+  pub some : 0 < length more
+  pub bytes : batch ≡ closing more
+  pub has : AllByRecursion HasBytes more
 
 -- a gate that isn't 0, the record of the entry, and then the rest
 pub record OpensWith (entry : Entry) (bytes rest : List ℕ) : Type 0 where

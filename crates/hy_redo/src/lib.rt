@@ -13,5 +13,5 @@ mod standing;
 
 pub use errors::{AppendError, CreateError, RecoverError};
 pub use laws::{crashes_recover, recovery_is_one};
-pub use log::{Log, append, create};
+pub use log::{Batch, Log, append, append_batch, create, encode_batch};
 pub use recovery::recover;

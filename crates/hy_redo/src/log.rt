@@ -5,9 +5,7 @@ ghost use Rattle.hy_outside.specs.Faults.{Rose};
 ghost use Rattle.hy_journal.specs.declared.Entry.{Entry};
 ghost use Rattle.hy_disk.specs.Bytes.{overwritten, ReachesTo};
 ghost use Rattle.hy_disk.specs.Calls.{Stays, Writes, IsDurable};
-ghost use Rattle.hy_log_record.specs.Bytes.{HasBytes};
-ghost use Rattle.hy_redo.specs.Logs.{closing, log_of, IsWholeLog};
-ghost use Rattle.std.specs.List.{AllByRecursion};
+ghost use Rattle.hy_redo.specs.Logs.{log_of, IsWholeLog, IsBatchOf};
 ghost use Rattle.hy_redo.specs.Crashes.{next_gate, AreLogsOf, AreClosedAt, Appends, IsBegun, IsBegunAtMost};
 
 use crate::{AppendError, CreateError};
@@ -44,6 +42,21 @@ impl Model for Log {
     ghost Value = { ℕ };
 
     ghost view = { λ log. log.gate };
+}
+
+/// Entries, at least one, as the bytes of a log that stand behind the gate of the first: to be appended together. Contracts
+/// see the bytes.
+#[derive(Drop, Debug)]
+pub struct Batch {
+    bytes: Vec<u8>,
+}
+
+impl Model for Batch {
+    ghost use Rattle.std.specs.Prelude.{ℕ, List};
+
+    ghost Value = { List ℕ };
+
+    ghost view = { λ batch. batch.bytes.items };
 }
 
 /// Writes bytes at an offset, and makes them sure.
@@ -110,61 +123,81 @@ fn last_behind(gate: u64, count: usize) -> Result<u64, AllocError>
     }
 }
 
-/// What stands behind the gate of the first of these entries, of which there are some. Err is for want of memory.
-fn encode_closing(alloc: Global, more: &[Entry]) -> Result<Vec<u8>, AllocError>
-    requires { 0 < length more.now }
-    ensures bytes { IfOk result (λ bytes. bytes.items ≡ closing more.now) }
-    ensures has { OnOk result (AllByRecursion HasBytes more.now) }
-{
-    let mut out = Vec::new(alloc);
-    for entry in more {
-        out.push(OPEN)?;
-        encode(entry, &mut out)?;
-    }
-    out.push(CLOSED)?;
-    // The first gate is opened last, by a write of its own.
-    let _gate = out.remove(0);
-    Ok(out)
-}
-
-/// Writes the records of entries, with open gates between them and a closed gate at the end, behind the closed gate at this
-/// offset, and opens that once they are sure. Gives the offset of the new closed gate. Nothing is written where there is no
-/// entry, or where the log would grow past 2^63 bytes.
-fn append_at<D: Disk>(
-    alloc: Global,
-    gate: u64,
-    disk: &mut D,
-    more: &[Entry],
-) -> Result<u64, AppendError>
+/// Writes the bytes of a batch behind the closed gate at this offset, and opens that once they are sure. Gives the offset of
+/// the new closed gate. Nothing is written where the log would grow past 2^63 bytes.
+fn append_at<D: Disk>(gate: u64, disk: &mut D, bytes: &[u8]) -> Result<u64, AppendError>
     requires closed { AreClosedAt (D.image disk.old) gate }
-    ensures moments { (entries : List Entry) → AreLogsOf (D.image disk.old) entries gate
-        → Appends D.clock D.image_since entries more.now gate disk.old disk.new }
+    requires some { (more : List Entry) × IsBatchOf more bytes.now }
+    ensures moments { (entries more : List Entry) → IsBatchOf more bytes.now → AreLogsOf (D.image disk.old) entries gate
+        → Appends D.clock D.image_since entries more gate disk.old disk.new }
     ensures later { D.clock disk.old ≤ D.clock disk.new }
-    ensures done { OnOk result ((entries : List Entry) → AreLogsOf (D.image disk.old) entries gate
-        → AreLogsOf (D.image disk.new) (entries ++ more.now) (next_gate gate more.now)) }
-    ensures bytes { OnOk result ((entries : List Entry) → IsWholeLog (D.held disk.old) entries gate
-        → IsWholeLog (D.held disk.new) (entries ++ more.now) (next_gate gate more.now)) }
-    ensures gate { IfOk result (λ next. next ≡ next_gate gate more.now) }
+    ensures done { OnOk result ((entries more : List Entry) → IsBatchOf more bytes.now → AreLogsOf (D.image disk.old) entries gate
+        → AreLogsOf (D.image disk.new) (entries ++ more) (next_gate gate more)) }
+    ensures bytes { OnOk result ((entries more : List Entry) → IsBatchOf more bytes.now → IsWholeLog (D.held disk.old) entries gate
+        → IsWholeLog (D.held disk.new) (entries ++ more) (next_gate gate more)) }
+    ensures gate { IfOk result (λ next. (more : List Entry) → IsBatchOf more bytes.now → next ≡ next_gate gate more) }
     ensures still { IsErrOf result AppendError.OutOfMemory → (entries : List Entry) → AreLogsOf (D.image disk.old) entries gate
         → AreLogsOf (D.image disk.new) entries gate }
     ensures fault { IsErrOf result AppendError.DiskFault → Rose (D.faults disk.old) (D.faults disk.new) }
     ensures steady { ¬ IsErrOf result AppendError.DiskFault → D.faults disk.new ≡ D.faults disk.old }
     ensures never_fell { D.faults disk.old ≤ D.faults disk.new }
 {
-    if more.is_empty() {
-        return Ok(gate);
-    }
-    let bytes = encode_closing(alloc, more)?;
     let next = last_behind(gate, bytes.len())?;
-    write_surely(disk, gate + 1, bytes.as_slice())?;
+    write_surely(disk, gate + 1, bytes)?;
     write_surely(disk, gate, &[OPEN])?;
     Ok(next)
 }
 
-/// Adds entries at the end, all of them or none. It writes their records and a new closed gate behind the closed one, and once
-/// they are sure it opens that: two syncs for however many. Of a disk that has answered a fault no other entry may be added.
-/// Want of room is told as want of memory: OutOfMemory is the answer where the log would grow past 2^63 bytes too, and then
-/// nothing was written.
+/// The bytes of some entries. Err is for want of memory.
+pub fn encode_batch(alloc: Global, more: &[Entry]) -> Result<Batch, AllocError>
+    requires { 0 < length more.now }
+    ensures { IfOk result (λ batch. IsBatchOf more.now batch) }
+{
+    let mut bytes = Vec::new(alloc);
+    for entry in more {
+        bytes.push(OPEN)?;
+        encode(entry, &mut bytes)?;
+    }
+    bytes.push(CLOSED)?;
+    // The first gate is opened last, by a write of its own.
+    let _gate = bytes.remove(0);
+    Ok(Batch { bytes })
+}
+
+/// Adds the entries of a batch at the end, all of them or none. It writes their records and a new closed gate behind the closed
+/// one, and once they are sure it opens that: two syncs for however many. It takes no memory but what the disk takes. Of a disk
+/// that has answered a fault no other entry may be added. Want of room is told as want of memory: OutOfMemory is the answer
+/// where the log would grow past 2^63 bytes too, and then nothing was written.
+pub fn append_batch<D: Disk>(log: &mut Log, disk: &mut D, batch: &Batch) -> Result<(), AppendError>
+    requires closed { AreClosedAt (D.image disk.old) log.old }
+    requires some { (more : List Entry) × IsBatchOf more batch.now }
+    // A crash at any moment leaves the log as it was, or with all of the entries.
+    ensures moments { (entries more : List Entry) → IsBatchOf more batch.now → AreLogsOf (D.image disk.old) entries log.old
+        → Appends D.clock D.image_since entries more log.old disk.old disk.new }
+    // The disk's clock goes on.
+    ensures later { D.clock disk.old ≤ D.clock disk.new }
+    // The log with the entries.
+    ensures done { OnOk result ((entries more : List Entry) → IsBatchOf more batch.now → AreLogsOf (D.image disk.old) entries log.old
+        → AreLogsOf (D.image disk.new) (entries ++ more) log.new) }
+    ensures bytes { OnOk result ((entries more : List Entry) → IsBatchOf more batch.now → IsWholeLog (D.held disk.old) entries log.old
+        → IsWholeLog (D.held disk.new) (entries ++ more) log.new) }
+    ensures gate { OnOk result ((more : List Entry) → IsBatchOf more batch.now → log.new ≡ next_gate log.old more) }
+    // After an error the log is as it was, and where memory ran out an append may follow.
+    ensures same { OnErr result (log.new ≡ log.old) }
+    ensures still { IsErrOf result AppendError.OutOfMemory → (entries : List Entry) → AreLogsOf (D.image disk.old) entries log.old
+        → AreLogsOf (D.image disk.new) entries log.new }
+    // Faults of the disk.
+    ensures fault { IsErrOf result AppendError.DiskFault → Rose (D.faults disk.old) (D.faults disk.new) }
+    ensures steady { ¬ IsErrOf result AppendError.DiskFault → D.faults disk.new ≡ D.faults disk.old }
+    ensures never_fell { D.faults disk.old ≤ D.faults disk.new }
+{
+    log.gate = append_at(log.gate, disk, batch.bytes.as_slice())?;
+    Ok(())
+}
+
+/// Adds entries at the end, all of them or none, as append_batch does: two syncs for however many. Nothing is written where there
+/// is no entry. Of a disk that has answered a fault no other entry may be added. Want of room is told as want of memory:
+/// OutOfMemory is the answer where the log would grow past 2^63 bytes too, and then nothing was written.
 pub fn append<D: Disk>(
     alloc: Global,
     log: &mut Log,
@@ -192,6 +225,9 @@ pub fn append<D: Disk>(
     ensures steady { ¬ IsErrOf result AppendError.DiskFault → D.faults disk.new ≡ D.faults disk.old }
     ensures never_fell { D.faults disk.old ≤ D.faults disk.new }
 {
-    log.gate = append_at(alloc, log.gate, disk, more)?;
-    Ok(())
+    if more.is_empty() {
+        return Ok(());
+    }
+    let batch = encode_batch(alloc, more)?;
+    append_batch(log, disk, &batch)
 }

@@ -23,3 +23,4 @@ mod NotedSeeks
 mod OrderedNotes
 mod NextChunks
 mod GrownScripts
+pub mod OtherTables

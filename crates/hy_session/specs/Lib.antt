@@ -13,3 +13,4 @@ pub mod Written
 pub mod Standing
 pub mod Passing
 pub mod Latest
+pub mod Touched

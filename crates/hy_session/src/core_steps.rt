@@ -13,6 +13,7 @@ ghost use Rattle.hy_session.specs.Entered.{has_entry};
 ghost use Rattle.hy_session.specs.CoreSteps.{leaves, turn_by, unless_blocked, commit_turn, validated_turn};
 
 use crate::numbers::elements_behind;
+use crate::touched::are_touched;
 use crate::{OpenTransaction, Session};
 use hy_bound::{Ending, Record, Txn};
 use hy_core::Core;
@@ -69,6 +70,7 @@ fn refusal(records: &[Record], invalid: Invalid) -> Ending
 }
 
 /// COMMIT of a transaction that wrote: validation refuses it, or it enters the journal.
+#[tactic(auto, using(crate::proofs::OtherTables::none_invalid))]
 fn validate(alloc: Global, core: &Core, now: &OpenTransaction) -> Result<CoreStep, AllocError>
     ensures turn { IfOk result (λ step. (session : SessionData) → session.now ≡ Some now.now
         → validated_turn session core.now now.now (first_invalid now.now.records (drop now.now.prefix core.now.entries)) ≡ turn_by step session core.now) }
@@ -76,8 +78,8 @@ fn validate(alloc: Global, core: &Core, now: &OpenTransaction) -> Result<CoreSte
 {
     let records = now.records.records();
     let since = elements_behind(core.since(0), now.prefix as usize);
-    // Most often nobody committed meanwhile, and nothing is looked for.
-    if since.is_empty() {
+    // Most often nobody committed meanwhile, or all who did wrote other tables, and nothing is looked for.
+    if !are_touched(records, since) {
         return Ok(CoreStep::Enter);
     }
     let tree = Tree::build(alloc, records)?;

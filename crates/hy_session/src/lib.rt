@@ -23,6 +23,7 @@ mod reading;
 mod savepoints;
 mod seeking;
 mod stamping;
+mod touched;
 mod visitors;
 mod visits;
 mod writing;

@@ -39,6 +39,13 @@ module _ {D : Type 0} where
   no_hole (x ∷ xs) (q ∷ qs) e zero at = some_not_none q (sym (ap (first_or None) e) ∙ ap content (some-injective x None at))
   no_hole (x ∷ xs) (q ∷ qs) e (suc k) at = no_hole xs qs (ap rest_of e) k at
 
+  -- no slot is empty behind those that are done
+  pub none_empty : (done more : List (Slot D)) (parts : List D) → map content (done ++ None ∷ more) ≡ map Some parts → ⊥
+  none_empty [] more [] e = let h : ◌≡◌ {A = ℕ} (suc (length (map content more))) 0 = ap length e in absurd (omega (arith, h))
+  none_empty [] more (q ∷ qs) e = some_not_none q (sym (ap (first_or None) e))
+  none_empty (x ∷ xs) more [] e = let h : ◌≡◌ {A = ℕ} (suc (length (map content (xs ++ None ∷ more)))) 0 = ap length e in absurd (omega (arith, h))
+  none_empty (x ∷ xs) more (q ∷ qs) e = none_empty xs more qs (ap rest_of e)
+
   -- one more part was taken out
   pub one_more : (xs : List (Slot D)) (out : List D) (k : ℕ) (y : CachePadded D) (p : D) → get_elem? xs k ≡ some (Some y) → p ≡ padded_value y
       → map Some out ≡ take k (map content xs) → map Some (out ++ p ∷ []) ≡ take (suc k) (map content xs)

@@ -1,10 +1,10 @@
 -- Rows of workers: seats that were made or joined one after another, and workers that ran.
-use Rattle.std.proofs.Common.{◌≡◌, ◌≢◌, ℕ, zero, suc, ◌+◌, ◌<◌, ◌≤◌, arith, refl, sym, ap, ◌∙◌, subst, Bool, true, false, Option, Some, None}
+use Rattle.std.proofs.Common.{◌≡◌, ◌≢◌, ℕ, zero, suc, ◌+◌, ◌<◌, ◌≤◌, arith, refl, sym, ap, ◌∙◌, subst, Bool, true, false, Option, Some, None, Result, Ok, Err, is_err, OnOk}
 use Rattle.std.proofs.Common.{List, [], ◌∷◌, ◌++◌, map, length, replicate, get_or, set, All, Any, MatchBool, length-append}
 use Rattle.std.specs.List.{AllZip, list_any}
 use Rattle.std.proofs.lemmas.List.Elements.{All-map, length_all_zip}
 use Rattle.std.proofs.lemmas.List.Folds.{Any-from_list_any}
-use Rattle.std.proofs.lemmas.Bool.{or_parts}
+use Rattle.std.proofs.lemmas.Bool.{or_parts, true≢false}
 use mathlib.Core.Option.{some}
 use lib.ListN.{get_elem?, take, drop}
 use Rattle.hy_threads.specs.Knowledge.{Visitor, Knowledge, First, Seated, keeper, visitor, newly_seated, parent, child, joined}
@@ -134,19 +134,24 @@ module _ {S P : Type 0} (point_of : S → Option P) where
       let found = Any-from_list_any (λ (w : Task S). w.starved) ws some_one in
       (found.0, found.1, found.2, found.3, starved_of found.1 found.4 (subst (HasStopped point_of) found.3 (stopped found.0 found.1 found.2)))
 
--- what a run leaves of the workers: they are of the parts, and at their ends
-pub record AreBack {S P : Type 0} (home : Home) (point_of : S → Option P) (ws : List (Task S)) : Type 0 where
-  pub of_home : AreOf home 0 ws
-  pub ended : All (λ s. point_of s ≡ None) (map session_of ws)
+-- The workers that ran, as the list that they were lent from has them: its first n elements are those that were written. They are of the
+-- parts, and where each ended so did its session.
+module _ {S P : Type 0} (width_of : S → ℕ) (point_of : S → Option P) (ws news : List (Task S)) (n : ℕ)
+    (all : n ≡ length ws) (same : AllZip (IsSameWorker width_of) ws news) where
+  abbrev lent : List (Task S)
+  lent = take n (news ++ drop (length news) ws)
 
--- the workers that ran, as the list that they were lent from has them: its first n elements are those that were written
-pub are_back : {S P : Type 0} (home : Home) (width_of : S → ℕ) (point_of : S → Option P) (ws news : List (Task S)) (n : ℕ)
-    → AreOf home 0 ws → n ≡ length ws → AllZip (IsSameWorker width_of) ws news → All (HasEnded point_of) news
-    → AreBack home point_of (take n (news ++ drop (length news) ws))
-are_back home width_of point_of ws news n of_home all same ended =
-    let as_many = length_all_zip (IsSameWorker width_of) ws news same in
-    let back : take n (news ++ drop (length news) ws) ≡ news = take_front news (drop (length news) ws) n (all ∙ as_many) in
-    subst (AreBack home point_of) (sym back) record {
-      of_home = are_of_same home width_of 0 ws news of_home same;
-      ended = All-map (λ s. point_of s ≡ None) session_of news ended;
-    }
+  written : lent ≡ news
+  written = take_front news (drop (length news) ws) n (all ∙ length_all_zip (IsSameWorker width_of) ws news same)
+
+  pub back_of_home : (home : Home) → AreOf home 0 ws → AreOf home 0 lent
+  back_of_home home of_home = subst (AreOf home 0) (sym written) (are_of_same home width_of 0 ws news of_home same)
+
+  pub back_ended : All (HasEnded point_of) news → All (λ s. point_of s ≡ None) (map session_of lent)
+  back_ended ended = subst (λ vs. All (λ s. point_of s ≡ None) (map session_of vs)) (sym written)
+      (All-map (λ s. point_of s ≡ None) session_of news ended)
+
+-- what holds where a call was done, of one that did not fail
+pub where_done : {A E : Type 0} (r : Result A E) (Done : Type 0) → is_err r ≡ false → OnOk r Done → Done
+where_done (Ok v) Done fed done = done
+where_done (Err e) Done fed done = absurd (true≢false fed)

@@ -9,7 +9,7 @@
 //! so an engine lets no session wait for one that may find no memory.
 //!
 //! An engine says by `Worked` what its sessions need and what a visit may do; `work` and `run_all` do the rest. What
-//! comes out is parts and sessions of which the engine's fact holds, and every session is at its end.
+//! comes out is parts and sessions of which the engine's fact holds, and where no memory ran out every session is at its end.
 #![tactic(auto)]
 
 mod ahead;
@@ -28,7 +28,7 @@ pub use gate::{Gate, Moment, OpenGate, PieceGate, Point};
 pub use known::Known;
 pub use parted::Parted;
 pub use parts::{Parts, Seat};
-pub use runs::run_all;
+pub use runs::{Ran, run_all};
 pub use threads::work;
 pub use worked::{Visited, Worked};
 pub use worker::Worker;

@@ -1,5 +1,5 @@
 //! The parts, and the seats that take them.
-ghost use Rattle.std.specs.Prelude.{◌≡◌, ◌⊎◌, ℕ, ◌<◌, ◌^◌, List, map, length, vec_len, IfSome, IfNone, IfOk};
+ghost use Rattle.std.specs.Prelude.{◌≡◌, ◌⊎◌, ℕ, ◌*◌, ◌<◌, ◌≤◌, ◌^◌, List, [], map, length, replicate, vec_len, vec_capacity, IfSome, IfNone, IfOk, IfErr};
 ghost use mathlib.Core.Option.{some};
 ghost use lib.ListN.{get_elem?};
 ghost use Rattle.hy_threads.specs.Knowledge.{Keeper, Visitor, First, Seated, shown, first_of};
@@ -11,7 +11,7 @@ use crate::known::Known;
 use crate::parted::Parted;
 use crate::rule::{Giving, Joining, PartsRule, Splitting, Taking, Telling};
 use crate::waiting::{LOOKS, Waiting};
-use atomic_table::{Seat as TableSeat, Table};
+use atomic_table::{Refused, Seat as TableSeat, Table};
 use crossbeam_utils::CachePadded;
 use std::alloc::{AllocError, Global};
 use std::hint;
@@ -40,18 +40,33 @@ fn snapshots_of<S>(alloc: Global, sessions: &[S]) -> Result<Vec<Snapshot<S>>, Al
     Ok(list)
 }
 
-// Each part in a slot, in order.
+// Puts each part into a slot, in order, in the empty list, which has room for them.
 fn put_in_slots<D: Drop>(
-    alloc: Global,
+    room: Vec<Option<CachePadded<D>>>,
     parts: Vec<D>,
-) -> Result<Vec<Option<CachePadded<D>>>, AllocError>
-    ensures { IfOk result (λ v. (vec_len v ≡ vec_len parts) × AreHome v.items parts.items) }
+) -> Vec<Option<CachePadded<D>>>
+    requires { (room.items ≡ []) × (vec_len parts ≤ vec_capacity room) }
+    ensures { (vec_len result ≡ vec_len parts) × AreHome result.items parts.items }
 {
-    let mut slots = Vec::with_capacity(alloc, parts.len())?;
+    let mut slots = room;
     for part in parts {
-        slots.push(Some(CachePadded::new(part)))?;
+        slots.push_reserved(Some(CachePadded::new(part)));
     }
-    Ok(slots)
+    slots
+}
+
+// Takes each part out of its slot again, in order, into the empty list, which has room for them.
+fn take_from_slots<D: Drop>(slots: Vec<Option<CachePadded<D>>>, room: Vec<D>) -> Vec<D>
+    requires home { (parts : List D) × AreHome slots.items parts }
+    requires room { (room.items ≡ []) × (vec_len slots ≤ vec_capacity room) }
+    ensures { AreHome slots.items result.items }
+{
+    let mut parts = room;
+    for slot in slots {
+        let Some(part) = slot else { unreachable!() };
+        parts.push_reserved(part.into_inner());
+    }
+    parts
 }
 
 // Of each part, that nobody waits at it, on cache lines of its own.
@@ -63,6 +78,42 @@ fn none_waiting(alloc: Global, count: usize) -> Result<Vec<CachePadded<Waiting>>
         waiting.push(CachePadded::new(Waiting::new()))?;
     }
     Ok(waiting)
+}
+
+// The memory of parts, which is taken before any of them is moved.
+#[derive(Drop)]
+struct Rooms<P: Parted> {
+    words: Vec<u64>,
+    // Empty, with room for the slot of each part.
+    slots: Vec<Slot<P>>,
+    // Empty, with room for each part.
+    spare: Vec<P::Part>,
+    waiting: Vec<CachePadded<Waiting>>,
+    opening: Opening<P>,
+}
+
+// The memory of so many parts, and of these sessions' snapshots.
+fn make_rooms<P: Parted>(
+    alloc: Global,
+    count: usize,
+    sessions: &[P::Session],
+) -> Result<Rooms<P>, AllocError>
+    ensures words { IfOk result (λ r. (r.words.items ≡ replicate (8 * count) 0) × (8 * count < 2 ^ 64)) }
+    ensures slots { IfOk result (λ r. (r.slots.items ≡ []) × (count ≤ vec_capacity r.slots)) }
+    ensures spare { IfOk result (λ r. (r.spare.items ≡ []) × (count ≤ vec_capacity r.spare)) }
+    ensures waiting { IfOk result (λ r. vec_len r.waiting ≡ count) }
+    ensures opening { IfOk result (λ r. map shown r.opening.items ≡ sessions.now) }
+{
+    let Some(size) = count.checked_mul(LINE) else {
+        return Err(AllocError);
+    };
+    Ok(Rooms {
+        words: vec![in alloc; 0u64; size]?,
+        slots: Vec::with_capacity(alloc, count)?,
+        spare: Vec::with_capacity(alloc, count)?,
+        waiting: none_waiting(alloc, count)?,
+        opening: snapshots_of(alloc, sessions)?,
+    })
 }
 
 /// Parts that seats take and give back, shared by all threads. A clause sees them as their `Home`, in which `slots` is
@@ -123,25 +174,28 @@ impl<P: Parted> Seat<P> {
 
 impl<P: Parted> Parts<P> {
     /// The parts, all at home, and the first seat, which has made no other seat. The sessions are only looked at: each
-    /// stays with its owner, who tells what it has become at each give. Err is for want of memory.
+    /// stays with its owner, who tells what it has become at each give. Err is for want of memory: the parts come back.
     pub fn new(
         alloc: Global,
         parts: Vec<P::Part>,
         sessions: &[P::Session],
-    ) -> Result<(Parts<P>, Seat<P>), AllocError>
+    ) -> Result<(Parts<P>, Seat<P>), Vec<P::Part>>
         requires few { length sessions.now < 2 ^ 31 }
         requires fact { P.fact parts.items sessions.now }
-        ensures { IfOk result (λ r. (r.0.slots ≡ vec_len parts) × (r.1.home ≡ r.0) × (r.1.knows ≡ first_of sessions.now)) }
+        ensures ok { IfOk result (λ r. (r.0.slots ≡ vec_len parts) × (r.1.home ≡ r.0) × (r.1.knows ≡ first_of sessions.now)) }
+        ensures err { IfErr result (λ back. back.items ≡ parts.items) }
     {
-        let count = parts.len();
-        let Some(size) = count.checked_mul(LINE) else {
-            return Err(AllocError);
+        let Ok(rooms) = make_rooms::<P>(alloc, parts.len(), sessions) else {
+            return Err(parts);
         };
-        let words = vec![in alloc; 0u64; size]?;
-        let spare = Vec::with_capacity(alloc, count)?;
-        let waiting = none_waiting(alloc, count)?;
-        let opening = snapshots_of(alloc, sessions)?;
-        let slots = put_in_slots(alloc, parts)?;
+        let Rooms {
+            words,
+            slots,
+            spare,
+            waiting,
+            opening,
+        } = rooms;
+        let slots = put_in_slots(slots, parts);
         match Table::new(alloc, words.as_slice(), slots, &opening) {
             Ok((table, at_table)) => {
                 Ok((
@@ -156,7 +210,7 @@ impl<P: Parted> Parts<P> {
                     },
                 ))
             }
-            Err(_) => Err(AllocError),
+            Err(Refused { slots }) => Err(take_from_slots(slots, spare)),
         }
     }
 

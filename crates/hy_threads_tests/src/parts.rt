@@ -23,7 +23,9 @@ fn a_part_that_is_out_is_not_taken(rt: HostRuntime) -> Result<(), Fail> {
     let mut sessions = Vec::new(alloc);
     sessions.push(ended(0))?;
     sessions.push(ended(1))?;
-    let (parts, mut first) = Parts::<Counting>::new(alloc, counters, sessions.as_slice())?;
+    let Ok((parts, mut first)) = Parts::<Counting>::new(alloc, counters, sessions.as_slice()) else {
+        return Err(Fail::new("there is no memory"));
+    };
     let mut one = parts.split(&mut first);
     let mut other = parts.split(&mut first);
     let taken = parts.try_take(&mut one, 0);

@@ -1,7 +1,7 @@
 //! Workers, each on a thread of its own.
 
 use crate::counting::{Adder, Counter, Counting};
-use hy_threads::{Gate, Moment, OpenGate, PieceGate, Point, run_all};
+use hy_threads::{Gate, Moment, OpenGate, PieceGate, Point, Ran, run_all};
 use std::alloc::AllocError;
 use std::sync::Wait;
 use std::sync::atomic::{AtomicBool, AtomicU64, Ordering};
@@ -79,6 +79,30 @@ impl Gate for Shares {
     fn pass(&self, _point: &Point) {}
 }
 
+/// Two sessions run over a counter that begins at 0.
+fn run_two<T: Threads + Wait + Sync + AllocGlobal, G: Gate>(
+    rt: &T,
+    gate: &G,
+    first: Adder,
+    second: Adder,
+) -> Result<Ran<Counting>, AllocError> {
+    let alloc = rt.alloc();
+    let mut counters = Vec::new(alloc);
+    counters.push(Counter { count: 0 })?;
+    let mut sessions = Vec::new(alloc);
+    sessions.push(first)?;
+    sessions.push(second)?;
+    Ok(run_all::<T, Counting, G>(rt, alloc, counters, sessions, gate))
+}
+
+/// What the one counter stands at. Where there is another number of counters: 0.
+fn count_of(counters: &[Counter]) -> u64 {
+    match counters {
+        [counter] => counter.count,
+        _ => 0,
+    }
+}
+
 /// What a counter that begins at 0 comes to where two sessions run over it.
 fn counted<T: Threads + Wait + Sync + AllocGlobal, G: Gate>(
     rt: &T,
@@ -86,17 +110,11 @@ fn counted<T: Threads + Wait + Sync + AllocGlobal, G: Gate>(
     first: Adder,
     second: Adder,
 ) -> Result<u64, AllocError> {
-    let alloc = rt.alloc();
-    let mut counters = Vec::new(alloc);
-    counters.push(Counter { count: 0 })?;
-    let mut sessions = Vec::new(alloc);
-    sessions.push(first)?;
-    sessions.push(second)?;
-    let (counters, _) = run_all::<T, Counting, G>(rt, alloc, counters, sessions, gate)?;
-    match counters.as_slice() {
-        [counter] => Ok(counter.count),
-        _ => Ok(0),
+    let ran = run_two(rt, gate, first, second)?;
+    if ran.is_starved {
+        return Err(AllocError);
     }
+    Ok(count_of(&ran.parts))
 }
 
 #[test]
@@ -139,8 +157,9 @@ fn the_others_end_where_one_finds_no_memory(rt: HostRuntime) -> Result<(), Fail>
         starves: true,
         ..adder(0, 1)
     };
-    let ended = counted(&rt, &gate, starving, adder(1, 5));
-    assert!(rt; ended.is_err());
+    let ran = run_two(&rt, &gate, starving, adder(1, 5))?;
+    assert!(rt; ran.is_starved);
+    assert_eq!(rt; count_of(&ran.parts), 5);
     assert!(rt; gate.has_starved.load(Ordering::SeqCst));
     assert_eq!(rt; gate.visits.load(Ordering::SeqCst), 5);
     Ok(())

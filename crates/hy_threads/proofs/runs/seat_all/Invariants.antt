@@ -1,4 +1,4 @@
-use Rattle.std.proofs.Common.{◌≡◌, ◌++◌, length, map}
+use Rattle.std.proofs.Common.{◌≡◌, ◌≤◌, ◌++◌, length, map, vec_len, vec_capacity}
 use Rattle.hy_threads.specs.Knowledge.{First, keeper}
 use Rattle.hy_threads.specs.Tasks.{AreOf, session_of}
 use Rattle.hy_threads.proofs.WorkerRows.{keeping}
@@ -11,3 +11,4 @@ invariant-loop-session g l =
     × (l.first.knows ≡ First (keeper (length l.yielded) (keeping (length l.yielded) l.session-iterator.rest.items)))
     × AreOf l.fn.parts 0 l.workers.items
     × (map session_of l.workers.items ≡ l.yielded)
+    × (vec_len l.workers ≡ length l.yielded) × (vec_len l.fn.sessions ≤ vec_capacity l.workers)

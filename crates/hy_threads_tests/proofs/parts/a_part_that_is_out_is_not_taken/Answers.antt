@@ -7,14 +7,14 @@ pub try_take-requires-2-clause-free : goal.try_take-requires-2-clause-free
 try_take-requires-2-clause-free g c κs =
     let b = c.ended-2.result in let free = visitor 1 b None [] in
     let sessions : c.as_slice.result.now ≡ c.ended.result ∷ b ∷ [] = search rules in
-    let first = c.split-one.ensures.parent ∙ ap parent (c.in_ok-parts.ensures.2 ∙ ap first_of sessions) in
+    let first = c.split-one.ensures.parent ∙ ap parent (c.in-Ok.ensures.ok.2 ∙ ap first_of sessions) in
     (refused free 0 1, c.in-None.ensures.lost free (c.split-other.ensures.child ∙ ap child first), refl)
 
 pub give-requires-2-clause-held : goal.give-requires-2-clause-held
 give-requires-2-clause-held g c κs =
     let b = c.ended-2.result in let free = visitor 1 b None [] in let other = refused free 0 1 in
     let sessions : c.as_slice.result.now ≡ c.ended.result ∷ b ∷ [] = search rules in
-    let first = c.split-one.ensures.parent ∙ ap parent (c.in_ok-parts.ensures.2 ∙ ap first_of sessions) in
+    let first = c.split-one.ensures.parent ∙ ap parent (c.in-Ok.ensures.ok.2 ∙ ap first_of sessions) in
     let lost = c.in-None.ensures.lost free (c.split-other.ensures.child ∙ ap child first) in
     let part = c.in-Some-try_take.counter in
     (holding other 0 part, part, (c.in-Some-try_take.ensures.won other lost).0, refl, inl tt)
@@ -23,7 +23,7 @@ pub join-requires-2-clause-free : goal.join-requires-2-clause-free
 join-requires-2-clause-free g c κs =
     let b = c.ended-2.result in let free = visitor 1 b None [] in let other = refused free 0 1 in
     let sessions : c.as_slice.result.now ≡ c.ended.result ∷ b ∷ [] = search rules in
-    let first = c.split-one.ensures.parent ∙ ap parent (c.in_ok-parts.ensures.2 ∙ ap first_of sessions) in
+    let first = c.split-one.ensures.parent ∙ ap parent (c.in-Ok.ensures.ok.2 ∙ ap first_of sessions) in
     let lost = c.in-None.ensures.lost free (c.split-other.ensures.child ∙ ap child first) in
     let held = holding other 0 c.in-Some-try_take.counter in
     (settled held c.index-2.result.now, c.give-2.ensures.given held (c.in-Some-try_take.ensures.won other lost).0, refl)
@@ -34,7 +34,7 @@ close-closed-requires-clause-all g c κs =
     let one = visitor 0 a None [] in let free = visitor 1 b None [] in let other = refused free 0 1 in
     let x = c.index.result.now in let y = c.index-2.result.now in
     let sessions : c.as_slice.result.now ≡ a ∷ b ∷ [] = search rules in
-    let made = c.in_ok-parts.ensures.2 ∙ ap first_of sessions in
+    let made = c.in-Ok.ensures.ok.2 ∙ ap first_of sessions in
     let first = c.split-one.ensures.parent ∙ ap parent made in
     let second = c.split-other.ensures.parent ∙ ap parent first in
     let at_one : c.split-one.result.knows ≡ Seated one = c.split-one.ensures.child ∙ ap child made in

@@ -37,7 +37,7 @@ turn_grows session core (Saves statement reply) = inl refl
 turn_grows session core Enters = entered_grows session core session.now
 turn_grows session core (Ends ending) = ended_grows core session.now
 
-taken_grows : (session after : SessionData) (core new : CoreData) (progress : Progress) (turn : Option (Turn Change))
+pub taken_grows : (session after : SessionData) (core new : CoreData) (progress : Progress) (turn : Option (Turn Change))
     → TakesAtCore session core turn progress after new → Grows core new
 taken_grows session after core new progress None taken = absurd taken
 taken_grows session after core new progress (Some turn) taken = subst (Grows core) (sym taken.1) (turn_grows session core turn)

@@ -5,6 +5,8 @@ pub mod Widths
 pub mod ReadBack
 pub mod OutcomesRead
 mod SentSessions
+mod GroupedVisits
+mod GroupedWorlds
 mod Parts
 mod Visits
 mod KeptWorlds

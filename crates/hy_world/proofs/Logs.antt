@@ -269,16 +269,6 @@ logs_run clock image_since law one setting kinds state old new before after way 
       ⊎_elim (λ earlier. inl earlier) (λ is. inr (log_of_run law one setting kinds state new way typed bytes is)) (logs.moments time bytes le left);
 }
 
--- so where nothing was in the log, and all entries are appended at once
-pub logs_all : {D : Type 0} (clock : D → ℕ) (image_since : D → ℕ → List ℕ → Type 0) → LogsRecoverTables → EntriesTellChanges
-    → (setting : Setting) (kinds : List (List Kind)) (state : State) (world : WorldData) (gate : ℕ) (before after : D)
-    → ShowsState setting state world → CanBeLogged kinds setting → Appends clock image_since [] world.core.entries gate before after
-    → LogsRun clock image_since setting kinds state before after
-logs_all clock image_since law one setting kinds state world gate before after shows typed appends =
-    logs_run clock image_since law one setting kinds state [] world before after
-    (record { state = state; shows = shows; first = none_behind state.order }) typed
-    (appended clock image_since [] world.core.entries gate before after appends)
-
 -- ---- for all worlds
 
 -- the log of all entries of a world recovers to the tables of the state that it shows

@@ -16,6 +16,7 @@ use Rattle.hy_gathered.proofs.pieces.Pieces.TheSendSync as pieces
 use Rattle.hy_session.specs.contracts.prepared.Prepared as prepared
 use Rattle.hy_session.specs.contracts.OpenTransaction as running
 use Rattle.hy_session.specs.contracts.Session as session
+use Rattle.hy_world.specs.contracts.grouped.LoggedSession as logged
 
 condition_send : IsSend condition.the_row
 condition_send = search (crosses, conditions.crosses, sendable) depth 60 fits 20000
@@ -37,6 +38,9 @@ running_send = search (log_send, changes.the_send, pieces.the_send, reply.the_se
 
 pub session_send : IsSend session.the_row
 session_send = search (txn_send, running_send, prepared_send, changes.the_send, outcome.the_send, crosses, sendable) depth 60 fits 200000
+
+pub logged_session_send : IsSend logged.the_row
+logged_session_send = search (session_send, crosses, sendable) depth 60 fits 200000
 
 -- ---- looked at by others
 
@@ -60,3 +64,6 @@ running_sync = search (log_sync, changes.the_sync, pieces.the_sync, reply.the_sy
 
 pub session_sync : IsSync session.the_row
 session_sync = search (txn_sync, running_sync, prepared_sync, changes.the_sync, outcome.the_sync, crosses, sendable) depth 60 fits 200000
+
+pub logged_session_sync : IsSync logged.the_row
+logged_session_sync = search (session_sync, crosses, sendable) depth 60 fits 200000

@@ -138,7 +138,7 @@ part_at : (parts : List SharedData) (i : ℕ) (part : SharedData) (seen : Part) 
 part_at parts i part seen e h = same_Some (part_of part) seen (sym (slice_get-map part_of parts i ∙ ap (option_map part_of) e) ∙ h)
 
 -- a list with so many elements before the last one
-last_of : {A : Type 0} (xs : List A) (n : ℕ) (x : A) → length xs ≡ suc n → slice_get xs n ≡ Some x → xs ≡ take n xs ++ x ∷ []
+pub last_of : {A : Type 0} (xs : List A) (n : ℕ) (x : A) → length xs ≡ suc n → slice_get xs n ≡ Some x → xs ≡ take n xs ++ x ∷ []
 last_of [] n x long e = absurd (omega arith)
 last_of {A} (y ∷ []) zero x long e = ap (λ (z : A). z ∷ []) (same_Some y x e)
 last_of (y ∷ z ∷ xs) zero x long e = absurd (omega arith)
@@ -185,7 +185,7 @@ no_number : (session : SessionData) (found : Option ℕ) → option_map (visit_a
 no_number session None e = refl
 no_number session (Some number) e = absurd (cc e)
 
-done_by : (setting : Setting) (kinds : List (List Kind)) (parts : List SharedData) (sessions : List SessionData) (i : ℕ) (session : SessionData) (need : Need)
+pub done_by : (setting : Setting) (kinds : List (List Kind)) (parts : List SharedData) (sessions : List SessionData) (i : ℕ) (session : SessionData) (need : Need)
     → AreShared setting kinds parts sessions → slice_get sessions i ≡ Some session → need_of session ≡ need
     → number_within (width_of session) (part_number session need) ≡ None → is_done need ≡ true
 done_by setting kinds parts sessions i session Core shared at needs none =
@@ -268,7 +268,7 @@ case_shared laws law setting case kinds types prunes opened parts is are runnabl
     (opened_shared laws law setting kinds prunes opened runnable typed opens)))
 
 -- there are as many parts as each session has
-parts_many : (setting : Setting) (kinds : List (List Kind)) (parts : List SharedData) (sessions : List SessionData) → AreShared setting kinds parts sessions
+pub parts_many : (setting : Setting) (kinds : List (List Kind)) (parts : List SharedData) (sessions : List SessionData) → AreShared setting kinds parts sessions
     → length parts ≡ suc (length setting.shapes * setting.chunks)
 parts_many setting kinds parts sessions shared = sym (length-map parts part_of) ∙ shared.shown.shows.parts_are.count
 

@@ -14,10 +14,10 @@ use Rattle.hy_world.specs.SomeRuns.{IsSomeRun, ShowsSomeRun}
 use Rattle.hy_world.specs.Worlds.{WorldData, ShowsState, parts_of}
 
 -- one step of a session
-abbrev single : ℕ → Item
+abbrev pub single : ℕ → Item
 single number = record { session = number; whole = false }
 
-singles_step : (setting : Setting) (state : State) (numbers : List ℕ) → items_of setting state (map single numbers) ≡ after_steps setting state numbers
+pub singles_step : (setting : Setting) (state : State) (numbers : List ℕ) → items_of setting state (map single numbers) ≡ after_steps setting state numbers
 singles_step setting state [] = refl
 singles_step setting state (number ∷ numbers) = singles_step setting (step_of setting state number).0 numbers
 

@@ -1,6 +1,6 @@
 -- What a visit leaves of a session, and when it has to wait: a visit of a chunk goes on, and one of the core waits where the core's
 -- turn is to wait.
-use Rattle.std.proofs.Common.{◌≡◌, ℕ, suc, ◌+◌, ◌*◌, ◌-◌, ◌/◌, drop, List, [], ◌∷◌, Bool, true, false, length, refl, ap, ◌∙◌, sym, subst, Option, None, Some, Result, Ok, Err}
+use Rattle.std.proofs.Common.{◌≡◌, ℕ, suc, ◌+◌, ◌*◌, ◌-◌, ◌/◌, List, [], Bool, true, false, length, refl, ap, ◌∙◌, sym, subst, Option, None, Some, Result, Ok, Err}
 use Rattle.std.specs.Prelude.{slice_get, if◌then◌else◌, MatchBool, nat_lt}
 use Rattle.std.proofs.lemmas.Option.{same_Some}
 use Rattle.hy_bound.specs.declared.Assign.{Assign}
@@ -16,15 +16,12 @@ use Rattle.hy_meaning.specs.Statement.{Table}
 use Rattle.hy_value.specs.declared.Value.{Value}
 use Rattle.hy_value.specs.declared.change.Change.{Change}
 use Rattle.hy_journal.specs.declared.CoreData.{CoreData}
-use Rattle.hy_journal.specs.Core.{blocked_by}
 use Rattle.hy_plan.specs.declared.PlanPart.{PlanPart}
 use Rattle.hy_bound.specs.declared.Ending.{Ending}
 use Rattle.hy_bound.specs.declared.Ending.TheVariants.{Full, RolledBack}
 use Rattle.hy_stamp.specs.declared.Label.{Label}
 use Rattle.hy_undo.specs.Chunks.{ChunkData}
 use Rattle.hy_undo.specs.Places.{Place}
-use Rattle.hy_validate.specs.declared.Invalid.{Invalid}
-use Rattle.hy_validate.specs.Hits.{first_invalid}
 use Rattle.hy_event.specs.declared.SessionData.{SessionData}
 use Rattle.hy_event.specs.declared.Open.{Open}
 use Rattle.hy_protocol.specs.declared.Phase.{Phase}
@@ -39,7 +36,7 @@ use Rattle.hy_event.specs.Gathering.{ReadPlan, group_read_plan, select_read_plan
 use Rattle.hy_event.specs.Inserting.{InsertVisit, CheckVisit, PlaceVisit, check_turn, free_position, place_turn, sees_key}
 use Rattle.hy_event.specs.Needs.{checks_of, need_of}
 use Rattle.hy_event.specs.Reading.{PlannedVisit, Reads, gathered_with, read_turn, with_gathered}
-use Rattle.hy_event.specs.Sessions.{label_of, notes_since, txn_at, viewer_of}
+use Rattle.hy_event.specs.Sessions.{notes_since, txn_at, viewer_of}
 use Rattle.hy_protocol.specs.Turns.{Turn, Done as Rests, Waits, Begins, Visits, Answers, Saves, Enters, Ends, goes_on, refused}
 use Rattle.hy_event.specs.Turns.{Step, Takes, TakesBy, after_turn, answer_turn}
 use Rattle.hy_event.specs.Undoing.{UndoVisit}

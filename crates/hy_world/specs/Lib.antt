@@ -9,4 +9,7 @@ pub mod SharedLaws
 pub mod SomeRuns
 pub mod Points
 pub mod Logged
+pub mod Grouped
+pub mod GroupedLaws
+pub mod LoggedRuns
 pub mod Lines

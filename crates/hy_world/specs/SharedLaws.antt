@@ -24,13 +24,13 @@ use Rattle.hy_world.specs.Shared.{SharedData, ChunkOf, CoreOf, AreShared, HaveSh
 
 -- ---- lists
 
-got_by : {A : Type 0} (xs : List A) (i : ℕ) (x : A) → get_elem? xs i ≡ some x → slice_get xs i ≡ Some x
+pub got_by : {A : Type 0} (xs : List A) (i : ℕ) (x : A) → get_elem? xs i ≡ some x → slice_get xs i ≡ Some x
 got_by [] i x e = absurd (some-ne-none x (sym e))
 got_by (y ∷ xs) zero x e = ap Some (some-injective y x e)
 got_by (y ∷ xs) (suc i) x e = got_by xs i x e
 
 -- what stands at an index of a list in which one element was set
-set_cases : {A : Type 0} (xs : List A) (k i : ℕ) (x y : A) → slice_get (slice_set xs k y) i ≡ Some x
+pub set_cases : {A : Type 0} (xs : List A) (k i : ℕ) (x y : A) → slice_get (slice_set xs k y) i ≡ Some x
     → ((i ≡ k) × (y ≡ x)) ⊎ (slice_get xs i ≡ Some x)
 set_cases [] k i x y e = inr e
 set_cases (z ∷ xs) zero zero x y e = inl (refl, same_Some y x e)
@@ -53,7 +53,7 @@ near_chunk : (session : SessionData) (table number : ℕ) (found : ChunkData) (p
 near_chunk session table number found (ChunkOf kinds chunk) e near = λ room. near kinds chunk room refl
 near_chunk session table number found (CoreOf core) e near = absurd (cc e)
 
-near_by : (setting : Setting) (kinds : List (List Kind)) (parts : List SharedData) (sessions : List SessionData) (i k : ℕ) (session : SessionData)
+pub near_by : (setting : Setting) (kinds : List (List Kind)) (parts : List SharedData) (sessions : List SessionData) (i k : ℕ) (session : SessionData)
     (part : SharedData) (need : Need) → AreShared setting kinds parts sessions → slice_get sessions i ≡ Some session → slice_get parts k ≡ Some part
     → need_of session ≡ need → part_number session need ≡ Some k → MayVisit need session part
 near_by setting kinds parts sessions i k session part Core shared at_session at_part needs numbered =
@@ -105,10 +105,10 @@ types_kept kinds per_table parts k old new at keeps have = λ table number types
       | inr h ↦ have table number types chunk below h
     ]
 
-pub visit_keeps : (setting : Setting) (kinds : List (List Kind)) → EventKeeps (AreShared setting kinds) IsVisit
-visit_keeps setting kinds parts sessions i k session after old new shared at_session at_part visit =
-    let at : slice_get sessions i ≡ Some session = got_by sessions i session at_session in
-    let here : slice_get parts k ≡ Some old = got_by parts k old at_part in
+pub visit_keeps_at : (setting : Setting) (kinds : List (List Kind)) (parts : List SharedData) (sessions : List SessionData) (i k : ℕ)
+    (session after : SessionData) (old new : SharedData) → AreShared setting kinds parts sessions → slice_get sessions i ≡ Some session
+    → slice_get parts k ≡ Some old → IsVisit k session old after new → AreShared setting kinds (slice_set parts k new) (slice_set sessions i after)
+visit_keeps_at setting kinds parts sessions i k session after old new shared at here visit =
     let next = shared.laws.visits_steps setting shared.state (map part_of parts) sessions i session k (part_of old) visit.progress after (part_of new)
     shared.shown at (part_got parts k old here) visit.needed visit.visit in
     record {
@@ -119,3 +119,8 @@ visit_keeps setting kinds parts sessions i k session after old new shared at_ses
       shown = subst (λ (others : List Part). IsShown setting (step_of setting shared.state i).0 others (slice_set sessions i after))
           (sym (map-set part_of parts k new)) next.shown;
     }
+
+pub visit_keeps : (setting : Setting) (kinds : List (List Kind)) → EventKeeps (AreShared setting kinds) IsVisit
+visit_keeps setting kinds parts sessions i k session after old new shared at_session at_part visit =
+    visit_keeps_at setting kinds parts sessions i k session after old new shared (got_by sessions i session at_session)
+    (got_by parts k old at_part) visit

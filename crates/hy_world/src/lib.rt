@@ -13,6 +13,8 @@ ghost use Rattle.hy_stepping.specs.Typed.{AreTyped};
 
 mod answering;
 mod finishing;
+mod grouped;
+mod logged_threads;
 mod logging;
 mod opening;
 mod shared;
@@ -26,6 +28,7 @@ use hy_disk::NoDisk;
 use hy_machine::Setting;
 use hy_render::Outcome;
 use hy_value::{Kind, Seq};
+pub use logged_threads::{Crew, run_threads_logged};
 pub use logging::logs_tell_orders;
 use std::alloc::{AllocError, Global};
 pub use threads::{run_threads, world_by_threads};

@@ -91,42 +91,4 @@ impl World {
         world.run(alloc, schedule, &mut log, disk)?;
         Ok(world.finish(alloc)?)
     }
-
-    /// The entries of the journal.
-    fn entries(&self) -> &[Entry]
-        ensures { result.now ≡ self.now.core.entries }
-    {
-        self.core.since(0)
-    }
-
-    /// What its sessions came to, the commit order and the last rows of its tables, as `finish` tells them, with the whole
-    /// commit order appended to an empty log before. What a crash leaves at any moment recovers to the tables after some first
-    /// entries of that order. Err is for a fault of the disk, or for want of memory.
-    pub fn finish_logged<D: Disk>(
-        self,
-        alloc: Global,
-        log: Log,
-        disk: &mut D,
-    ) -> Result<Outcome, AppendError>
-        requires log { AreLogsOf (D.image disk.old) [] log }
-        ensures outcome { IfOk result (λ outcome. (setting : Setting) (schedule : List Item) → ShowsState setting (run_of setting schedule) self
-            → outcome ≡ outcome_of setting (run_of setting schedule)) }
-        ensures logged { IfOk result (λ outcome. HasLogged D.image D.image_since outcome.order (D.clock disk.old) disk.new) }
-        ensures durable { IfOk result (λ _. (setting : Setting) (kinds : List (List Kind)) (state : State) → ShowsState setting state self
-            → CanBeLogged kinds setting → IsDurable D.image D.image_since setting kinds state (D.clock disk.old) disk.new) }
-        // Where it breaks off too, a crash at any moment leaves the log of some first entries of the machine's order.
-        ensures moments { (setting : Setting) (kinds : List (List Kind)) (state : State) → ShowsState setting state self
-            → CanBeLogged kinds setting → LogsRun D.clock D.image_since setting kinds state disk.old disk.new }
-        ensures later { D.clock disk.old ≤ D.clock disk.new }
-        ensures fault { IsErrOf result AppendError.DiskFault → Rose (D.faults disk.old) (D.faults disk.new) }
-        ensures steady { ¬ IsErrOf result AppendError.DiskFault → D.faults disk.new ≡ D.faults disk.old }
-    {
-        hy_stepping::ends_are_the_machines();
-        hy_machine::runs_are_steps();
-        hy_stepping::logs_recover_tables();
-        hy_refinement::entries_tell_changes();
-        let mut log = log;
-        append(alloc, &mut log, disk, self.entries())?;
-        Ok(self.finish(alloc)?)
-    }
 }

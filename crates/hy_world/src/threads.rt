@@ -1,7 +1,7 @@
 //! A run with each session on a thread of its own: it takes the part that it needs, visits it and gives it back, with one
 //! lock word per chunk and one for the core.
 
-ghost use Rattle.std.specs.Prelude.{◌≡◌, IfOk, List, None};
+ghost use Rattle.std.specs.Prelude.{◌≡◌, ℕ, IfOk, List, None};
 ghost use Rattle.std.specs.List.{All};
 ghost use Rattle.hy_value.specs.declared.Kind.{Kind};
 ghost use Rattle.hy_machine.specs.declared.Setting.{Setting};
@@ -10,6 +10,7 @@ ghost use Rattle.hy_session.specs.Ahead.{IsShareAhead};
 ghost use Rattle.hy_stepping.specs.Runnable.{IsRunnable};
 ghost use Rattle.hy_stepping.specs.Typed.{AreTyped};
 ghost use Rattle.hy_threads.specs.Shares.{AreShares};
+ghost use Rattle.hy_world.specs.LoggedRuns.{IsLastCore};
 ghost use Rattle.hy_world.specs.Shared.{AreShared};
 ghost use Rattle.hy_world.specs.Points.{point_of, visited_of};
 ghost use Rattle.hy_world.specs.SomeRuns.{IsSomeRun, ShowsSomeRun};
@@ -30,11 +31,19 @@ use std::marker::{Brand, PhantomData};
 use std::sync::Wait;
 use std::thread::Threads;
 
-/// The setting of a run and the types of its tables' columns, for types alone: what holds of shared parts speaks of them.
+/// The setting of a run, the types of its tables' columns and what its disk was before, for types alone: what holds of shared parts
+/// speaks of them.
 pub(crate) trait Case {
     ghost setting: { Setting };
 
     ghost kinds: { List (List Kind) };
+
+    // The time of a disk before the run, the images that crashes may have left until then, and its faults, where a log is kept.
+    ghost time: { ℕ };
+
+    ghost before: { ℕ → List ℕ → Type 0 };
+
+    ghost failed: { ℕ };
 }
 
 impl Case for Brand {
@@ -43,6 +52,12 @@ impl Case for Brand {
     ghost setting = { record { chunks = 0; rows = 0; shapes = []; first = []; programs = [] } };
 
     ghost kinds = { [] };
+
+    ghost time = { 0 };
+
+    ghost before = { λ time bytes. ⊥ };
+
+    ghost failed = { 0 };
 }
 
 /// Parts and sessions that show a state which the machine comes to in a setting.
@@ -147,7 +162,7 @@ fn next_point(session: &Session) -> Option<Point>
 }
 
 /// What a visit came to.
-fn to_visited(progress: Progress) -> Visited
+pub(crate) fn to_visited(progress: Progress) -> Visited
     ensures { result ≡ visited_of progress }
 {
     match progress {
@@ -158,7 +173,7 @@ fn to_visited(progress: Progress) -> Visited
 }
 
 /// The world of parts and sessions that come back from the threads.
-fn world_of<K: Case>(
+pub(crate) fn world_of<K: Case>(
     alloc: Global,
     shapes: Shapes,
     per_table: u32,
@@ -170,6 +185,7 @@ fn world_of<K: Case>(
     requires per_table { per_table ≡ K.setting.chunks }
     ensures shows { IfOk result (λ world. (state : State) × ShowsState K.setting state world) }
     ensures sessions { IfOk result (λ world. world.sessions ≡ sessions.items) }
+    ensures core { IfOk result (λ world. IsLastCore parts.items world.core) }
 {
     let (chunks, core) = unshare(alloc, parts)?;
     let tables = shapes.len() as u32;
@@ -195,7 +211,11 @@ fn run_shared<K: Case + Send + Sync, T: Threads + Wait + Sync, G: Gate>(
     ensures shared { IfOk result (λ given. AreShared K.setting K.kinds given.0.items given.1.items) }
     ensures ended { IfOk result (λ given. All (λ session. point_of session ≡ None) given.1.items) }
 {
-    run_all::<T, Shown<K>, G>(rt, alloc, parts, sessions, gate)
+    let ran = run_all::<T, Shown<K>, G>(rt, alloc, parts, sessions, gate);
+    if ran.is_starved {
+        return Err(AllocError);
+    }
+    Ok((ran.parts, ran.sessions))
 }
 
 /// Runs a setting with each session on a thread of its own, where the setting is told by a type.

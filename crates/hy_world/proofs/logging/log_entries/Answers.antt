@@ -1,4 +1,4 @@
-use Rattle.std.proofs.Common.{◌≡◌, subst}
+use Rattle.std.proofs.Common.{subst}
 use Rattle.hy_world.specs.Logged.{IsKept}
 use Rattle.hy_world.proofs.Logs.{appended, append_cut}
 use Rattle.hy_world.proofs.logging.log_entries.Goals as goal

@@ -5,7 +5,7 @@
 //! the script `recovered_tables` left, made by another program.
 #![tactic(auto)]
 
-use hy_disk::{Disk, FileDisk};
+use hy_disk::FileDisk;
 use hy_outside::{MemSink, MemSource};
 use hy_threads::OpenGate;
 use std::alloc::AllocError;
@@ -52,7 +52,7 @@ fn shows_what_is_expected(
     rt: &(impl Files + Print + Threads + Wait + Sync + AllocGlobal),
     name: &str,
     words: &str,
-    disk: &mut impl Disk,
+    disk: &mut FileDisk<'_>,
 ) -> io::Result<bool> {
     let alloc = rt.alloc();
     let script = fs::read(rt, format!(in alloc; "{name}.hy")?)?;
@@ -81,7 +81,7 @@ fn printed_by(
     rt: &(impl Threads + Wait + Sync + AllocGlobal),
     words: &str,
     script: Vec<u8>,
-    disk: &mut impl Disk,
+    disk: &mut FileDisk<'_>,
 ) -> Result<Printed, AllocError> {
     let alloc = rt.alloc();
     let mut all = Vec::new(alloc);

@@ -123,7 +123,7 @@ fn found_instead(words: &[String], disk: &FileDisk<'_>) -> &'static str {
 }
 
 /// Calls the program, and gives the code of its status.
-fn exit_code_of<T: Threads + Wait + Sync, R: Source, W: Sink, D: Disk>(
+fn exit_code_of<T: Threads + Wait + Sync, R: Source, W: Sink, D: Disk + Send + Sync>(
     rt: &T,
     alloc: Global,
     words: &[String],

@@ -4,9 +4,10 @@
 use crate::runs::{OLD_SNAPSHOT, OLD_SNAPSHOT_TEXT, words_of};
 use hy_disk::MemDisk;
 use hy_outside::{MemSink, MemSource};
-use hy_threads::OpenGate;
+use hy_threads::{Gate, Moment, OpenGate, PieceGate, Point};
 use std::alloc::{AllocError, Global};
 use std::sync::Wait;
+use std::sync::atomic::{AtomicBool, AtomicU64, Ordering};
 use std::test::Fail;
 use std::thread::Threads;
 
@@ -54,12 +55,71 @@ fn came_of<T: Threads + Wait + Sync + AllocGlobal>(
     script: &[u8],
     disk: &mut MemDisk,
 ) -> Result<(u8, Vec<u8>), AllocError> {
+    came_beside(rt, &OpenGate, words, script, disk)
+}
+
+/// The same with a gate, which is told of visits where sessions run on threads.
+fn came_beside<T: Threads + Wait + Sync + AllocGlobal, G: Gate>(
+    rt: &T,
+    gate: &G,
+    words: &[&str],
+    script: &[u8],
+    disk: &mut MemDisk,
+) -> Result<(u8, Vec<u8>), AllocError> {
     let alloc = rt.alloc();
     let words = words_of(alloc, words)?;
     let mut source = MemSource::new(script.to_vec(alloc)?, 4096, Vec::new(alloc));
     let mut sink = MemSink::new(alloc, 10_000, Vec::new(alloc))?;
-    let report = hy_top::run(rt, alloc, &words, &mut source, &mut sink, &OpenGate, disk);
+    let report = hy_top::run(rt, alloc, &words, &mut source, &mut sink, gate, disk);
     Ok((report.status, sink.bytes().to_vec(alloc)?))
+}
+
+/// How many sessions commit at once.
+const WRITERS: u64 = 8;
+
+/// The number of the log's part beside a table of one chunk for each of them: the core stands before it.
+const LOG_PART: usize = 9;
+
+/// Whoever is first to hold the log waits there until each session has left its transaction.
+#[derive(Drop)]
+struct AllLeave {
+    /// A bit for each session that has.
+    left: AtomicU64,
+    /// A wait took too many turns.
+    is_late: AtomicBool,
+}
+
+impl AllLeave {
+    fn has_all(&self) -> bool {
+        self.left.load(Ordering::SeqCst).count_ones() as u64 == WRITERS
+    }
+
+    /// Waits until all have left.
+    fn wait(&self) {
+        for _ in 0..1_000_000_000u32 {
+            if self.has_all() {
+                return;
+            }
+        }
+        self.is_late.store(true, Ordering::SeqCst);
+    }
+}
+
+impl PieceGate for AllLeave {
+    fn piece(&self, _piece: usize) {}
+}
+
+impl Gate for AllLeave {
+    fn pass(&self, point: &Point) {
+        match (point.part, point.txn, point.moment) {
+            (LOG_PART, _, Moment::Held) => self.wait(),
+            (_, 2, Moment::Before) => {
+                self.left
+                    .fetch_or(1 << (point.session % 64), Ordering::SeqCst);
+            }
+            _ => {}
+        }
+    }
 }
 
 /// Whether `recover` makes one of these texts of each of these images.
@@ -196,5 +256,45 @@ fn sessions_on_threads_leave_a_log_of_their_order(rt: HostRuntime) -> Result<(),
     let (status, tables) = came_of(&rt, &["hy", "recover"], script, &mut disk)?;
     assert_eq!(rt; status, 0);
     assert!(rt; text.as_slice().ends_with(tables.as_slice()));
+    Ok(())
+}
+
+/// The first entry is appended alone, and the seven that come meanwhile together: with the making of the log that takes eleven
+/// calls of the disk, the twelfth of which would fail.
+#[test]
+fn entries_that_wait_share_an_append(rt: HostRuntime) -> Result<(), Fail> {
+    let alloc = rt.alloc();
+    let mut script = String::new(alloc);
+    for number in 0..WRITERS {
+        let table = format!(in alloc;
+            "CREATE TABLE t{number} (n INT); INSERT INTO t{number} VALUES (0); "
+        )?;
+        script.push_str(table.as_str())?;
+    }
+    for number in 0..WRITERS {
+        let session = format!(in alloc;
+            "SESSION s{number}; BEGIN; UPDATE t{number} SET n = 1; COMMIT; "
+        )?;
+        script.push_str(session.as_str())?;
+    }
+    script.push_str("END;")?;
+    let mut disk = disk_of(alloc, &[], &[12])?;
+    let gate = AllLeave {
+        left: AtomicU64::new(0),
+        is_late: AtomicBool::new(false),
+    };
+    let words = [
+        "hy",
+        "run",
+        "--threads",
+        "--log",
+        "--chunks",
+        "1",
+        "--rows",
+        "1",
+    ];
+    let (status, _) = came_beside(&rt, &gate, &words, script.as_bytes(), &mut disk)?;
+    assert_eq!(rt; status, 0);
+    assert!(rt; !gate.is_late.load(Ordering::SeqCst));
     Ok(())
 }

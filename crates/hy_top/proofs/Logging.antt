@@ -1,12 +1,12 @@
 -- What the log of a run recovers to: the tables after some first entries of its commit order, and in the end its own.
 use Rattle.std.proofs.Common.{◌≡◌, ◌⊎◌, ℕ, ◌<◌, ◌≤◌, List, [], ◌∷◌, Bool, true, false, Option, None, Some, IsNone, IfSome, Result, Ok, Err, length, map, ap, sym, subst, refl, ◌∙◌, inl, inr, le_refl, le_trans, arith}
 use Rattle.std.proofs.Math.Logic.{⊎_elim}
-use Rattle.std.specs.Prelude.{OnErr}
+use Rattle.std.specs.Prelude.{IfOk, OnErr}
 use mathlib.Core.List.{map-map}
 use Rattle.std.proofs.lemmas.List.{take_all}
 use Rattle.hy_log_record.specs.declared.HeldTable.{HeldTable}
 use Rattle.hy_machine.specs.Tables.{Entry, history, opening_tables}
-use Rattle.hy_machine.specs.Outcomes.{rows_sorted}
+use Rattle.hy_machine.specs.Outcomes.{outcome_of, rows_sorted}
 use Rattle.hy_machine.specs.Runs.{RunsAreSteps, RunsEnd, opening_of, run_of}
 use Rattle.hy_machine.specs.declared.Setting.{Setting}
 use Rattle.hy_render.specs.declared.Outcome.{Outcome}
@@ -20,7 +20,8 @@ use Rattle.hy_bound.specs.declared.schedule.Item.{Item}
 use Rattle.hy_value.specs.declared.Kind.{Kind}
 use Rattle.hy_words.specs.declared.Command.{Command}
 use Rattle.hy_world.specs.Logged.{RecoversAfter, IsDurable, HasLogged, LogsRun}
-use Rattle.hy_world.specs.SomeRuns.{ShowsSomeRun}
+use Rattle.hy_redo.specs.declared.errors.AppendError.{AppendError}
+use Rattle.hy_world.specs.LoggedRuns.{RanLogged}
 use Rattle.hy_world.specs.Worlds.{WorldData, ShowsState}
 use Rattle.hy_top.specs.Program.{MayCome, comes_to, keeps_log, scheduled}
 use Rattle.hy_top.specs.Reports.{IsRestored, IsLoggedSince, Writes, Runs, GaveUp, IsLogOfScript, KeepsLog, KeepsLogOf, HasKept, IsHalfMade, IsLogged, LeavesLog, LeavesLogOf, tables_after}
@@ -203,12 +204,6 @@ pub cut_own : {D : Type 0} (clock : D → ℕ) (image : D → List ℕ → Type 
 cut_own clock image image_since threads script before after keeps =
     record { schedule = script.schedule; own = λ same. refl; comes = tt; keeps = keeps; logged = tt }
 
--- a world shows a run of the script by some schedule
-pub some_run_shown : (script : Script) (setting : Setting) (world : WorldData) → setting ≡ setting_at script → (some : ShowsSomeRun setting world)
-    → ShowsState (setting_at script) (run_of (setting_at script) some.schedule) world
-some_run_shown script setting world same some =
-    subst (λ (s : Setting). ShowsState s (run_of s some.schedule) world) same some.shows
-
 -- by the schedule that the threads decided
 pub kept_by : {D : Type 0} (clock : D → ℕ) (image : D → List ℕ → Type 0) (image_since : D → ℕ → List ℕ → Type 0) (script : Script)
     (schedule : List Item) (outcome : Outcome) (before after : D) → outcome ≡ comes_to (scheduled script schedule)
@@ -235,6 +230,34 @@ cut_by clock image image_since script schedule before after logs = record {
   keeps = keeps_so clock image_since (scheduled script schedule) before after logs;
   logged = tt;
 }
+
+-- so of what a run on threads comes to
+pub ran_keeps : {D : Type 0} (clock : D → ℕ) (image : D → List ℕ → Type 0) (image_since : D → ℕ → List ℕ → Type 0) (script : Script) (setting : Setting)
+    (kinds : List (List Kind)) (r : Result Outcome AppendError) (before after : D) → setting ≡ setting_at script → kinds ≡ catalog_kinds script.catalog
+    → CanBeLogged (catalog_kinds script.catalog) (setting_at script) → RanLogged clock image image_since setting kinds r before after
+    → IfOk r (λ outcome. KeepsLogOf clock image image_since true script (Some outcome) before after)
+    × OnErr r (KeepsLogOf clock image image_since true script None before after)
+ran_keeps clock image image_since script setting kinds r before after same are can ran =
+    by r (subst (λ (s : Setting). RanLogged clock image image_since s (catalog_kinds script.catalog) r before after) same
+    (subst (λ (k : List (List Kind)). RanLogged clock image image_since setting k r before after) are ran))
+  where
+    by : (r : Result Outcome AppendError) → RanLogged clock image image_since (setting_at script) (catalog_kinds script.catalog) r before after
+        → IfOk r (λ outcome. KeepsLogOf clock image image_since true script (Some outcome) before after)
+        × OnErr r (KeepsLogOf clock image image_since true script None before after)
+    by (Ok outcome) told = (
+      kept_by clock image image_since script told.schedule outcome before after told.outcome (told.moments can) told.logged (told.durable can),
+      tt,
+    )
+    by (Err e) told = (tt, cut_by clock image image_since script told.schedule before after (told.moments can))
+
+-- and its outcome may come of the script
+pub ran_comes : {D : Type 0} (clock : D → ℕ) (image : D → List ℕ → Type 0) (image_since : D → ℕ → List ℕ → Type 0) → RunsAreSteps → RunsEnd
+    → (script : Script) (setting : Setting) (kinds : List (List Kind)) (r : Result Outcome AppendError) (before after : D) → setting ≡ setting_at script
+    → RanLogged clock image image_since setting kinds r before after → IfOk r (λ outcome. MayCome true script outcome)
+ran_comes clock image image_since steps ends script setting kinds (Ok outcome) before after same ran =
+    comes_so steps ends script ran.schedule outcome
+    (ran.outcome ∙ ap (λ (s : Setting). outcome_of s (run_of s ran.schedule)) same)
+ran_comes clock image image_since steps ends script setting kinds (Err e) before after same ran = tt
 
 -- it is said of a result that is an error
 pub if_err : {T E : Type 0} (r : Result T E) (P : Type 0) → P → OnErr r P

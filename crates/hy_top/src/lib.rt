@@ -38,6 +38,7 @@ use hy_render::{Names, Outcome, render, summarize};
 use hy_script::{Code, Options, ReadError, Refused, Script, read_once, what_is_read_fits};
 use hy_threads::Gate;
 use hy_words::{Command, WordsError};
+use hy_world::Crew;
 pub use laws::{one_text_is_of_one_outcome, what_is_read_is_named, what_is_read_is_utf8};
 use lines::{check_line, refusal_line};
 use logs::{recover_script, run_logged};
@@ -57,14 +58,6 @@ pub struct Report {
     pub status: u8,
     /// What the run of the script came to, if there was one.
     pub outcome: Option<Outcome>,
-}
-
-/// What sessions on threads of their own are run with.
-#[derive(Drop)]
-struct Crew<'a, T, G> {
-    rt: &'a T,
-    alloc: Global,
-    gate: &'a G,
 }
 
 /// How a script is run.
@@ -98,7 +91,7 @@ const USAGE: &[u8] = b"usage: hy run|check|gen\n";
 /// run; `explain` reads and runs one, and writes which transactions were refused, and why. `serve` answers each line of the
 /// source before it reads the next, and keeps a log too with `--log`. What is said of a sink's bytes and of crashes holds where
 /// the sink and the disk tell them.
-pub fn run<T: Threads + Wait + Sync, R: Source, W: Sink, G: Gate, D: Disk>(
+pub fn run<T: Threads + Wait + Sync, R: Source, W: Sink, G: Gate, D: Disk + Send + Sync>(
     rt: &T,
     alloc: Global,
     words: &[String],
@@ -280,7 +273,7 @@ fn write<W: Sink>(sink: &mut W, bytes: &[u8], done: u8) -> u8
 }
 
 /// Reads a script, and does what the command asks for.
-fn run_command<T: Threads + Wait + Sync, R: Source, W: Sink, G: Gate, D: Disk>(
+fn run_command<T: Threads + Wait + Sync, R: Source, W: Sink, G: Gate, D: Disk + Send + Sync>(
     crew: &Crew<'_, T, G>,
     command: Command,
     source: &mut R,
@@ -358,7 +351,7 @@ fn options_of(command: Command) -> Options
 }
 
 /// Does what a command asks for with the script that the bytes spell.
-fn answer<T: Threads + Wait + Sync, W: Sink, G: Gate, D: Disk>(
+fn answer<T: Threads + Wait + Sync, W: Sink, G: Gate, D: Disk + Send + Sync>(
     crew: &Crew<'_, T, G>,
     command: Command,
     bytes: &[u8],
@@ -396,7 +389,7 @@ fn answer<T: Threads + Wait + Sync, W: Sink, G: Gate, D: Disk>(
 }
 
 /// Does what a command asks for with a script, which these bytes spell.
-fn perform<T: Threads + Wait + Sync, W: Sink, G: Gate, D: Disk>(
+fn perform<T: Threads + Wait + Sync, W: Sink, G: Gate, D: Disk + Send + Sync>(
     crew: &Crew<'_, T, G>,
     command: Command,
     bytes: &[u8],

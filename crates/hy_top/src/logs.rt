@@ -28,7 +28,7 @@ use hy_render::{Names, Outcome, render, render_tables};
 use hy_schema::Catalog;
 use hy_script::Script;
 use hy_threads::Gate;
-use hy_world::{World, world_by_threads};
+use hy_world::{World, run_threads_logged};
 use std::alloc::{AllocError, Global};
 use std::sync::Wait;
 use std::thread::Threads;
@@ -40,9 +40,9 @@ pub(crate) const NOT_EMPTY: &[u8] = b"log: not empty\n";
 pub(crate) const BAD_LOG: u8 = 7;
 
 /// Makes a log on the disk, runs a script with its commit order in the log, and writes the text of its outcome. By its schedule
-/// each entry is in the log before another step is taken; on threads all are put into it behind the run, before anything is
-/// written. Where the disk has bytes it says so, nothing is run, and the disk stays.
-pub(crate) fn run_logged<T: Threads + Wait + Sync, W: Sink, G: Gate, D: Disk>(
+/// each entry is in the log before another step is taken; on threads before its session goes on. Where the disk has bytes it says
+/// so, nothing is run, and the disk stays.
+pub(crate) fn run_logged<T: Threads + Wait + Sync, W: Sink, G: Gate, D: Disk + Send + Sync>(
     crew: &Crew<'_, T, G>,
     script: Script,
     mode: Mode,
@@ -70,7 +70,7 @@ pub(crate) fn run_logged<T: Threads + Wait + Sync, W: Sink, G: Gate, D: Disk>(
 }
 
 /// Runs a script with its commit order in this log, which is empty, and writes the text of its outcome.
-fn run_on_log<T: Threads + Wait + Sync, W: Sink, G: Gate, D: Disk>(
+fn run_on_log<T: Threads + Wait + Sync, W: Sink, G: Gate, D: Disk + Send + Sync>(
     crew: &Crew<'_, T, G>,
     script: Script,
     mode: Mode,
@@ -97,7 +97,7 @@ fn run_on_log<T: Threads + Wait + Sync, W: Sink, G: Gate, D: Disk>(
 }
 
 /// The outcome of a script that is run with its commit order in this log, and its text.
-fn logged_text<T: Threads + Wait + Sync, G: Gate, D: Disk>(
+fn logged_text<T: Threads + Wait + Sync, G: Gate, D: Disk + Send + Sync>(
     crew: &Crew<'_, T, G>,
     script: Script,
     mode: Mode,
@@ -120,7 +120,7 @@ fn logged_text<T: Threads + Wait + Sync, G: Gate, D: Disk>(
 }
 
 /// The outcome of a script that is run with its commit order in this log, and the names that it is printed with.
-fn logged_outcome<T: Threads + Wait + Sync, G: Gate, D: Disk>(
+fn logged_outcome<T: Threads + Wait + Sync, G: Gate, D: Disk + Send + Sync>(
     crew: &Crew<'_, T, G>,
     script: Script,
     mode: Mode,
@@ -172,9 +172,9 @@ fn logged_by_schedule<D: Disk>(
     Ok((outcome, names))
 }
 
-/// The outcome of a script that is run with each session on a thread of its own, with the whole commit order in this log, and
-/// the names that it is printed with.
-fn logged_by_threads<T: Threads + Wait + Sync, G: Gate, D: Disk>(
+/// The outcome of a script that is run with each session on a thread of its own, each of which is told how a transaction ended
+/// once its entry is in this log, and the names that it is printed with.
+fn logged_by_threads<T: Threads + Wait + Sync, G: Gate, D: Disk + Send + Sync>(
     crew: &Crew<'_, T, G>,
     script: Script,
     prunes: bool,
@@ -191,17 +191,15 @@ fn logged_by_threads<T: Threads + Wait + Sync, G: Gate, D: Disk>(
     ensures steady { ¬ IsErrOf result AppendError.DiskFault → D.faults disk.new ≡ D.faults disk.old }
 {
     runs_are_steps();
-    let alloc = crew.alloc;
     let Given {
         setting,
         kinds,
         names,
         schedule: _,
-    } = given_of(alloc, script)?;
-    let types = kinds.as_slice();
-    let world = world_by_threads(crew.rt, alloc, setting, types, prunes, crew.gate)?;
-    let outcome = world.finish_logged(alloc, log, disk)?;
-    Ok((outcome, names))
+    } = given_of(crew.alloc, script)?;
+    let (ran, back) = run_threads_logged(crew, setting, kinds.as_slice(), prunes, log, disk.take());
+    *disk = back;
+    Ok((ran?, names))
 }
 
 /// Writes the tables that the log on the disk makes of a script's first rows, as they are told or dumped, or where the log is

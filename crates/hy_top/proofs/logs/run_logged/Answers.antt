@@ -9,7 +9,8 @@ pub returns-in-Ok-clause-leaves : goal.returns-in-Ok-clause-leaves
 returns-in-Ok-clause-leaves g c =
     let d = g.D.Disk in
     let threads = c.args.mode.threads in
-    leaves_kept_of d.held d.clock d.image d.image_since g.met.D.Disk.now_alone threads c.args.script _ _ c.args.disk.now c.create.new.disk
+    let laws = g.met.D.Disk g.world.𝓛 g.world.𝓜 g.world.𝓡 ((λ s x. x), (λ x. x), (λ x. x), λ x. x) in
+    leaves_kept_of d.held d.clock d.image d.image_since laws.now_alone threads c.args.script _ _ c.args.disk.now c.create.new.disk
     c.run_on_log.new.disk _ c.in-Ok.ensures.begun c.in-Ok.ensures.logs
     c.run_on_log.ensures.keeps (gave_up threads c.args.script c.run_on_log.result.status c.run_on_log.result.outcome
     (g.W.Sink.written c.args.sink.now) (g.W.Sink.written c.run_on_log.new.sink) (⊎_elim (λ p. inl (p.0, p.2)) (λ r. inr r) c.run_on_log.ensures.run))

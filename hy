@@ -31,7 +31,7 @@ FILE is the script. Where none is named, or it is -, the script is standard inpu
 
     --threads           each session on a thread of its own; the schedule isn't used
     --no-prune          old versions are kept
-    --log               the commits are kept in a log; with --threads all at once, behind the run
+    --log               the commits are kept in a log
     --script            the tables as the beginning of a script that goes on from them
     --chunks N          each table has N chunks, 1 to 64; 4 where nothing is said
     --rows N            each chunk has N rows, 1 to 1024; 1024 where nothing is said
@@ -133,7 +133,8 @@ clean() {
         [ -z "$ticker" ] || kill -KILL "$ticker"
         [ -z "$child" ] || { kill "$child" && wait "$child"; }
     } 2>/dev/null
-    [ -z "$room" ] || rm -rf "$room"
+    # What rt began ends a moment behind it, and may write there meanwhile.
+    [ -z "$room" ] || rm -rf "$room" 2>/dev/null || { sleep 1; rm -rf "$room"; }
     [ -z "$locked" ] || rm -rf "$lock"
 }
 
@@ -253,67 +254,54 @@ is_gone() {
     esac
 }
 
-# Sets the folder that rt works in. It can't work in one whose path isn't text, so then it gets a copy of the sources.
-find_bench() {
-    bench=$root
-    printf '%s' "$root" | iconv -f UTF-8 -t UTF-8 >/dev/null 2>&1 && return
-    make_room
-    bench=$room/sources
-    complain "the path isn't text, so a copy of the sources is taken to $bench"
-    (
-        cd "$root" && mkdir "$bench" && cp crates.txt HANDLES "$bench" || exit
-        for part in crates/*/src crates/*/specs crates/*/proofs; do
-            [ -d "$part" ] || continue
-            mkdir -p "$bench/${part%/*}" && cp -R "$part" "$bench/$part" || exit
-        done
-    ) || fail "the sources can't be copied to $bench"
-}
-
-# Takes the program over from the copy.
-take_program() {
-    [ "$bench" = "$root" ] && return
-    mkdir -p "$crate/out" && cp "$bench/crates/hy_main/out/hy_main" "$program.new" && mv "$program.new" "$program"
-}
-
-# How many crates the program is made of: its own, and all that it stands on.
-count_crates() {
+# The lines of crates.txt of the program's crates: its own, behind all that it stands on.
+list_crates() {
     awk '
-        function count(name, parts, number, i, found) {
-            if (!(name in below) || name in seen) return 0
+        function list(name, parts, number, i) {
+            if (!(name in below) || name in seen) return
             seen[name]
             number = split(below[name], parts)
-            for (i = found = 1; i <= number; i++) found += count(parts[i])
-            return found
+            for (i = 1; i <= number; i++) list(parts[i])
+            print lines[name]
         }
-        !/^#/ && /:/ { name = $1; sub(/:.*/, "", name); sub(/^[^:]*:/, ""); below[name] = $0 }
-        END { print count("hy_main") }
+        !/^#/ && /:/ { name = $1; sub(/:.*/, "", name); lines[name] = $0; sub(/^[^:]*:/, ""); below[name] = $0 }
+        END { list("hy_main") }
     ' "$root/crates.txt"
 }
 
-# How many crates are proved at once: one a processor, as far as there are 3 GB of memory for each.
-count_lanes() {
-    lanes=$(nproc 2>/dev/null) || lanes=1
-    free=$(awk '/^MemAvailable:/ { print int($2 / 3000000) }' /proc/meminfo 2>/dev/null)
-    [ "${free:-$lanes}" -ge "$lanes" ] || lanes=$free
-    [ "$lanes" -ge 1 ] || lanes=1
-    echo "$lanes"
+# Makes the folder that rt works in: a copy of these crates, with what the program is run on, and without the edits, which the
+# program doesn't need. rt can't work in a folder whose path isn't text. It holds a .git for the top of a repository, and
+# wants crates.txt there, whatever folder is above.
+make_bench() {
+    make_room
+    bench=$room/sources
+    (
+        mkdir -p "$bench/.git" && list_crates >"$bench/crates.txt" && cp "$root/HANDLES" "$bench" || exit
+        while IFS=': ' read -r name _; do
+            mkdir -p "$bench/crates/$name" || exit
+            for part in src specs proofs args stdin stdout status; do
+                part=$root/crates/$name/$part
+                [ ! -e "$part" ] || cp -R "$part" "$bench/crates/$name" || exit
+            done
+        done <"$bench/crates.txt"
+    ) || fail "the sources can't be copied to $bench"
 }
 
-# Tells each minute how far the build is, as long as it goes on. rt prints a line == NAME for each crate that is done.
+# Takes the program over from there.
+take_program() {
+    mkdir -p "$crate/out" && cp "$bench/crates/hy_main/out/hy_main" "$program.new" && mv "$program.new" "$program"
+}
+
+# Tells each minute how far the build is, as long as it goes on. rt prints one of these lines for each crate that is done.
 tick() {
     while sleep 60 >/dev/null 2>&1 && kill -0 $$ 2>/dev/null; do
-        complain "$(grep -c '^== hy_' "$log") of $crates crates, after $((($(date +%s) - began) / 60)) min"
+        ready=$(grep -c -e '^rt: [^ ]* proved$' -e '^rt: [^ ]* is kept' "$log")
+        complain "$ready of $crates crates, after $((($(date +%s) - began) / 60)) min"
     done
 }
 
-# Has rt prove the crates, as many at once as it is told, and without the tests and the edits that the gate tries.
-prove() {
-    (cd "$bench/crates/hy_main" && exec rt all check --jobs "$1") >"$log" 2>&1 &
-    attend
-}
-
-# Proves and builds the program, from what earlier builds kept. rt runs it then, on a script without anything in it, so that
-# rt's status is 0 just where the program was built and runs.
+# Proves and builds the program, each crate from nothing, but for those that an earlier build or gate on this machine proved.
+# rt runs it then as the gate does, so that its status is 0 just where the program was built and runs.
 build() {
     take_lock
     if is_built; then
@@ -323,24 +311,16 @@ build() {
     command -v rt >/dev/null || fail "the program must be built, and the toolchain's command rt is not on the PATH"
     sources=$(sum_of_sources)
     began=$(date +%s)
-    crates=$(count_crates)
-    lanes=$(count_lanes)
-    find_bench
-    complain "proving and building $crates crates, $lanes at a time (log: $log)"
+    make_bench
+    crates=$(grep -c : "$bench/crates.txt")
+    complain "proving and building $crates crates (log: $log)"
     tick &
     ticker=$!
-    prove "$lanes"
-    if [ "$status" -ne 0 ] && [ "$lanes" -gt 1 ] && grep -q ': failed (-9)$' "$log"; then
-        complain "a check was killed, most likely for want of memory: going on with one crate at a time"
-        prove 1
-    fi
-    if [ "$status" -eq 0 ]; then
-        printf 'END;\n' | (cd "$bench/crates/hy_main" && exec rt run -- check) >>"$log" 2>&1 &
-        attend
-    fi
+    (cd "$bench" && exec rt ci) >"$log" 2>&1 &
+    attend
     took=$(($(date +%s) - began))
     if [ "$status" -ne 0 ] || ! take_program || [ ! -x "$program" ]; then
-        { grep -e error -e ': not proved$' -e ': failed (' "$log" || tail -n 20 "$log"; } | head -n 20 >&2
+        { grep -e error -e 'NOT PROVED$' "$log" | head -n 20; tail -n 5 "$log"; } | awk '!told[$0]++' >&2
         fail "the build failed after $took s: rt ended with status $status (whole log: $log)"
     fi
     find_toolchain
@@ -409,8 +389,7 @@ run_unproved() {
     complain "these sources are not proved yet; ./hy build proves and builds them (about an hour on four processors)"
     complain "running them unproved: in a minute or two, behind the end of the input"
     copy_script
-    find_bench
-    make_room
+    make_bench
     set -- -- "$@"
     kept=hy.log
     if [ "$command" = recover ]; then

@@ -3,11 +3,12 @@
 run: python3 bench/threads.py PROGRAM [TURNS [WORK..]]      PROGRAM is hy_timed; works: scan own bank
 
 A line for each count of sessions: seconds by the clock and by the processor without threads and with them, each the least of
-so many turns, how many times as fast by the clock as one session on threads, and how often threads slept, woke others and
-yielded, where strace is there to count. What a run without threads takes is what its call takes beyond what the same script's
-call takes on threads besides its sessions.
+so many turns, in which the counts come one after another, how many times as fast by the clock as one session on threads, and
+how often threads slept, woke others and yielded, where strace is there to count. What a run without threads takes is what its
+call takes beyond what the same script's call takes on threads besides its sessions.
 """
 
+import contextlib
 import shutil
 import subprocess
 import sys
@@ -103,26 +104,38 @@ def calls_of(words, script):
     return found
 
 
+def counts_in_turn(heads, scripts, turns):
+    """Times each count of sessions on threads and without, turn by turn, so that a slow minute of the machine meets all alike."""
+    told = {count: ([], []) for count in COUNTS}
+    for _ in range(turns):
+        for count in COUNTS:
+            on_threads, by_turns = told[count]
+            on_threads.append(timed([*heads[count], "--threads"], scripts[count]))
+            by_turns.append(timed(heads[count], scripts[count]))
+    return told
+
+
 def measure(program, name, turns):
     """Measures a work, and tells it line by line."""
     work = WORKS[name]
-    alone = None
-    for count in COUNTS:
-        with tempfile.TemporaryFile("w+") as script:
+    heads = {count: [program, str(work.transactions // count), "run", *work.words.split()] for count in COUNTS}
+    with contextlib.ExitStack() as opened:
+        scripts = {count: opened.enter_context(tempfile.TemporaryFile("w+")) for count in COUNTS}
+        for count, script in scripts.items():
             script.write(script_of(work, count))
             script.flush()
-            head = [program, str(work.transactions // count), "run", *work.words.split()]
-            on_threads = [timed([*head, "--threads"], script) for _ in range(turns)]
-            by_turns = [timed(head, script) for _ in range(turns)]
-            calls = calls_of([*head, "--threads"], script)
-        clock = min(told.clock for told in on_threads)
-        processor = min(told.processor for told in on_threads)
-        beside_clock = min(told.whole_clock - told.clock for told in on_threads)
-        beside = min(told.whole_processor - told.processor for told in on_threads)
-        without_clock = min(told.whole_clock for told in by_turns) - beside_clock
-        without = min(told.whole_processor for told in by_turns) - beside
-        alone = alone or clock
-        said = "not counted" if calls is None else f"futex {calls['futex']}, yield {calls['sched_yield']}"
+        told = counts_in_turn(heads, scripts, turns)
+        calls = {count: calls_of([*heads[count], "--threads"], scripts[count]) for count in COUNTS}
+    alone = min(one.clock for one in told[1][0])
+    for count, (on_threads, by_turns) in told.items():
+        clock = min(one.clock for one in on_threads)
+        processor = min(one.processor for one in on_threads)
+        beside_clock = min(one.whole_clock - one.clock for one in on_threads)
+        beside = min(one.whole_processor - one.processor for one in on_threads)
+        without_clock = min(one.whole_clock for one in by_turns) - beside_clock
+        without = min(one.whole_processor for one in by_turns) - beside
+        found = calls[count]
+        said = "not counted" if found is None else f"futex {found['futex']}, yield {found['sched_yield']}"
         print(
             f"{name} {count}: without threads {without_clock:.4f} ({without:.4f}); with {clock:.4f} ({processor:.4f}), "
             f"{alone / clock:.2f} times one, processor {processor / without:.2f} times without; {said}",

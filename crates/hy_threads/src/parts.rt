@@ -375,11 +375,12 @@ impl<P: Parted> Parts<P> {
         self.waiting[k].turn()
     }
 
-    /// Sleeps until the turn of the part k is another one, and gives that. It may return earlier.
-    pub(crate) fn next_turn<T: Wait>(&self, rt: &T, k: usize, turn: u32) -> u32
+    /// Waits until the turn of the part k is another one, and gives that; it sleeps at once where that is long. It may return
+    /// earlier.
+    pub(crate) fn next_turn<T: Wait>(&self, rt: &T, k: usize, turn: u32, is_long: bool) -> u32
         requires { k < self.now.slots }
     {
-        self.waiting[k].wait(rt, turn);
+        self.waiting[k].wait(rt, turn, is_long);
         self.waiting[k].turn()
     }
 

@@ -67,9 +67,9 @@ impl Waiting {
         (self.turn.load(Ordering::SeqCst) % 0x1_0000_0000) as u32
     }
 
-    /// Waits until the turn is another one. It may return earlier.
-    pub(crate) fn wait<T: Wait>(&self, rt: &T, turn: u32) {
-        if self.look(turn) {
+    /// Waits until the turn is another one, and sleeps at once where that is long. It may return earlier.
+    pub(crate) fn wait<T: Wait>(&self, rt: &T, turn: u32, is_long: bool) {
+        if !is_long && self.look(turn) {
             return;
         }
         // Whoever changes the turn reads the count after that, and a thread sleeps only while the turn is as it was.

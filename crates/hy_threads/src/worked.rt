@@ -57,6 +57,10 @@ pub trait Worked: Parted {
         requires { AreShares is_share session.old shares.items }
         ensures { session.new ≡ session.old };
 
+    /// Whether what a blocked session waits for takes long, as a sync does: then its worker sleeps at once, and leaves the
+    /// processor to others.
+    fn is_long_wait(session: &Self::Session) -> bool;
+
     /// The next visit. None at the end.
     fn need(session: &Self::Session) -> Option<Point>
         ensures { result ≡ point_of session.now };

@@ -137,7 +137,7 @@ impl<P: Worked> Worker<P> {
         ensures { self.new ≡ self.old }
     {
         let turn = match self.turn {
-            Some(turn) => parts.next_turn(rt, part, turn),
+            Some(turn) => parts.next_turn(rt, part, turn, P::is_long_wait(&self.session)),
             None => parts.begin_blocked(part),
         };
         self.turn = Some(turn);

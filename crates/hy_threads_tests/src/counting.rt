@@ -92,6 +92,10 @@ impl Worked for Counting {
         let _ = (session.offers, shares.len());
     }
 
+    fn is_long_wait(_session: &Adder) -> bool {
+        false
+    }
+
     fn need(session: &Adder) -> Option<Point> {
         next_point(session)
     }

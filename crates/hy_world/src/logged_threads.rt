@@ -114,6 +114,11 @@ impl<K: Case, D: Disk + Send + Sync> Worked for ShownLogged<K, D> {
         session.session.take_shares(alloc, shares.as_slice());
     }
 
+    fn is_long_wait(session: &LoggedSession) -> bool {
+        // It waits for an append, unless it is held up as it is without a log.
+        session.awaits()
+    }
+
     fn need(session: &LoggedSession) -> Option<Point> {
         next_point(session)
     }

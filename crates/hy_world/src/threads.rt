@@ -126,6 +126,10 @@ impl<K: Case> Worked for Shown<K> {
         session.take_shares(alloc, shares.as_slice());
     }
 
+    fn is_long_wait(_session: &Session) -> bool {
+        false
+    }
+
     fn need(session: &Session) -> Option<Point> {
         next_point(session)
     }

@@ -17,7 +17,7 @@ ghost use Rattle.hy_plan.specs.Reads.{by_key_of};
 ghost use Rattle.hy_chunk.specs.Backing.{MayGoBack, change_back};
 ghost use Rattle.hy_chunk.specs.Candidates.{AreCandidates};
 ghost use Rattle.hy_chunk.specs.Gathering.{AreEnough, conditions_of, gathered_by, gathered_of, kept_by};
-ghost use Rattle.hy_chunk.specs.Keyed.{is_key_of};
+ghost use Rattle.hy_chunk.specs.Keyed.{AreFound, is_key_of};
 ghost use Rattle.hy_chunk.specs.Masked.{Admits, Confirms};
 ghost use Rattle.hy_chunk.specs.Parts.{part_of};
 ghost use Rattle.hy_bound.specs.Records.{conjuncts};
@@ -31,6 +31,7 @@ ghost use Rattle.hy_undo.specs.Sweeps.{swept};
 ghost use Rattle.hy_stamp.specs.declared.Viewer.{Viewer};
 ghost use Rattle.hy_value.specs.declared.Value.{Value};
 ghost use Rattle.hy_value.specs.declared.Cmp.{Cmp};
+ghost use Rattle.hy_value.specs.Refs.{referred};
 ghost use Rattle.hy_bound.specs.declared.predicate.Side.{Side};
 
 use crate::gathering::{
@@ -47,7 +48,7 @@ use hy_plan::Gathered;
 use hy_prune::{Cover, watermark};
 use hy_stamp::{Label, Stamp, Viewer};
 use hy_undo::{Refusal, Version};
-use hy_value::{Change, ColMask, Kind, Row, Seq, Value};
+use hy_value::{Change, ColMask, Kind, Row, Seq, Value, ValueRef};
 use std::alloc::{AllocError, Global};
 use std::marker::Model;
 
@@ -739,6 +740,14 @@ impl Chunk {
         let pos = self.first + place as u32;
         changes.note_reserved(self.table, pos, None, Some(row));
         Ok(pos)
+    }
+
+    /// Whether no used position has this key, as the index tells: nobody sees a row with it. It is false where the column
+    /// isn't the key.
+    pub fn lacks_key(&self, column: u32, value: ValueRef<'_>) -> bool
+        ensures { result ≡ true → AreFound column (referred value.entry) self.now.shown.places [] }
+    {
+        self.positions.is_key(column) && self.positions.find(column, value).len() == 0
     }
 
     /// The positions, ascending, at which a condition may select a row, where the index tells them. Err is for want of

@@ -14,4 +14,4 @@ mod settled;
 mod writes;
 
 pub use chunk::{Chunk, NoRoom, Sweep};
-pub use gathering::{Keys, Sought, conditions_gather_rows};
+pub use gathering::{Keys, Sought, conditions_gather_rows, value_asked};

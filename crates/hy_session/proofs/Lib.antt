@@ -18,6 +18,9 @@ mod Dispatch
 mod ShortChains
 mod OpenVisits
 mod PassedChunks
+mod SparedChunks
+mod ReadChunks
+mod GoneSessions
 mod OrderedPlaces
 mod NotedSeeks
 mod OrderedNotes

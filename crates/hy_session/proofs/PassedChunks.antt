@@ -27,7 +27,7 @@ use Rattle.hy_event.specs.Sessions.{label_of, txn_at, viewer_of}
 use Rattle.hy_event.specs.Turns.{Takes, with_open}
 use Rattle.hy_session.specs.declared.visitors.Visitor.{Visitor}
 use Rattle.hy_session.specs.Passing.{AreAlike, GoesPast, GoneTo, IsFull, IsPassed, Passes, gone_past, visits_for_key}
-use Rattle.hy_session.specs.Short.{LeavesShort}
+use Rattle.hy_session.specs.Short.{LeavesShort, statement_prunes}
 use Rattle.hy_session.specs.Visitors.{IsVisitor}
 use Rattle.hy_session.specs.Written.{kept_in}
 use Rattle.hy_session.proofs.Dispatch.{work_needs, statement_event, prunes_as}
@@ -38,15 +38,24 @@ abbrev pub number_at : Option ℕ → ℕ → Option ℕ → ℕ → ℕ
 number_at None chunks key visited = visited - visits_for_key chunks key
 number_at (Some sought) chunks key visited = visited
 
--- an open transaction after one more visit that went on
-abbrev pub onward : ℕ → Open → Open
-onward visited now = record now { phase = Working (suc visited) 0 }
+-- an open transaction after one more visit that went on, where as many rows as before are selected
+abbrev pub onward : ℕ → ℕ → Open → Open
+onward count visited now = record now { phase = Working (suc visited) count }
 
 same_checks : (session : SessionData) (key : Option ℕ) → visits_for_key session.chunks key ≡ checks_of session key
 same_checks session None = refl
 same_checks session (Some key) = refl
 
 -- ---- one visit
+
+-- a visit of a statement leaves no long chain, where that holds if it prunes
+pub leaves_short : (session : SessionData) (txn : Txn) (now : Open) (visited count : ℕ) (statement : Bound) → txn_at session ≡ Some txn
+    → session.now ≡ Some now → now.phase ≡ Working visited count → slice_get txn.statements (length now.replies) ≡ Some statement → (chunk : ChunkData)
+    → (statement_prunes session visited statement ≡ true → session.prunes ≡ true → AllShort now.cover chunk.places) → LeavesShort session session.now chunk
+leaves_short session txn now visited count statement there opened works present chunk short =
+    let as_statement = prunes_as session txn now there opened visited count works statement present in
+    let both : LeavesShort session (Some now) chunk = λ does visits. short (sym as_statement ∙ visits) does in
+    subst (λ (o : Option Open). LeavesShort session o chunk) (sym opened) both
 
 module _ (session : SessionData) (txn : Txn) (now : Open) (visited count table : ℕ) (row : List Value) (there : txn_at session ≡ Some txn)
     (opened : session.now ≡ Some now) (works : now.phase ≡ Working visited count)
@@ -55,17 +64,14 @@ module _ (session : SessionData) (txn : Txn) (now : Open) (visited count table :
   key_column = (shape_of session.shapes table).key
 
   abbrev next : SessionData
-  next = with_open (onward visited now) session
+  next = with_open (onward 0 visited now) session
 
   needs : need_of session ≡ insert_need visited table (checks_of session key_column)
   needs = work_needs session txn now there opened visited count works ∙ ap (working_need session txn now visited) present
 
   prunes : (nat_le (checks_of session key_column) visited ≡ true → session.prunes ≡ true → AllShort now.cover chunk.places)
       → LeavesShort session session.now chunk
-  prunes short =
-      let as_insert = prunes_as session txn now there opened visited count works (Insert table row) present in
-      let both : LeavesShort session (Some now) chunk = λ does visits. short (sym as_insert ∙ visits) does in
-      subst (λ (o : Option Open). LeavesShort session o chunk) (sym opened) both
+  prunes short = leaves_short session txn now visited count (Insert table row) there opened works present chunk short
 
   -- one that looks for the key
   module _ (sought : ℕ) (keyed : key_column ≡ Some sought) (few : visited < session.chunks)
@@ -80,7 +86,7 @@ module _ (session : SessionData) (txn : Txn) (now : Open) (visited count table :
     check_visit = record {
       chunk = refl;
       turn = subst (λ (b : Bool). Takes session (check_turn session now visited (Insert table row) b) Moved next) (sym unseen)
-          (takes_visit session now (onward visited now) [] (Working (suc visited) 0) opened refl);
+          (takes_visit session now (onward 0 visited now) [] (Working (suc visited) 0) opened refl);
     }
 
     checked : IsPassed session table visited chunk next
@@ -113,7 +119,7 @@ module _ (session : SessionData) (txn : Txn) (now : Open) (visited count table :
           between = chunk;
           prunes = past.pruned;
           chunk = subst (λ (i : Option ℕ). Comes (viewer_of session now) (label_of session) now.cover row i chunk chunk) (sym past.full) refl;
-          turn = place_goes session now (onward visited now) visited (Insert table row) opened (kept_in now) (visited - checks_of session key_column) table row _
+          turn = place_goes session now (onward 0 visited now) visited (Insert table row) opened (kept_in now) (visited - checks_of session key_column) table row _
               (sym (ap (option_map (λ (index : ℕ). chunk.first + index)) past.full)) refl
               (lt-ltb (suc (visited - checks_of session key_column)) session.chunks others) refl;
         }
@@ -168,9 +174,9 @@ alike_fewer chunks key visited None left count alike few =
     let low = alike.0 in
     (low, λ some. let more = alike.1 (λ none. some (omega (arith, none, few))) in omega (arith, more, few))
 
-gone_by : (visited count : ℕ) (now : Open) → 0 < count → gone_past visited count now ≡ record now { phase = Working (visited + count) 0 }
-gone_by visited zero now some = absurd (omega (arith, some))
-gone_by visited (suc count) now some = refl
+pub gone_by : (count visited more : ℕ) (now : Open) → 0 < more → gone_past count visited more now ≡ record now { phase = Working (visited + more) count }
+gone_by count visited zero now some = absurd (omega (arith, some))
+gone_by count visited (suc more) now some = refl
 
 -- an open transaction that goes past so many of these chunks
 pub gone_to : (visitor : Visitor) (table : ℕ) (row : List Value) (visited left passed : ℕ) (sought : Option ℕ) (old new : Open) (chunks : List Whole)
@@ -187,10 +193,10 @@ gone_to visitor table row visited left passed sought old new chunks alike few wi
           (omega (arith, long, few));
       past = past;
       moved = elim (cases_lt 0 passed) [
-        | inl some ↦ moved some ∙ sym (ap (λ (n : ℕ). gone_past visited n old) long ∙ gone_by visited passed old some)
+        | inl some ↦ moved some ∙ sym (ap (λ (n : ℕ). gone_past 0 visited n old) long ∙ gone_by 0 visited passed old some)
         | inr none ↦
             let zero_passed : passed ≡ 0 = omega (arith, none) in
-            stayed zero_passed ∙ sym (ap (λ (n : ℕ). gone_past visited n old) (long ∙ zero_passed))
+            stayed zero_passed ∙ sym (ap (λ (n : ℕ). gone_past 0 visited n old) (long ∙ zero_passed))
       ];
     }
 
@@ -209,13 +215,13 @@ number_next : (sought : Option ℕ) (chunks : ℕ) (key : Option ℕ) (visited l
 number_next (Some sought) chunks key visited left alike = refl
 number_next None chunks key visited left alike = let low = alike.0 in omega (arith, low)
 
-gone_next : (count visited : ℕ) (now : Open) → gone_past (suc visited) count (onward visited now) ≡ gone_past visited (suc count) now
-gone_next zero visited now =
+pub gone_next : (count more visited : ℕ) (now : Open) → gone_past count (suc visited) more (onward count visited now) ≡ gone_past count visited (suc more) now
+gone_next count zero visited now =
     let one : suc visited ≡ visited + suc zero = omega arith in
-    ap (λ (n : ℕ). record now { phase = Working n 0 }) one
-gone_next (suc count) visited now =
-    let more : suc visited + suc count ≡ visited + suc (suc count) = omega arith in
-    ap (λ (n : ℕ). record now { phase = Working n 0 }) more
+    ap (λ (n : ℕ). record now { phase = Working n count }) one
+gone_next count (suc more) visited now =
+    let all : suc visited + suc more ≡ visited + suc (suc more) = omega arith in
+    ap (λ (n : ℕ). record now { phase = Working n count }) all
 
 passed_from : (table : ℕ) (row : List Value) (sought : Option ℕ) (txn : Txn) (chunks : List Whole) (session : SessionData) (now : Open) (visited count : ℕ)
     → txn_at session ≡ Some txn → session.now ≡ Some now → now.phase ≡ Working visited count
@@ -223,28 +229,28 @@ passed_from : (table : ℕ) (row : List Value) (sought : Option ℕ) (txn : Txn)
     → AreAlike session.chunks (shape_of session.shapes table).key visited sought (length chunks)
     → AllByRecursion (λ (chunk : Whole). GoesPast sought (viewer_of session now) row session.prunes now.cover chunk.shown) chunks
     → Passes session table (number_at sought session.chunks (shape_of session.shapes table).key visited) chunks
-    (with_open (gone_past visited (length chunks) now) session)
+    (with_open (gone_past 0 visited (length chunks) now) session)
 passed_from table row sought txn [] session now visited count there opened works present alike past =
     ap (λ (o : Option Open). record session { now = o }) (sym opened)
 passed_from table row sought txn (chunk ∷ chunks) session now visited count there opened works present alike past =
     let key : Option ℕ = (shape_of session.shapes table).key in
-    let next : SessionData = with_open (onward visited now) session in
-    let all = passed_from table row sought txn chunks next (onward visited now) (suc visited) 0 there refl refl present
+    let next : SessionData = with_open (onward 0 visited now) session in
+    let all = passed_from table row sought txn chunks next (onward 0 visited now) (suc visited) 0 there refl refl present
     (alike_next session.chunks key visited sought (length chunks) alike) past.1 in
     let ended : Passes next table (number_at sought session.chunks key (suc visited)) chunks
-    (with_open (gone_past visited (suc (length chunks)) now) session) =
+    (with_open (gone_past 0 visited (suc (length chunks)) now) session) =
     subst (λ (o : Open). Passes next table (number_at sought session.chunks key (suc visited)) chunks (with_open o session))
-    (gone_next (length chunks) visited now) all in (
+    (gone_next 0 (length chunks) visited now) all in (
       next,
       passed session txn now visited count table row there opened works present chunk.shown sought (length chunks) alike past.0,
-      subst (λ (n : ℕ). Passes next table n chunks (with_open (gone_past visited (suc (length chunks)) now) session))
+      subst (λ (n : ℕ). Passes next table n chunks (with_open (gone_past 0 visited (suc (length chunks)) now) session))
           (number_next sought session.chunks key visited (suc (length chunks)) alike) ended,
     )
 
 -- ---- by what the session needs
 
 -- a session that goes past a chunk needs it, and no other
-needed_so : (session after : SessionData) (table number other at : ℕ) (chunks : List Whole) → need_of session ≡ Chunk table number
+pub needed_so : (session after : SessionData) (table number other at : ℕ) (chunks : List Whole) → need_of session ≡ Chunk table number
     → Passes session other at chunks after → Passes session table number chunks after
 needed_so session after table number other at [] need passes = passes
 needed_so session after table number other at (chunk ∷ chunks) need passes =
@@ -293,7 +299,7 @@ passed_none session after table number count chunks none passes =
 -- ---- an open transaction
 
 -- it stays in what it has and wrote
-pub gone_keeps : (P : Open → Type 0) → ((now : Open) (visited : ℕ) → P now → P (record now { phase = Working visited 0 })) → (visited count : ℕ) (now : Open)
-    → P now → P (gone_past visited count now)
-gone_keeps P step visited zero now h = h
-gone_keeps P step visited (suc count) now h = step now (visited + suc count) h
+pub gone_keeps : (P : Open → Type 0) → ((now : Open) (visited count : ℕ) → P now → P (record now { phase = Working visited count })) → (count visited more : ℕ)
+    (now : Open) → P now → P (gone_past count visited more now)
+gone_keeps P step count visited zero now h = h
+gone_keeps P step count visited (suc more) now h = step now (visited + suc more) count h

@@ -18,6 +18,7 @@ mod inserting;
 mod latest;
 mod needs;
 mod numbers;
+mod passing;
 mod prepared;
 mod reading;
 mod savepoints;

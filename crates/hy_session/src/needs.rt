@@ -79,8 +79,8 @@ impl Session {
         }
     }
 
-    /// What it needs for its next visit, where an INSERT is at work.
-    pub fn next_of_insert(&self) -> Option<Need>
+    /// What it needs for its next visit, where a statement is at work that may go past chunks.
+    pub fn next_to_pass(&self) -> Option<Need>
         ensures { IfSome result (λ need. need ≡ need_of self.entry.now) }
     {
         let txn = self.program.as_slice().get(self.done.len())?;
@@ -89,8 +89,8 @@ impl Session {
             return None;
         };
         match txn.statements.as_slice().get(now.replies.len())? {
-            Bound::Insert { table, .. } => Some(self.needed_by_insert(*table, visited)),
-            _ => None,
+            Bound::Savepoint { .. } | Bound::RollbackTo { .. } | Bound::Release { .. } => None,
+            statement => Some(self.needed_by_statement(now, visited, statement)),
         }
     }
 

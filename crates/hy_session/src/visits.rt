@@ -13,13 +13,12 @@ ghost use Rattle.hy_protocol.specs.declared.Progress.{Progress};
 ghost use Rattle.hy_session.specs.Entered.{has_entry};
 ghost use Rattle.hy_session.specs.Limits.{IsSavedInOrder};
 ghost use Rattle.hy_session.specs.Near.{NearChunk};
-ghost use Rattle.hy_session.specs.Passing.{MayBePassed, Passes};
 ghost use Rattle.hy_session.specs.Preparing.{kind_in, kind_of};
 ghost use Rattle.hy_session.specs.Short.{LeavesShort};
 ghost use Rattle.hy_session.specs.Visitors.{CanWork, ForVisitor, ShortAt, gathers, is_reading};
 
 use crate::backing::go_back;
-use crate::inserting::{Insertion, insert, pass};
+use crate::inserting::{Insertion, insert};
 use crate::prepared::StatementPlan;
 use crate::stamping::{stamp, undo};
 use crate::visitors::{Present, Visitor};
@@ -32,7 +31,6 @@ use hy_protocol::{Phase, Progress};
 use hy_render::TxnOutcome;
 use hy_value::Seq;
 use std::alloc::{AllocError, Global};
-use std::slice;
 
 /// Whether a statement is a SELECT.
 fn gathers(statement: &Bound) -> bool
@@ -202,65 +200,6 @@ impl Session {
         Ok(progress)
     }
 
-    /// Goes past the first ones of these chunks, which it needs one after another, for as long as an INSERT neither ends in them
-    /// nor changes anything and that is seen at once: by the index of the keys, or by what is known of a chunk as a whole. It
-    /// answers how many they are, takes no memory, and stops before the last chunk that may have a position.
-    pub fn pass(&mut self, chunks: &mut [Chunk]) -> usize
-        requires { All MayBePassed chunks.old }
-        ensures passes { (table number : ℕ) → need_of self.old ≡ Need.Chunk table number → Passes self.old table number (take result chunks.old) self.new }
-        ensures few { result ≤ length chunks.old }
-        ensures all { chunks.new ≡ chunks.old }
-    {
-        if self.done.len() >= self.program.as_slice().len() {
-            return 0;
-        }
-        let label = self.label();
-        let Some(txn) = self.program.as_slice().get(self.done.len()) else {
-            return 0;
-        };
-        let visitor = Visitor {
-            label,
-            id: label.id(),
-            shapes: self.shapes.as_slice(),
-            chunks: self.chunks,
-            prunes: self.prunes,
-        };
-        let Some(now) = &mut self.now else {
-            return 0;
-        };
-        let Phase::Working { visited, count } = now.phase else {
-            return 0;
-        };
-        let Some(statement) = txn.statements.as_slice().get(now.replies.len()) else {
-            return 0;
-        };
-        let Bound::Insert { table, row } = statement else {
-            return 0;
-        };
-        let present = Present {
-            statement,
-            visited,
-            count,
-        };
-        let insertion = Insertion {
-            present,
-            table: *table,
-            row,
-        };
-        pass(&visitor, &insertion, now, chunks)
-    }
-
-    /// Goes past a chunk, which it needs, as `pass` does, and answers whether it did; else nothing changes.
-    fn pass_one(&mut self, chunk: &mut Chunk) -> bool
-        requires { NearChunk self.old chunk.old }
-        ensures event { result ≡ true → ChunkEvent self.old chunk.old.shown Progress.Moved self.new chunk.new.shown }
-        ensures short { result ≡ true → LeavesShort self.old self.old.now chunk.new.shown }
-        ensures kept { result ≡ false → self.new ≡ self.old }
-        ensures all { chunk.new ≡ chunk.old }
-    {
-        self.pass(slice::from_mut(chunk)) > 0
-    }
-
     /// Visits a chunk, which it needs: it reads or writes there for the present statement, or stamps or undoes what its
     /// open transaction wrote there. Err is for want of memory, and changes nothing that contracts see; it never comes where
     /// its open transaction has its entry, so that a stamp takes no memory.
@@ -274,10 +213,28 @@ impl Session {
     {
         if self.is_reading() {
             self.read(alloc, chunk)
-        } else if self.pass_one(chunk) {
-            Ok(Progress::Moved)
         } else {
             self.change(alloc, chunk)
+        }
+    }
+
+    /// Visits a chunk, which it needs, as `visit_chunk` does, and goes past it where it may.
+    pub fn visit_or_pass(
+        &mut self,
+        alloc: Global,
+        chunk: &mut Chunk,
+    ) -> Result<Progress, AllocError>
+        requires near { NearChunk self.old chunk.old }
+        ensures event { IfOk result (λ progress. ChunkEvent self.old chunk.old.shown progress self.new chunk.new.shown) }
+        ensures kept { OnErr result ((self.new ≡ self.old) × (chunk.new.shown ≡ chunk.old.shown)) }
+        ensures entered { OnErr result (has_entry self.old ≡ false) }
+        ensures kinds { chunk.new.kinds ≡ chunk.old.kinds }
+        ensures short { OnOk result (LeavesShort self.old self.old.now chunk.new.shown) }
+    {
+        if self.pass_one(chunk) {
+            Ok(Progress::Moved)
+        } else {
+            self.visit_chunk(alloc, chunk)
         }
     }
 

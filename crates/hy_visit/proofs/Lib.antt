@@ -17,3 +17,4 @@ pub mod Wide
 pub mod NotedBefore
 pub mod Backs
 pub mod ChunkNotes
+pub mod Spared

@@ -4,5 +4,6 @@ pub mod Placing
 pub mod Gathering
 pub mod Parts
 pub mod Readers
+pub mod Sparing
 pub mod PlanParts
 pub mod Backing

@@ -8,6 +8,7 @@ mod parts;
 mod pruning;
 mod reader;
 mod reading;
+mod sparing;
 mod writing;
 
 pub use gathering::{
@@ -16,6 +17,7 @@ pub use gathering::{
 pub use parts::PartRows;
 pub use pruning::{stamp_visit, undo_visit};
 pub use reader::{Reader, Told, reader_of};
+pub use sparing::{AskedKey, asked_key};
 pub use writing::{
     Writer, back_visit, check_visit, is_passed, notes_of_a_chunk_stand, notes_of_a_chunk_tell,
     place_visit, write_visit,

@@ -27,6 +27,17 @@ pub fn prune_first(chunk: &mut Chunk, cover: &Cover, prunes: bool)
     }
 }
 
+/// Whether `prune_first` leaves the chunk as it is, seen without a look at the positions. No clause says that it is seen
+/// wherever it is so.
+pub fn has_none_to_prune(chunk: &Chunk, cover: &Cover, prunes: bool) -> bool
+    requires { AllFall chunk.now.shown.places }
+    ensures pruned { result ≡ true → PrunesFirst prunes cover.now chunk.now.shown chunk.now.shown }
+    ensures short { result ≡ true → prunes ≡ true → AllShort cover.now chunk.now.shown.places }
+{
+    hy_chain::pruning_shrinks::<Delta>();
+    !prunes || chunk.is_pruned(cover)
+}
+
 /// Gives the own records of a transaction in the chunk their commit time, and then prunes it.
 pub fn stamp_visit(chunk: &mut Chunk, id: u64, time: u64, cover: &Cover, prunes: bool)
     requires falls { AllFall chunk.old.shown.places }

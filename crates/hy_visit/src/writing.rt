@@ -14,13 +14,13 @@ ghost use Rattle.hy_visit.specs.Placing.{PlaceDone};
 ghost use Rattle.hy_visit.specs.Pruning.{AllFall, AllShort};
 ghost use Rattle.hy_visit.specs.Writing.{WriteDone};
 
-use crate::pruning::prune_first;
+use crate::pruning::{has_none_to_prune, prune_first};
 use hy_bound::{Pred, WriteKind, column_ref};
 use hy_chunk::{Chunk, Sweep};
 use hy_notes::Changes;
 use hy_prune::Cover;
 use hy_stamp::{Label, Viewer};
-use hy_undo::{Delta, Refusal};
+use hy_undo::Refusal;
 use hy_value::{Change, Row, StoredRow};
 
 /// Who writes, and how the chunk is pruned before.
@@ -89,8 +89,7 @@ pub fn is_passed(chunk: &Chunk, cover: &Cover, prunes: bool) -> bool
     ensures full { result ≡ true → free_index cover.now chunk.now.shown ≡ None }
     ensures short { result ≡ true → prunes ≡ true → AllShort cover.now chunk.now.shown.places }
 {
-    hy_chain::pruning_shrinks::<Delta>();
-    chunk.is_full() && (!prunes || chunk.is_pruned(cover))
+    chunk.is_full() && has_none_to_prune(chunk, cover, prunes)
 }
 
 /// Prunes the chunk, and then puts a new row at the first free position, notes it, and answers the position. Where

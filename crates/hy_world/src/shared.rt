@@ -126,7 +126,7 @@ pub(crate) fn visit_part(
     ensures entered { OnErr result (has_entry session.old ≡ false) }
 {
     match &mut part.kind {
-        PartKind::Chunk(chunk) => session.visit_chunk(alloc, chunk),
+        PartKind::Chunk(chunk) => session.visit_or_pass(alloc, chunk),
         PartKind::Core(core) => session.visit_core(alloc, core),
     }
 }

@@ -75,15 +75,15 @@ impl World {
         session.visit_chunk(alloc, part)
     }
 
-    /// What a session needs next, where an INSERT of it is at work.
-    fn insert_need(&self, number: u32) -> Option<Need>
+    /// What a session needs next, where a statement of it is at work that may go past chunks.
+    fn need_to_pass(&self, number: u32) -> Option<Need>
         ensures { IfSome result (λ need. need ≡ need_at self.now.sessions number) }
     {
-        self.sessions.get(number as usize)?.next_of_insert()
+        self.sessions.get(number as usize)?.next_to_pass()
     }
 
-    /// A session, which needs this chunk of a table, goes past chunks from there on for as long as an INSERT neither ends in them nor
-    /// changes anything and that is seen at once.
+    /// A session, which needs this chunk of a table, goes past chunks from there on for as long as a statement neither ends in them
+    /// nor changes anything and that is seen at once.
     fn pass_chunks(&mut self, number: u32, table: u32, chunk: u32)
         requires { need_at self.old.sessions number ≡ Need.Chunk table chunk }
         ensures moves { MovesOn number self.old self.new }
@@ -98,7 +98,7 @@ impl World {
         let _ = session.pass(&mut self.chunks.as_mut_slice()[place..]);
     }
 
-    /// A session takes steps for as long as they go past chunks in which an INSERT neither ends nor changes anything and that is
+    /// A session takes steps for as long as they go past chunks in which a statement neither ends nor changes anything and that is
     /// seen at once. It takes no memory.
     #[tactic(auto, using(crate::proofs::PassedChunks::stays_there))]
     pub(crate) fn pass(&mut self, number: u32)
@@ -106,7 +106,7 @@ impl World {
         ensures entries { self.new.core.entries ≡ self.old.core.entries }
         ensures kinds { self.new.kinds ≡ self.old.kinds }
     {
-        if let Some(Need::Chunk { table, chunk }) = self.insert_need(number) {
+        if let Some(Need::Chunk { table, chunk }) = self.need_to_pass(number) {
             self.pass_chunks(number, table, chunk);
         }
     }

@@ -5,8 +5,8 @@ use Rattle.hy_world.specs.Shared.{chunk_shared}
 use Rattle.hy_world.proofs.SharedWorlds.{visit_near}
 use Rattle.hy_world.proofs.shared.visit_part.Goals as goal
 
-pub visit_chunk-requires : goal.visit_chunk-requires
-visit_chunk-requires c =
+pub visit_or_pass-requires : goal.visit_or_pass-requires
+visit_or_pass-requires c =
     let session = c.args.session.now in
     record {
       near = visit_near (need_of session) session c.args.part.now c.deref_mut.result.now

@@ -273,6 +273,11 @@ pub ok_weaker : {A E : Type 0} (r : Result A E) (P Q : A → Type 0) → ((x : A
 ok_weaker (Err e) P Q f h = tt
 ok_weaker (Ok x) P Q f h = f x h
 
+-- of an option
+pub some_then : {X : Type 0} {P Q : X → Type 0} (found : Option X) → ((x : X) → P x → Q x) → IfSome found P → IfSome found Q
+some_then None f h = tt
+some_then (Some x) f h = f x h
+
 -- the type of a column that isn't there
 pub past_end : (types : List Kind) (column : ℕ) (kind : Kind) → length types ≤ column → get_or types column kind ≡ kind
 past_end [] zero kind l = refl

@@ -4,7 +4,7 @@ use Rattle.std.specs.Prelude.{◌&&◌, Option, None, Result, Ok, Err, OnErr, Al
 use Rattle.std.specs.List.{flat_map, range_with_len}
 use Rattle.std.proofs.lemmas.List.{append-nil, map_push, take_all, get_or-drop, get_or-map, length-drop, map-append, take-append-drop, drop-drop, length-append, take-take}
 use Rattle.std.proofs.lemmas.List.Concat.{flat_map-append}
-use Rattle.std.proofs.lemmas.List.Elements.{All-filter, All-nil, All-push, All-same, filter-append}
+use Rattle.std.proofs.lemmas.List.Elements.{All-filter, All-nil, All-push, All-same}
 use Rattle.std.proofs.lemmas.List.FromFn.{get_or-range_with_len, length-range_with_len}
 use Rattle.hy_value.specs.declared.Value.{Value}
 use Rattle.hy_value.specs.declared.ColMask.{ColMask}
@@ -29,38 +29,6 @@ use Rattle.hy_chunk.proofs.Looks.{gathered_more}
 use Rattle.hy_chunk.proofs.Masking.{bit_is_truth}
 
 -- ---- numbers in order
-
-range_more : (first many : ℕ) → range_with_len first (suc many) ≡ range_with_len first many ++ (first + many) ∷ []
-range_more first zero = ap (λ (n : ℕ). n ∷ []) (let e : ◌≡◌ {A = ℕ} first (first + 0) = omega arith in e)
-range_more first (suc many) =
-    ap (λ (ns : List ℕ). first ∷ ns)
-    (range_more (first + 1) many
-    ∙ ap (λ (n : ℕ). range_with_len (first + 1) many ++ n ∷ []) (let e : ◌≡◌ {A = ℕ} (first + 1 + many) (first + suc many) = omega arith in e))
-
--- one number more
-set_more : (test : ℕ → Bool) (first place : ℕ) → first ≤ place
-    → filter test (range_with_len first (place + 1 - first)) ≡ filter test (range_with_len first (place - first)) ++ cond (test place) (place ∷ []) []
-set_more test first place l =
-    let many : ◌≡◌ {A = ℕ} (place + 1 - first) (suc (place - first)) = omega (arith, l) in
-    let last : ◌≡◌ {A = ℕ} (first + (place - first)) place = omega (arith, l) in
-    ap (λ (n : ℕ). filter test (range_with_len first n)) many
-    ∙ (ap (filter test) (range_more first (place - first) ∙ ap (λ (n : ℕ). range_with_len first (place - first) ++ n ∷ []) last)
-    ∙ filter-append test (range_with_len first (place - first)) (place ∷ []))
-
-pub set_pushed : (test : ℕ → Bool) (first place : ℕ) (found now : List ℕ) → first ≤ place → test place ≡ true → now ≡ found ++ place ∷ []
-    → found ≡ filter test (range_with_len first (place - first)) → now ≡ filter test (range_with_len first (place + 1 - first))
-set_pushed test first place found now l is pushed so_far =
-    pushed ∙ ((λ i. so_far i ++ cond (sym is i) (place ∷ []) []) ∙ sym (set_more test first place l))
-
-pub set_passed : (test : ℕ → Bool) (first place : ℕ) (found : List ℕ) → first ≤ place → test place ≡ false
-    → found ≡ filter test (range_with_len first (place - first)) → found ≡ filter test (range_with_len first (place + 1 - first))
-set_passed test first place found l is so_far =
-    so_far ∙ (sym (append-nil (filter test (range_with_len first (place - first))))
-    ∙ ((λ i. filter test (range_with_len first (place - first)) ++ cond (sym is i) (place ∷ []) []) ∙ sym (set_more test first place l)))
-
-pub not_both : (a b : Bool) → b ≡ false → (a && b) ≡ false
-not_both true b e = e
-not_both false b e = refl
 
 -- each of the numbers is below an end
 pub set_within : (test : ℕ → Bool) (first many bound : ℕ) → first + many ≤ bound → All (λ k. k < bound) (filter test (range_with_len first many))

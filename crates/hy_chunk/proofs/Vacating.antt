@@ -1,6 +1,7 @@
 -- The bits of the positions that may take a new row, when one position changes.
-use Rattle.std.proofs.Common.{◌≡◌, ℕ, ◌<◌, ◌≤◌, Bool, true, false, List, length, get_or, replicate, refl, sym, ap, ◌∙◌, subst, arith, inl, inr}
-use Rattle.std.specs.Prelude.{◌&&◌, ◌||◌, not, nat_lt}
+use Rattle.std.proofs.Common.{◌≡◌, ℕ, zero, suc, ◌+◌, ◌-◌, ◌<◌, ◌≤◌, Bool, true, false, cond, List, ◌∷◌, length, get_or, replicate, refl, sym, ap, ◌∙◌, subst, arith, inl, inr}
+use Rattle.std.specs.Prelude.{◌&&◌, ◌||◌, not, nat_lt, filter}
+use Rattle.std.specs.List.{range_with_len}
 use Rattle.std.proofs.Math.ListN.{set}
 use Rattle.std.proofs.lemmas.Bool.{cases_Bool, cases_eq, and_parts}
 use Rattle.std.proofs.lemmas.List.{length-replicate, get_or-replicate}
@@ -9,6 +10,7 @@ use Rattle.hy_chain.specs.Chains.{newest}
 use Rattle.hy_undo.specs.Stock.{Stock}
 use Rattle.hy_undo.specs.Images.{Image}
 use Rattle.hy_undo.specs.Places.{Place, is_free, is_older}
+use Rattle.hy_chunk.specs.Parts.{is_set_at, places_set}
 use Rattle.hy_chunk.specs.Sound.{Sound}
 use Rattle.hy_chunk.specs.Steps.{NoneFree}
 use Rattle.hy_chunk.specs.Vacant.{ShowsVacant}
@@ -73,3 +75,32 @@ none_free f kinds spare seen vacant from next view s shows within passed = λ wa
     let both = and_parts (get_or f.used place false) (get_or f.live place false)
     (not_false _ (sym (shows.each place in_live) ∙ passed place reached before)) in
     ap (is_free watermark) (nth_is f seen place view l) ∙ taken watermark (at f place) both.0 both.1
+
+-- a position that is used or has no row has a row where its bit is clear, and nowhere else
+row_there : (used live : Bool) → (used ≡ false → live ≡ false) → not (not (used && live)) ≡ live
+row_there true true h = refl
+row_there true false h = refl
+row_there false live h = sym (h refl)
+
+-- tests that say the same keep the same of a range
+kept_alike : (p q : ℕ → Bool) (a n : ℕ) → ((i : ℕ) → a ≤ i → i < a + n → p i ≡ q i) → filter p (range_with_len a n) ≡ filter q (range_with_len a n)
+kept_alike p q a zero same = refl
+kept_alike p q a (suc n) same =
+    ap (λ (b : Bool). cond b (a ∷ filter p (range_with_len (a + 1) n)) (filter p (range_with_len (a + 1) n))) (same a (omega arith) (omega arith))
+    ∙ ap (λ (xs : List ℕ). cond (q a) (a ∷ xs) xs) (kept_alike p q (a + 1) n (λ i more less. same i (omega (arith, more)) (omega (arith, less))))
+
+-- the positions of a part whose bit is set in a mask, and that are not shown as vacant, are those with a row in place
+pub plain_places : (f : Fields) (kinds : List Kind) (spare : Stock) (seen : List Place) (bits vacant mask : List Bool) (first end : ℕ) → all f ≡ seen
+    → Sound kinds f.rows f.live f.used f.deaths f.chains spare → ShowsVacant f.used f.live vacant → bits ≡ vacant → end ≤ length seen
+    → filter (λ place. get_or mask place false && not (get_or bits place false)) (range_with_len first (end - first)) ≡ places_set mask first end seen
+plain_places f kinds spare seen bits vacant mask first end view s shows is within =
+    kept_alike (λ place. get_or mask place false && not (get_or bits place false)) (is_set_at mask seen) first (end - first) (λ place reached before.
+    let l : place < length seen = omega (arith, reached, before, within) in
+    let inside : place < length f.rows = within_rows f seen place view l in
+    let in_live : place < length f.live = let lives = s.lives in omega (arith, inside, lives) in
+    let unused : get_or f.used place false ≡ false → get_or f.live place false ≡ false = (s.each place inside).unused.row in
+    ap (λ (b : Bool). get_or mask place false && b)
+    (ap (λ (bs : List Bool). not (get_or bs place false)) is
+    ∙ (ap not (shows.each place in_live)
+    ∙ (row_there (get_or f.used place false) (get_or f.live place false) unused
+    ∙ ap (λ (p : Place). p.version.live) (sym (nth_is f seen place view l))))))

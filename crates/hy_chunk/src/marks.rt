@@ -47,6 +47,13 @@ impl Marks {
         Ok(Marks { bits, first: 0 })
     }
 
+    /// The bits.
+    pub fn bits(&self) -> &Mask
+        ensures { result.now ≡ self.now }
+    {
+        &self.bits
+    }
+
     /// Sets the bit at a place, or clears it.
     pub fn set(&mut self, place: usize, bit: bool)
         requires { place < length self.old }

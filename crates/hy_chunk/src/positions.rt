@@ -100,6 +100,14 @@ impl PlacedRows for Positions {
     fn refer(&self, place: usize, column: usize) -> ValueRef<'_> {
         self.columns.refer(place, column)
     }
+
+    fn numbers(&self, column: usize) -> Option<&[i64]> {
+        if column < self.columns.width() {
+            self.columns.numbers(column)
+        } else {
+            None
+        }
+    }
 }
 
 /// Puts a flag at a place.
@@ -663,13 +671,7 @@ impl Positions {
         ensures { IfOk result (λ found. found.items
             ≡ places_set mask.now part.first part.end self.now.places) }
     {
-        let mut found = Vec::with_capacity(alloc, part.end - part.first)?;
-        for place in part.first..part.end {
-            if mask.get(place) && self.is_live(place) {
-                found.push_reserved(place as u32);
-            }
-        }
-        Ok(found)
+        mask.places_without(self.vacant.bits(), alloc, part.first, part.end)
     }
 
     /// Whether a column is the key.

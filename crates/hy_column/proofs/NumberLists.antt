@@ -98,3 +98,12 @@ pub length_cleared : (n : ℕ) (nulls : List Bool) → length nulls ≡ n
 length_cleared zero nulls e = refl
 length_cleared (suc n) [] e = absurd (omega (arith, e))
 length_cleared (suc n) (b ∷ bs) e = let rest = length_cleared n bs (omega (arith, e)) in omega (arith, rest)
+
+-- where no bit is set all are known
+pub all_known : (values : List ℤ) (nulls : List Bool) → length nulls ≡ length values → ((k : ℕ) → k < length nulls → get_or nulls k false ≡ false)
+    → map Some values ≡ numbers values nulls
+all_known [] nulls e none = refl
+all_known (n ∷ ns) [] e none = absurd (omega (arith, e))
+all_known (n ∷ ns) (b ∷ bs) e none =
+    ap (λ (c : Bool). (if c then None else Some n) ∷ map Some ns) (sym (none 0 (omega arith)))
+    ∙ ap (λ (rest : List (Option ℤ)). (if b then None else Some n) ∷ rest) (all_known ns bs (omega (arith, e)) (λ k l. none (suc k) (omega (arith, l))))

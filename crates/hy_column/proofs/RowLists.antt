@@ -16,7 +16,7 @@ use Rattle.hy_column.specs.Columns.{cell, places, kind_of, first_cells, with_cel
 use Rattle.hy_column.specs.Rows.{ByPlace, row_of, rows_of, kinds_of}
 use Rattle.hy_column.specs.Compared.{compares_number, compares_value}
 use Rattle.hy_value.specs.declared.Cmp.{Cmp}
-use Rattle.std.specs.Prelude.{ℤ, false}
+use Rattle.std.specs.Prelude.{ℤ, false, IfSome}
 
 get_map : {A B : Type 0} (f : A → B) (xs : List A) (i : ℕ) (d : A) (e : B) → i < length xs → get_or (map f xs) i e ≡ f (get_or xs i d)
 get_map f [] i d e l = absurd (omega arith)
@@ -213,3 +213,30 @@ rows_compared op right rows columns i numbers within is many =
     ∙ (ap (λ (row : List Value). compares_value op right (get_or row i value.Null)) (sym (row_at rows columns j here))
     ∙ sym (get_map (λ row. compares_value op right (get_or row i value.Null)) (rows_of rows columns) j [] false
     (omega (arith, here, length_rows rows columns))))))))
+
+-- the numbers of a column are the values of the rows
+values_of : (values : List ℤ) → map value.Int values ≡ map number_value (map Some values)
+values_of [] = refl
+values_of (n ∷ ns) = ap (λ (vs : List Value). value.Int n ∷ vs) (values_of ns)
+
+pub rows_known : (rows : ℕ) (columns : List Column) (i : ℕ) (values : List ℤ) (numbers : List (Option ℤ)) → i < length columns
+    → get_or columns i (column.Int numbers) ≡ column.Int numbers → length numbers ≡ rows → map Some values ≡ numbers
+    → map value.Int values ≡ map (λ row. get_or row i value.Null) (rows_of rows columns)
+rows_known rows columns i values numbers within is many known =
+    values_of values
+    ∙ (ap (map number_value) known
+    ∙ ext_get_or value.Null (map number_value numbers) (map (λ row. get_or row i value.Null) (rows_of rows columns))
+    (length-map numbers number_value ∙ (many ∙ sym (length-map (rows_of rows columns) (λ row. get_or row i value.Null) ∙ length_rows rows columns)))
+    (λ j l.
+    let inside : j < length numbers = omega (arith, l, length-map numbers number_value) in
+    let here : j < rows = omega (arith, inside, many) in
+    get_map number_value numbers j None value.Null inside
+    ∙ (ap (λ (c : Column). cell c j) (sym is)
+    ∙ (sym (cell_at columns j i (column.Int numbers) value.Null within)
+    ∙ (ap (λ (row : List Value). get_or row i value.Null) (sym (row_at rows columns j here))
+    ∙ sym (get_map (λ row. get_or row i value.Null) (rows_of rows columns) j [] value.Null (omega (arith, here, length_rows rows columns))))))))
+
+-- a fact from another of what is there, if it is
+pub some_then : {X : Type 0} {P Q : X → Type 0} (found : Option X) → ((x : X) → P x → Q x) → IfSome found P → IfSome found Q
+some_then None f p = tt
+some_then (Some x) f p = f x p

@@ -1,6 +1,6 @@
 //! The columns of a chunk, seen as its rows.
 
-ghost use Rattle.std.specs.Prelude.{◌≡◌, ◌<◌, [], ℕ, List, IfOk, length, map, replicate, slice_index_or, slice_set};
+ghost use Rattle.std.specs.Prelude.{◌≡◌, ◌<◌, [], ℕ, List, IfOk, IfSome, length, map, replicate, slice_index_or, slice_set};
 ghost use Rattle.hy_column.specs.Compared.{column_compared};
 ghost use Rattle.hy_column.specs.Cells.{FitsKind, first_value, number_value, text_value, kind_texts, texts_of};
 ghost use Rattle.hy_column.specs.Rows.{kinds_of};
@@ -221,6 +221,18 @@ impl Columns {
         ensures { referred result ≡ slice_index_or (slice_index_or self.now.rows place []) column (referred result) }
     {
         self.columns[column].refer(place)
+    }
+
+    /// The numbers of a column by place, where it is one of numbers and no NULL is among them.
+    pub fn numbers(&self, column: usize) -> Option<&[i64]>
+        requires { column < length self.now.kinds }
+        ensures { IfSome result (λ numbers. map Value.Int numbers.now
+            ≡ map (λ row. slice_index_or row column Value.Null) self.now.rows) }
+    {
+        match &self.columns[column] {
+            Column::Int(numbers) => numbers.known(),
+            Column::Text(_) => None,
+        }
     }
 
     /// Makes a row of that width the one at a place. It takes no memory.

@@ -1,6 +1,6 @@
 //! Columns of numbers.
 
-ghost use Rattle.std.specs.Prelude.{◌≡◌, ℕ, ℤ, pos, ◌<◌, Some, None, IfOk, length, map, replicate, slice_index_or, slice_set, vec_len};
+ghost use Rattle.std.specs.Prelude.{◌≡◌, ℕ, ℤ, pos, ◌<◌, Some, None, IfOk, IfSome, length, map, replicate, slice_index_or, slice_set, vec_len};
 ghost use Rattle.hy_column.specs.Compared.{compares_number};
 
 use hy_kernel::Mask;
@@ -96,6 +96,17 @@ impl IntColumn {
             → slice_index_or result.now place (pos 0) ≡ number }
     {
         self.values.as_slice()
+    }
+
+    /// The numbers by place, where no NULL is among them.
+    pub fn known(&self) -> Option<&[i64]>
+        ensures { IfSome result (λ values. map Some values.now ≡ self.now) }
+    {
+        if self.nulls.next_set(0) < self.nulls.len() {
+            None
+        } else {
+            Some(self.values.as_slice())
+        }
     }
 
     /// Whether a comparison with a number is true of what is at each place. Err is for want of memory.

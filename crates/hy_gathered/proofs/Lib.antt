@@ -9,3 +9,4 @@ mod RowGroups
 mod GroupsMade
 mod GroupsGathered
 mod GroupsRecorded
+mod Halves

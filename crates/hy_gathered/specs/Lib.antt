@@ -1,5 +1,6 @@
 pub mod Pieces
 pub mod Columns
+pub mod Numbers
 pub mod Sums
 pub mod Tally
 pub mod Groups

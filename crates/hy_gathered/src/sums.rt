@@ -6,6 +6,7 @@ ghost use Rattle.std.proofs.Props.{props};
 ghost use Rattle.hy_value.specs.Refs.{referred};
 ghost use Rattle.hy_meaning.specs.Totals.{added_of};
 ghost use Rattle.hy_gathered.specs.Columns.{columns_below, place_of};
+ghost use Rattle.hy_gathered.specs.Numbers.{total};
 
 use hy_bound::column_value;
 use hy_plan::Gathered;
@@ -59,6 +60,26 @@ fn added(value: ValueRef) -> i128
         ValueRef::Int(number) => i128::from(number),
         ValueRef::Null | ValueRef::Text(_) => 0,
     }
+}
+
+/// How many numbers are summed by their halves at most: so many lower halves have a sum below 2^64.
+const MOST_HALVED: usize = 1 << 32;
+
+/// The sum of numbers, each moved up by 2^63 so that none is negative, by their halves of 32 bits: two sums of 64 bits, which
+/// need no carry from one to the other at each number.
+fn sum_halves(numbers: &[i64]) -> i128
+    requires { length numbers.now ≤ 2 ^ 32 }
+    ensures value { result ≡ total numbers.now }
+    ensures small { unsigned_abs result ≤ 2 ^ 63 * length numbers.now }
+{
+    let mut low = 0u64;
+    let mut high = 0u64;
+    for number in numbers {
+        let moved = number.cast_unsigned().wrapping_add(1 << 63);
+        low += moved % (1 << 32);
+        high += moved / (1 << 32);
+    }
+    i128::from(high) * (1 << 32) + i128::from(low) - i128::from(numbers.len() as u64) * (1 << 63)
 }
 
 impl PartColumn {
@@ -137,9 +158,22 @@ impl PartColumn {
         }
     }
 
-    /// The sum over the rows of a piece in which its values stand at this place.
-    #[tactic(auto, using(crate::proofs::Placed::stands_at))]
+    /// The sum over the rows of a piece in which its values stand at this place: at once where all are numbers.
     fn sum_at(self, piece: &Gathered, place: usize) -> i128
+        requires place { self.place ≡ Some place }
+        requires within { place < piece.now.width }
+        ensures value { result ≡ sum_by self piece.now.rows }
+        ensures small { unsigned_abs result ≤ 2 ^ 63 * length piece.now.rows }
+    {
+        match piece.numbers(place) {
+            Some(numbers) if numbers.len() <= MOST_HALVED => sum_halves(numbers),
+            _ => self.sum_each(piece, place),
+        }
+    }
+
+    /// The same, value by value.
+    #[tactic(auto, using(crate::proofs::Placed::stands_at))]
+    fn sum_each(self, piece: &Gathered, place: usize) -> i128
         requires place { self.place ≡ Some place }
         requires within { place < piece.now.width }
         ensures value { result ≡ sum_by self piece.now.rows }

@@ -20,7 +20,7 @@ each P a b c d x y h k =
       | inr e ↦ subst (λ (m : ℕ). P m y) (sym e) (elim (two y k) [ inl f ↦ subst (P 1) (sym f) c | inr f ↦ subst (P 1) (sym f) d ])
     ]
 
-both : (x y : ℕ) → x < 2 → y < 2 → (min x y == 1) ≡ ((x == 1) && (y == 1))
+pub both : (x y : ℕ) → x < 2 → y < 2 → (min x y == 1) ≡ ((x == 1) && (y == 1))
 both = each (λ x y. (min x y == 1) ≡ ((x == 1) && (y == 1))) refl refl refl refl
 
 either : (x y : ℕ) → x < 2 → y < 2 → (max x y == 1) ≡ ((x == 1) || (y == 1))
@@ -50,7 +50,7 @@ joined_past f e old other k l m =
 pub past_bits : (words : List ℕ) (i : ℕ) → length words ≤ i / 64 → is_bit words i ≡ false
 past_bits words i l = ap (λ (w : ℕ). bit_at w (i % 64) == 1) (get_or_past words (i / 64) 0 l) ∙ ap (λ (n : ℕ). n == 1) (bit_at-zero (i % 64))
 
-turned : (x : ℕ) → x < 2 → (1 - x == 1) ≡ not (x == 1)
+pub turned : (x : ℕ) → x < 2 → (1 - x == 1) ≡ not (x == 1)
 turned x h = elim (two x h) [ inl e ↦ subst (λ (m : ℕ). (1 - m == 1) ≡ not (m == 1)) (sym e) refl | inr e ↦ subst (λ (m : ℕ). (1 - m == 1) ≡ not (m == 1)) (sym e) refl ]
 
 and_true : (b : Bool) → (b && true) ≡ b

@@ -1,4 +1,5 @@
 pub mod Joining
+pub mod Gathered
 pub mod Packs
 pub mod Listed
 pub mod Lowest

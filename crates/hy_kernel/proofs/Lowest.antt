@@ -1,9 +1,12 @@
 -- The lowest bit that is set, in a word and in words.
-use Rattle.std.proofs.Common.{◌≡◌, ℕ, ◌+◌, ◌-◌, ◌*◌, ◌/◌, ◌%◌, ◌^◌, ◌<◌, ◌≤◌, true, false, List, get_or, sym, ap, ◌∙◌, arith, inl, inr}
+use Rattle.std.proofs.Common.{◌≡◌, ℕ, ◌+◌, ◌-◌, ◌*◌, ◌/◌, ◌%◌, ◌^◌, ◌<◌, ◌≤◌, ◌≢◌, true, false, List, get_or, sym, ap, ◌∙◌, arith, inl, inr}
 use Rattle.std.specs.Prelude.{◌==◌, bit_and}
 use Rattle.std.specs.Int.{bit_at, bit_not, trailing_zeros, w64}
-use Rattle.std.proofs.lemmas.Bool.{cases_lt, both_ways}
-use Rattle.std.proofs.lemmas.Nat.Bits.{bit_at_and, bit_at-lt, bit_at-zero, bit_at_not, bit_at_ones, bit_at_ones_above, bit_at-trailing_zeros}
+use lib.Pow.{pow-lt}
+use native.Mathlib.Nat.{mod-lt}
+use Rattle.std.proofs.lemmas.Bool.{cases_eq, cases_lt, both_ways}
+use Rattle.std.proofs.lemmas.Nat.{div-add-mod', pow_pos}
+use Rattle.std.proofs.lemmas.Nat.Bits.{bit_at_and, bit_at-lt, bit_at-zero, bit_at_not, bit_at_ones, bit_at_ones_above, bit_at-trailing_zeros, bit_at_cat_low, bit_at_cat_high, bit_at-pow_same, bit_at-pow_other, same_from_bits_below}
 use Rattle.hy_kernel.specs.Bits.{is_bit, IsLowest, Lies}
 
 -- a word without its bits below one
@@ -44,7 +47,54 @@ module _ (word from : ℕ) (fits : 2 ^ from - 1 < 2 ^ 64) where
   pub none_set : rest_of word from ≡ 0 → (i : ℕ) → from ≤ i → i < 64 → bit_at word i ≡ 0
   none_set none i more within = sym (left_as_is i more within) ∙ (ap (λ (n : ℕ). bit_at n i) none ∙ bit_at-zero i)
 
-bit_here : (words : List ℕ) (k bit : ℕ) → bit < 64 → is_bit words (64 * k + bit) ≡ (bit_at (get_or words k 0) bit == 1)
+-- a word whose lowest bit that is set is cleared, as one less does it
+module _ (word low : ℕ) (set : bit_at word low ≡ 1) (none : (i : ℕ) → i < low → bit_at word i ≡ 0) where
+  abbrev behind : ℕ
+  behind = word / 2 ^ (low + 1)
+
+  small : 2 ^ low < 2 ^ (low + 1)
+  small = pow-lt {i = low} {j = low + 1} (omega arith)
+
+  lowest_bits : word % 2 ^ (low + 1) ≡ 2 ^ low
+  lowest_bits =
+      same_from_bits_below (low + 1) (word % 2 ^ (low + 1)) (2 ^ low) (mod-lt word (pow_pos (low + 1))) small (λ i l.
+      let here : bit_at (word % 2 ^ (low + 1)) i ≡ bit_at word i =
+      sym (bit_at_cat_low behind (low + 1) (word % 2 ^ (low + 1)) i l) ∙ ap (λ (n : ℕ). bit_at n i) (div-add-mod' word (2 ^ (low + 1))) in
+      here ∙ elim (cases_eq i low) [
+        | inl same ↦ ap (bit_at word) same ∙ (set ∙ sym (ap (bit_at (2 ^ low)) same ∙ bit_at-pow_same low))
+        | inr other ↦ none i (omega (arith, l, other)) ∙ sym (bit_at-pow_other low i other)
+      ])
+
+  parts : word ≡ behind * 2 ^ (low + 1) + 2 ^ low
+  parts = sym (div-add-mod' word (2 ^ (low + 1))) ∙ ap (λ (n : ℕ). behind * 2 ^ (low + 1) + n) lowest_bits
+
+  one_less : word - 1 ≡ behind * 2 ^ (low + 1) + (2 ^ low - 1)
+  one_less = let e = parts in omega (arith, e, pow_pos low)
+
+  pub cleared_same : bit_at (bit_and word (word - 1)) low ≡ 0
+  cleared_same =
+      let a = bit_at_and word (word - 1) low in
+      let b : bit_at (word - 1) low ≡ 0 =
+      ap (λ (n : ℕ). bit_at n low) one_less ∙ (bit_at_cat_low behind (low + 1) (2 ^ low - 1) low (omega arith) ∙ bit_at_ones_above low low (omega arith)) in
+      omega (arith, a, b)
+
+  pub cleared_other : (i : ℕ) → i ≢ low → bit_at (bit_and word (word - 1)) i ≡ bit_at word i
+  cleared_other i other =
+      let a = bit_at_and word (word - 1) i in
+      elim (cases_lt i low) [
+        | inl below ↦ let b = none i below in omega (arith, a, b)
+        | inr above ↦
+            let l : low + 1 ≤ i = omega (arith, above, other) in
+            let less : 2 ^ low - 1 < 2 ^ (low + 1) = let m = small in omega (arith, m) in
+            let b : bit_at (word - 1) i ≡ bit_at word i =
+            ap (λ (n : ℕ). bit_at n i) one_less
+            ∙ (bit_at_cat_high behind (low + 1) (2 ^ low - 1) i less l
+            ∙ sym (ap (λ (n : ℕ). bit_at n i) parts ∙ bit_at_cat_high behind (low + 1) (2 ^ low) i small l)) in
+            omega (arith, a, b)
+      ]
+
+-- a bit of a word among words
+pub bit_here : (words : List ℕ) (k bit : ℕ) → bit < 64 → is_bit words (64 * k + bit) ≡ (bit_at (get_or words k 0) bit == 1)
 bit_here words k bit l =
     let a : (64 * k + bit) / 64 ≡ k = omega (arith, l) in
     let b : (64 * k + bit) % 64 ≡ bit = omega (arith, l) in

@@ -1,5 +1,5 @@
 -- The bits of a mask that lies in words of 64.
-use Rattle.std.specs.Prelude.{◌≡◌, ◌≤◌, ◌<◌, ◌+◌, false, ℕ, ℤ, ◌/◌, ◌%◌, List, Bool, ◌==◌, map, length, slice_index}
+use Rattle.std.specs.Prelude.{◌≡◌, ◌≤◌, ◌<◌, ◌+◌, ◌-◌, false, ℕ, ℤ, ◌/◌, ◌%◌, List, Bool, ◌==◌, map, filter, length, slice_index}
 use Rattle.std.specs.List.{range_with_len}
 use Rattle.std.specs.Int.{bit_at}
 use Rattle.std.specs.Ordering.{int_cmp}
@@ -17,6 +17,14 @@ compares op right value = holds_at op (int_cmp value right)
 -- the first bits, as a list
 abbrev pub bits_below : ℕ → List ℕ → List Bool
 bits_below count words = map (is_bit words) (range_with_len 0 count)
+
+-- whether the bit of a word is set whose place is so far behind that of its lowest one
+abbrev pub is_set_from : ℕ → ℕ → ℕ → Bool
+is_set_from word first place = bit_at word (place - first) == 1
+
+-- the places of the bits of a word that are set, ascending, where its lowest bit has a place
+unfoldable pub places_of_word : ℕ → ℕ → List ℕ
+places_of_word word first = filter (is_set_from word first) (range_with_len first 64)
 
 -- so many bits lie in words, with none set behind them
 pub record Lies (count : ℕ) (words : List ℕ) : Type 0 where

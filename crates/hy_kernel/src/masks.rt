@@ -1,7 +1,8 @@
 //! Masks: one bit for each of some places.
 
-ghost use Rattle.std.specs.Prelude.{◌≡◌, ◌≢◌, ℕ, ◌<◌, ◌≤◌, ◌==◌, ◌&&◌, ◌||◌, length, map, not as negated};
+ghost use Rattle.std.specs.Prelude.{◌≡◌, ◌≢◌, ℕ, ◌<◌, ◌≤◌, ◌-◌, ◌^◌, ◌==◌, ◌&&◌, ◌||◌, length, map, filter, not as negated};
 ghost use Rattle.std.specs.Prelude.{true, false, IfOk, replicate, slice_index_or, slice_set};
+ghost use Rattle.std.specs.List.{range_with_len};
 ghost use lib.Lanes.{zip2};
 ghost use Rattle.std.specs.Int.{bit_at};
 ghost use Rattle.hy_kernel.specs.Bits.{compares};
@@ -85,6 +86,30 @@ impl Mask {
         ensures set { result < length self.now → slice_index_or self.now result false ≡ true }
     {
         words::next(self.words.as_slice(), self.bits, from)
+    }
+
+    /// The places from one up to, and without, another, whose bit is set here and not in another mask of as many, ascending:
+    /// 64 bits at a time. Err is for want of memory.
+    pub fn places_without(
+        &self,
+        other: &Mask,
+        alloc: Global,
+        first: usize,
+        end: usize,
+    ) -> Result<Vec<u32>, AllocError>
+        requires many { length other.now ≡ length self.now }
+        requires within { end ≤ length self.now }
+        requires numbered { end < 2 ^ 32 }
+        ensures { IfOk result (λ found. found.items ≡ filter
+            (λ place. slice_index_or self.now place false && negated (slice_index_or other.now place false)) (range_with_len first (end - first))) }
+    {
+        words::places_without(
+            self.words.as_slice(),
+            other.words.as_slice(),
+            alloc,
+            first,
+            end,
+        )
     }
 
     /// Makes each bit say whether the comparison holds of the number at its place.

@@ -1,14 +1,15 @@
 //! Masks in words of 64 bits. Bit i stands in word i / 64, the least bit first.
 
-ghost use Rattle.std.specs.Prelude.{◌≡◌, ◌+◌, ◌-◌, ◌*◌, ◌^◌, ◌≤◌, ◌<◌, ◌&&◌, ◌||◌};
-ghost use Rattle.std.specs.Prelude.{ℕ, length, map, not as negated, nat_lt, slice_index_or};
-ghost use Rattle.std.specs.Prelude.{true, false, FitsSigned, IfSome, IfNone};
+ghost use Rattle.std.specs.Prelude.{◌≡◌, ◌+◌, ◌-◌, ◌*◌, ◌^◌, ◌≤◌, ◌<◌, ◌&&◌, ◌||◌, ◌==◌, ◌++◌};
+ghost use Rattle.std.specs.Prelude.{ℕ, length, map, filter, not as negated, nat_lt, slice_index_or, vec_len, vec_capacity};
+ghost use Rattle.std.specs.Prelude.{true, false, FitsSigned, IfOk, IfSome, IfNone};
 ghost use Rattle.std.specs.Int.{w64, bit_at};
-ghost use Rattle.std.specs.List.{All};
+ghost use Rattle.std.specs.List.{All, range_with_len};
 ghost use lib.Lanes.{mask_l};
-ghost use Rattle.hy_kernel.specs.Bits.{is_bit, compares, IsLowest, Lies};
+ghost use Rattle.hy_kernel.specs.Bits.{is_bit, places_of_word, compares, IsLowest, Lies};
 
 use hy_value::Cmp;
+use std::alloc::{AllocError, Global};
 use std::simd::prelude::*;
 
 /// 16 numbers as the lanes of a vector. Each is read by itself, which shows that it lies in its type's range.
@@ -148,6 +149,57 @@ fn lowest_from(word: u64, from: usize) -> Option<usize>
     } else {
         Some(rest.trailing_zeros() as usize)
     }
+}
+
+/// The bits of a word from one up to, and without, another. The rest are clear.
+fn between(word: u64, from: usize, to: usize) -> u64
+    requires from { from ≤ 64 }
+    requires to { to ≤ 64 }
+    ensures { (i : ℕ) → i < 64 → (bit_at result i == 1) ≡ ((negated (nat_lt i from) && nat_lt i to) && (bit_at word i == 1)) }
+{
+    word & low_ones(to) & !low_ones(from)
+}
+
+/// Adds the places of a word's bits that are set, ascending, where its lowest bit has a place.
+fn push_set(word: u64, first: u32, found: &mut Vec<u32>)
+    requires room { vec_len found.old + 64 ≤ vec_capacity found.old }
+    requires numbered { first + 64 ≤ 2 ^ 32 }
+    ensures found { found.new.items ≡ found.old.items ++ places_of_word word first }
+    ensures few { vec_len found.new ≤ vec_len found.old + 64 }
+    ensures room { vec_capacity found.new ≡ vec_capacity found.old }
+{
+    let mut rest = word;
+    while rest != 0 {
+        let bit = rest.trailing_zeros();
+        found.push_reserved(first + bit);
+        rest &= rest - 1;
+    }
+}
+
+/// The places from one up to, and without, another, whose bit is set in a mask and not in another one, ascending. Err is for
+/// want of memory.
+pub fn places_without(
+    words: &[u64],
+    others: &[u64],
+    alloc: Global,
+    first: usize,
+    end: usize,
+) -> Result<Vec<u32>, AllocError>
+    requires many { length others.now ≡ length words.now }
+    requires within { end ≤ 64 * length words.now }
+    requires numbered { end < 2 ^ 32 }
+    ensures { IfOk result (λ found. found.items
+        ≡ filter (λ place. is_bit words.now place && negated (is_bit others.now place)) (range_with_len first (end - first))) }
+{
+    let begin = first / 64;
+    let last = (end + 63) / 64;
+    let mut found = Vec::with_capacity(alloc, 64 * last.saturating_sub(begin))?;
+    for k in begin..last {
+        let from = first.saturating_sub(64 * k);
+        let word = between(words[k] & !others[k], from, (end - 64 * k).min(64));
+        push_set(word, (64 * k) as u32, &mut found);
+    }
+    Ok(found)
 }
 
 /// The first bit from one on that is set, or how many bits there are.

@@ -2,7 +2,7 @@
 use Rattle.std.proofs.Common.{◌≡◌, ℕ, suc, zero, ◌+◌, ◌<◌, ◌≤◌, List, [], ◌∷◌, ◌++◌, length, get_or, take, min, refl, ap, sym, ◌∙◌, subst, arith, add-one, zero-add}
 use Rattle.std.specs.Prelude.{map, slice_set}
 use Rattle.std.specs.List.{range_with_len}
-use Rattle.std.proofs.lemmas.List.{length-map, length-append, get_or-map, get_or-take, get_or_append_left, get_or-append-add, length-take, length-take-le, take_at}
+use Rattle.std.proofs.lemmas.List.{length-map, length-append, get_or-map, get_or-take, get_or_append_left, get_or-append-add, length-take, length-take-le, take_at, ext_get_or}
 use Rattle.std.proofs.lemmas.List.FromFn.{length-map-range_with_len, get_or-map-range_with_len}
 use Rattle.hy_value.specs.declared.Value.{Value}
 use Rattle.hy_value.specs.declared.Value.TheVariants.{Null}
@@ -253,3 +253,16 @@ pub reach_next : (len k n : ℕ) (lists columns after : Columns) (was : Gathered
 reach_next len k n lists columns after was next is so even reach there =
     let fits : length lists ≡ length columns = even ∙ sym (ap (λ g. g.width) so) in
     subst (λ (m : ℕ). ReachTo m after) (sym next) (subst (ReachTo (len + k)) (sym is) (reach_more len k lists columns fits reach there))
+
+-- the first values of a column are those of the rows
+pub column_seen : (len : ℕ) (columns : Columns) (k : ℕ) (column : List Value) → len ≤ length column → k < length columns → column ≡ get_or columns k column
+    → take len column ≡ map (λ (row : List Value). column_of row k) (rows_of len columns)
+column_seen len columns k column reach within at =
+    let many : length (take len column) ≡ len = length-take-le len column reach in
+    let rows : length (map (λ (row : List Value). column_of row k) (rows_of len columns)) ≡ len =
+    length-map (rows_of len columns) (λ (row : List Value). column_of row k) ∙ length-rows_of len columns in
+    ext_get_or Null (take len column) (map (λ (row : List Value). column_of row k) (rows_of len columns)) (many ∙ sym rows) (λ i l.
+    let below : i < len = omega (arith, l, many) in
+    get_or-take len column i Null below
+    ∙ (cell_at len columns i k column below within at
+    ∙ sym (get_or-map (λ (row : List Value). column_of row k) (rows_of len columns) i [] Null (omega (arith, below, length-rows_of len columns)))))

@@ -1,15 +1,15 @@
 -- Rows that are taken from places of others, by column.
-use Rattle.std.proofs.Common.{◌≡◌, ℕ, ◌+◌, ◌<◌, List, [], ◌∷◌, ◌++◌, length, get_or, take, drop, refl, ap, sym, ◌∙◌, arith}
-use Rattle.std.specs.Prelude.{Bool, ℤ, map}
-use Rattle.std.proofs.lemmas.List.{length-map, length_push, get_or-map, map-append, map_more, take-append-drop, append_assoc}
+use Rattle.std.proofs.Common.{◌≡◌, ℕ, suc, pos, ◌+◌, ◌<◌, ◌≤◌, List, [], ◌∷◌, ◌++◌, length, get_or, take, drop, refl, ap, sym, ◌∙◌, arith}
+use Rattle.std.specs.Prelude.{All, Bool, ℤ, map}
+use Rattle.std.proofs.lemmas.List.{length-map, length_push, get_or-map, take_all, map-append, map_more, take-append-drop, append_assoc}
 use Rattle.std.proofs.lemmas.List.FromFn.{fill_by_all}
 use Rattle.hy_value.specs.declared.Value.{Value}
-use Rattle.hy_value.specs.declared.Value.TheVariants.{Null}
+use Rattle.hy_value.specs.declared.Value.TheVariants.{Int, Null}
 use Rattle.hy_bound.specs.Predicate.{column_of}
 use Rattle.hy_plan.specs.Cells.{row_at, rows_of, ReachTo}
 use Rattle.hy_plan.specs.Numbers.{number_or_null, numbered}
 use Rattle.hy_plan.specs.Placed.{row_picked, values_picked}
-use Rattle.hy_plan.proofs.Numbers.{numbered-append}
+use Rattle.hy_plan.proofs.Numbers.{numbered-append, numbers_more}
 
 abbrev Rows : Type 0
 Rows = List (List Value)
@@ -69,3 +69,33 @@ number_picked rows places column i numbers more nulls marks before number is_nul
     ∙ (append_assoc before (values_picked rows (take i places) column) (number_or_null is_null number ∷ [])
     ∙ ap (λ (vs : List Value). before ++ vs)
     (ap (λ (v : Value). values_picked rows (take i places) column ++ v ∷ []) is ∙ sym (map_more (λ place. column_of (get_or rows place []) column) places i 0 below))))))
+
+-- Numbers that are known by place.
+
+-- there are as many as rows
+pub known_many : (rows : Rows) (known : List ℤ) (column : ℕ) → map Int known ≡ map (λ (row : List Value). column_of row column) rows → length known ≡ length rows
+known_many rows known column same = sym (length-map known Int) ∙ (ap (λ (vs : List Value). length vs) same ∙ length-map rows (λ (row : List Value). column_of row column))
+
+-- the numbers at places are the values there
+pub known_picked : (rows : Rows) (known : List ℤ) (places : List ℕ) (column : ℕ) → map Int known ≡ map (λ (row : List Value). column_of row column) rows
+    → All (λ place. place < length rows) places → map Int (map (λ (place : ℕ). get_or known place (pos 0)) places) ≡ values_picked rows places column
+known_picked rows known [] column same within = refl
+known_picked rows known (place ∷ places) column same within =
+    let below : place < length rows = within 0 place (omega arith) in
+    let there : place < length known = omega (arith, below, known_many rows known column same) in
+    let value : Int (get_or known place (pos 0)) ≡ column_of (get_or rows place []) column =
+    sym (get_or-map Int known place (pos 0) Null there)
+    ∙ (ap (λ (vs : List Value). get_or vs place Null) same ∙ get_or-map (λ (row : List Value). column_of row column) rows place [] Null below) in
+    (λ i. value i ∷ known_picked rows known places column same (λ k d l. within (suc k) d (omega (arith, l))) i)
+
+-- put behind the values of a column without others
+pub known_put : (rows : Rows) (numbers known more : List ℤ) (nulls : List Bool) (others old : List Value) (places : List ℕ) (column : ℕ)
+    → length nulls ≤ length numbers → length others ≡ 0 → numbered numbers nulls ++ others ≡ old
+    → more ≡ numbers ++ map (λ (place : ℕ). get_or known place (pos 0)) places
+    → map Int known ≡ map (λ (row : List Value). column_of row column) rows → All (λ place. place < length rows) places
+    → numbered more nulls ++ others ≡ old ++ values_picked rows (take (length places) places) column
+known_put rows numbers known more nulls others old places column few none view put same within =
+    ap (λ (ns : List ℤ). numbered ns nulls ++ others) put
+    ∙ (numbers_more numbers (map (λ (place : ℕ). get_or known place (pos 0)) places) nulls others few none
+    ∙ ((λ i. view i ++ known_picked rows known places column same within i)
+    ∙ ap (λ (ps : List ℕ). old ++ values_picked rows ps column) (sym (take_all (length places) places (omega arith)))))

@@ -8,8 +8,8 @@ abbrev pub number_or_null : Bool → ℤ → Value
 number_or_null true number = Null
 number_or_null false number = Int number
 
--- numbers as values, some of them NULL
+-- numbers as values, some of them NULL: those of which that is told
 abbrev pub numbered : List ℤ → List Bool → List Value
 numbered [] nulls = []
-numbered (number ∷ numbers) [] = []
+numbered (number ∷ numbers) [] = Int number ∷ numbered numbers []
 numbered (number ∷ numbers) (is_null ∷ nulls) = number_or_null is_null number ∷ numbered numbers nulls

@@ -1,6 +1,6 @@
 //! The values of a column.
 
-ghost use Rattle.std.specs.Prelude.{◌≡◌, ℕ, ◌<◌, ◌≤◌, ◌++◌, [], ◌∷◌, All, IfOk, OnOk, OnErr, length, slice_index_or, take};
+ghost use Rattle.std.specs.Prelude.{◌≡◌, ℕ, pos, ◌<◌, ◌≤◌, ◌++◌, [], ◌∷◌, All, IfOk, IfSome, OnOk, OnErr, false, length, map, slice_index_or, take};
 ghost use Rattle.hy_bound.specs.Predicate.{column_of};
 ghost use Rattle.hy_value.specs.Refs.{referred};
 ghost use Rattle.hy_plan.specs.Numbers.{numbered};
@@ -11,17 +11,18 @@ use hy_value::{Value, ValueRef};
 use std::alloc::{AllocError, Global};
 use std::marker::Model;
 
-/// The values of a column, in the order of its rows. Numbers and NULLs take eight bytes, and one more for
-/// which of them it is; from the first text on values are kept as they are.
+/// The values of a column, in the order of its rows. Numbers and NULLs take eight bytes, and up to the last NULL one more
+/// for which of them it is; from the first text on values are kept as they are.
 #[derive(Drop)]
 pub struct Column {
     numbers: Vec<i64>,
+    /// Which of the numbers stand for NULL: none of those behind the last one that is told of.
     nulls: Vec<bool>,
     others: Vec<Value>,
 }
 
 impl Model for Column {
-    ghost use Rattle.std.specs.Prelude.{◌≡◌, ◌++◌, length};
+    ghost use Rattle.std.specs.Prelude.{◌≤◌, ◌++◌, length};
     ghost use Rattle.hy_value.specs.Values.{Values};
     ghost use Rattle.hy_plan.specs.Numbers.{numbered};
 
@@ -29,7 +30,14 @@ impl Model for Column {
 
     ghost view = { λ a. numbered a.numbers.items a.nulls.items ++ a.others.items };
 
-    ghost invariant = { λ a. length a.nulls.items ≡ length a.numbers.items };
+    ghost invariant = { λ a. length a.nulls.items ≤ length a.numbers.items };
+}
+
+/// Whether a number stands for NULL.
+fn is_marked(nulls: &[bool], index: usize) -> bool
+    ensures { result ≡ slice_index_or nulls.now index false }
+{
+    index < nulls.len() && nulls[index]
 }
 
 impl Column {
@@ -51,10 +59,22 @@ impl Column {
     {
         if index >= self.numbers.len() {
             self.others[index - self.numbers.len()].refer()
-        } else if self.nulls[index] {
+        } else if is_marked(self.nulls.as_slice(), index) {
             ValueRef::Null
         } else {
             ValueRef::Int(self.numbers[index])
+        }
+    }
+
+    /// The numbers of the first rows, if it is known that each of them is one.
+    pub fn numbers(&self, len: usize) -> Option<&[i64]>
+        ensures { IfSome result (λ numbers. map Value.Int numbers.now ≡ take len self.now) }
+    {
+        let numbers = self.numbers.as_slice();
+        if self.nulls.is_empty() && len <= numbers.len() {
+            Some(&numbers[..len])
+        } else {
+            None
         }
     }
 
@@ -106,7 +126,13 @@ impl Column {
         if !self.others.is_empty() {
             return Ok(0);
         }
-        push_numbers(&mut self.numbers, &mut self.nulls, source, places, column)
+        match source.numbers(column as usize) {
+            Some(known) => {
+                push_known(&mut self.numbers, known, places)?;
+                Ok(places.len())
+            }
+            None => push_told(&mut self.numbers, &mut self.nulls, source, places, column),
+        }
     }
 
     /// Adds the values in a column of the rows at some places. Without memory nothing changes.
@@ -141,10 +167,11 @@ impl Column {
     {
         match value {
             ValueRef::Int(number) if self.others.is_empty() => {
-                push_number(&mut self.numbers, &mut self.nulls, number, false)
+                self.numbers.push(number)?;
+                Ok(())
             }
             ValueRef::Null if self.others.is_empty() => {
-                push_number(&mut self.numbers, &mut self.nulls, 0, true)
+                push_null(&mut self.numbers, &mut self.nulls)
             }
             _ => {
                 self.others.push(value.to_value())?;
@@ -152,6 +179,17 @@ impl Column {
             }
         }
     }
+}
+
+/// Tells of all numbers whether they stand for NULL: of each that was left out, that it doesn't. Without memory nothing
+/// changes.
+fn tell_all(numbers: &Vec<i64>, nulls: &mut Vec<bool>) -> Result<(), AllocError>
+    requires { length nulls.old.items ≤ length numbers.now.items }
+    ensures few { length nulls.new.items ≤ length numbers.now.items }
+    ensures all { OnOk result (length nulls.new.items ≡ length numbers.now.items) }
+    ensures same { numbered numbers.now.items nulls.new.items ≡ numbered numbers.now.items nulls.old.items }
+{
+    nulls.resize(numbers.len(), false)
 }
 
 /// Adds a number, and whether it stands for NULL. Without memory nothing changes.
@@ -170,6 +208,44 @@ fn push_number(
     numbers.push(number)?;
     nulls.push_reserved(is_null);
     Ok(())
+}
+
+/// Adds NULL. Without memory nothing changes.
+fn push_null(numbers: &mut Vec<i64>, nulls: &mut Vec<bool>) -> Result<(), AllocError>
+    requires few { length nulls.old.items ≤ length numbers.old.items }
+    ensures few { length nulls.new.items ≤ length numbers.new.items }
+    ensures ok { OnOk result (numbered numbers.new.items nulls.new.items ≡ numbered numbers.old.items nulls.old.items ++ Value.Null ∷ []) }
+    ensures err { OnErr result (numbered numbers.new.items nulls.new.items ≡ numbered numbers.old.items nulls.old.items) }
+{
+    tell_all(numbers, nulls)?;
+    push_number(numbers, nulls, 0, true)
+}
+
+/// The numbers at some places of others. Err is for want of memory.
+fn picked(alloc: Global, known: &[i64], places: &[u32]) -> Result<Vec<i64>, AllocError>
+    requires { All (λ place. place < length known.now) places.now }
+    ensures { IfOk result (λ found. found.items ≡ map (λ place. slice_index_or known.now place (pos 0)) places.now) }
+{
+    let mut found = Vec::with_capacity(alloc, places.len())?;
+    for place in places {
+        found.push_reserved(known[*place as usize]);
+    }
+    Ok(found)
+}
+
+/// Adds the numbers at some places of others. Without memory nothing changes.
+fn push_known(numbers: &mut Vec<i64>, known: &[i64], places: &[u32]) -> Result<(), AllocError>
+    requires { All (λ place. place < length known.now) places.now }
+    ensures ok { OnOk result (numbers.new.items ≡ numbers.old.items ++ map (λ place. slice_index_or known.now place (pos 0)) places.now) }
+    ensures err { OnErr result (numbers.new.items ≡ numbers.old.items) }
+{
+    let found = picked(*numbers.allocator(), known, places)?;
+    if numbers.is_empty() {
+        *numbers = found;
+        Ok(())
+    } else {
+        numbers.extend_from_slice(found.as_slice())
+    }
 }
 
 /// Adds to numbers, and to which of them stand for NULL, the values in a column of the rows at the first places, up to the
@@ -203,6 +279,28 @@ fn push_numbers<S: PlacedRows>(
         nulls.push_reserved(is_null);
     }
     Ok(places.len())
+}
+
+/// The same, where it may be told of fewer numbers whether they stand for NULL.
+fn push_told<S: PlacedRows>(
+    numbers: &mut Vec<i64>,
+    nulls: &mut Vec<bool>,
+    source: &S,
+    places: &[u32],
+    column: u32,
+) -> Result<usize, AllocError>
+    requires few { length nulls.old.items ≤ length numbers.old.items }
+    requires places { All (λ place. place < length (S.rows source.now)) places.now }
+    requires column { (place : ℕ) → place < length (S.rows source.now)
+        → column < length (slice_index_or (S.rows source.now) place []) }
+    ensures few { length nulls.new.items ≤ length numbers.new.items }
+    ensures count { IfOk result (λ count. count ≤ length places.now) }
+    ensures ok { IfOk result (λ count. numbered numbers.new.items nulls.new.items
+        ≡ numbered numbers.old.items nulls.old.items ++ values_picked (S.rows source.now) (take count places.now) column) }
+    ensures err { OnErr result (numbered numbers.new.items nulls.new.items ≡ numbered numbers.old.items nulls.old.items) }
+{
+    tell_all(numbers, nulls)?;
+    push_numbers(numbers, nulls, source, places, column)
 }
 
 /// Adds the values in a column of the rows at some places. Without memory nothing changes.

@@ -1,6 +1,6 @@
 //! Rows gathered of a table, kept by column.
 
-ghost use Rattle.std.specs.Prelude.{◌≡◌, ℕ, ◌<◌, ◌++◌, [], ◌∷◌, All, IfOk, OnOk, OnErr, length, map, slice_index_or, take};
+ghost use Rattle.std.specs.Prelude.{◌≡◌, ℕ, ◌<◌, ◌++◌, [], ◌∷◌, All, IfOk, IfSome, OnOk, OnErr, length, map, slice_index_or, take};
 ghost use Rattle.hy_value.specs.Columns.{has_column};
 ghost use Rattle.hy_value.specs.Refs.{referred};
 ghost use Rattle.hy_plan.specs.Placed.{row_picked, values_picked};
@@ -25,6 +25,10 @@ pub trait PlacedRows {
         requires place { place < length (rows self.now) }
         requires column { column < length (slice_index_or (rows self.now) place []) }
         ensures { referred result ≡ column_of (slice_index_or (rows self.now) place []) column };
+
+    /// The numbers in a column by place, if it is known that each row has a number there.
+    fn numbers(&self, column: usize) -> Option<&[i64]>
+        ensures { IfSome result (λ numbers. map Value.Int numbers.now ≡ map (λ row. column_of row column) (rows self.now)) };
 }
 
 /// Rows of so many values each, kept by column. Contracts see them as the list of the rows.
@@ -104,6 +108,14 @@ impl Gathered {
         ensures { referred result ≡ column_of (slice_index_or self.now.rows index []) column }
     {
         self.columns[column].refer(index)
+    }
+
+    /// The numbers in a column, row by row, if it is known that each row has a number there.
+    pub fn numbers(&self, column: usize) -> Option<&[i64]>
+        requires { column < self.now.width }
+        ensures { IfSome result (λ numbers. map Value.Int numbers.now ≡ map (λ row. column_of row column) self.now.rows) }
+    {
+        self.columns[column].numbers(self.len)
     }
 
     /// Keeps the first rows.

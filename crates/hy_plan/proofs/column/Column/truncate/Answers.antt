@@ -12,4 +12,4 @@ returns c =
     ap (λ values. numbered values c.truncate-3.new.self.items ++ c.truncate.new.self.items) c.truncate-2.ensures.items
     ∙ (ap (λ values. numbered (take c.args.len numbers) values ++ c.truncate.new.self.items) c.truncate-3.ensures.items
     ∙ (ap (λ values. numbered (take c.args.len numbers) (take c.args.len nulls) ++ values) (c.truncate.ensures.items ∙ ap (λ n. take n others) (c.saturating_sub.ensures ∙ ap (λ n. c.args.len - n) len))
-    ∙ (take-column c.args.len numbers nulls others c.self.invariant ∙ ap (take c.args.len) c.self.view_is)))
+    ∙ (take-column c.args.len numbers nulls others ∙ ap (take c.args.len) c.self.view_is)))

@@ -1,7 +1,7 @@
 use Rattle.std.proofs.Common.{◌≡◌, ◌+ℤ◌, ◌≤◌, ◌*◌, ◌^◌, drop}
 use Rattle.std.specs.Int.RustNames.{unsigned_abs}
 use Rattle.hy_gathered.specs.Sums.{sum_by}
-use Rattle.hy_gathered.proofs.sums.PartColumn.sum_at.Given as goal
+use Rattle.hy_gathered.proofs.sums.PartColumn.sum_each.Given as goal
 
 -- the sum so far and that of the rest are the whole, and each row so far added at most 2^63
 abbrev pub invariant-loop-index : goal.invariant-loop-index

@@ -74,6 +74,7 @@ test_of (boxed_test.Nested' p inner) = Nested (test_of inner)
 
 abbrev pub formula_of : boxed_formula.Formula → Formula
 formula_of (boxed_formula.Plain operand) = Plain operand
+formula_of (boxed_formula.Pair left op at right) = Binary (Plain left) op at (Plain right)
 formula_of (boxed_formula.Binary' p left op at q right) = Binary (formula_of left) op at (formula_of right)
 formula_of (boxed_formula.Bracket' p inner) = Bracket (formula_of inner)
 

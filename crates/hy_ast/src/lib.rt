@@ -110,6 +110,17 @@ pub enum Operator {
 pub enum Formula {
     /// A column or a literal.
     Plain(Operand),
+    /// An operator between two of these, which takes no boxes.
+    Pair {
+        /// What stands on the left.
+        left: Operand,
+        /// The operator.
+        op: Operator,
+        /// Where it stands.
+        at: Span,
+        /// What stands on the right.
+        right: Operand,
+    },
     /// An operator between two expressions.
     Binary {
         /// What stands on the left.

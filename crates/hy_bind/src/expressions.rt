@@ -37,6 +37,16 @@ pub fn expression(alloc: Global, scope: &Scope, tree: &Formula) -> Result<Judged
 {
     match tree {
         Formula::Plain(operand) => single(alloc, scope, operand),
+        Formula::Pair {
+            left,
+            op,
+            right,
+            ..
+        } => {
+            let left = single(alloc, scope, left)?;
+            let right = single(alloc, scope, right)?;
+            binary(alloc, *op, left, right)
+        }
         Formula::Binary {
             left,
             op,

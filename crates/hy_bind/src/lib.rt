@@ -115,6 +115,7 @@ fn joined(
 }
 
 /// A statement whose tables are there.
+#[inline(always)]
 fn statement(alloc: Global, scope: &Scope, ast: &Statement) -> Result<Bound, BindError>
     requires { NamesTables (statement_of ast.now) }
     ensures { Binds result (fault_in (scope_of scope.now) (statement_of ast.now)) (bound_in (scope_of scope.now) (statement_of ast.now)) }

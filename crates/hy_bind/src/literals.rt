@@ -159,6 +159,7 @@ pub struct PlainLiteral {
 }
 
 /// A literal, its digits read once.
+#[inline(always)]
 pub fn plain(script: &[u8], literal: &Literal) -> PlainLiteral
     ensures fault { result.fault ≡ literal_fault script.now literal.now }
     ensures side { IfSome result.side (λ side. viewed_side side ≡ Side.Literal (literal_value script.now literal.now)) }

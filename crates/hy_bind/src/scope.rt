@@ -48,6 +48,7 @@ pub enum Search {
 }
 
 /// The column that a reference means, if it means a column of exactly one of the tables.
+#[inline(always)]
 #[tactic(auto, using(crate::proofs::Alone::alone))]
 pub fn resolve(scope: &Scope, reference: &ColumnRef) -> Option<Found>
     ensures { result ≡ resolved (scope_of scope.now) reference.now }
@@ -106,6 +107,7 @@ pub fn width(catalog: &Catalog, table: u32) -> usize
 }
 
 /// The column of a table that a reference means, the table's columns having numbers from `from` on.
+#[inline(always)]
 fn found_in_table(scope: &Scope, reference: &ColumnRef, table: u32, from: u128) -> Option<Found>
     requires { from < 2 ^ 127 }
     ensures { result ≡ option_and_then (found_in scope.now.script.now reference.now table from) (table_at scope.now.catalog.now table) }
@@ -115,6 +117,7 @@ fn found_in_table(scope: &Scope, reference: &ColumnRef, table: u32, from: u128) 
 }
 
 /// The column of a table that a reference means.
+#[inline(always)]
 fn found_in(
     script: &[u8],
     reference: &ColumnRef,

@@ -13,4 +13,5 @@ pub mod Sentences
 pub mod Closings
 pub mod Spans
 pub mod Scripts
+pub mod Short
 pub mod Single

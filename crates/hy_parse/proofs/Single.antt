@@ -35,7 +35,7 @@ unit_named zero pieces is = refl
 unit_named (suc levels) [] is = absurd cc
 unit_named (suc levels) (piece ∷ pieces) is = rw (is_word piece.token Not is, is_sign piece.token LeftParen is) refl
 
-unseen : (t : Token) (pieces : List Piece) → begins t pieces ≡ false → seen (span_of t) pieces ≡ None
+pub unseen : (t : Token) (pieces : List Piece) → begins t pieces ≡ false → seen (span_of t) pieces ≡ None
 unseen t [] is = refl
 unseen t (piece ∷ pieces) is = rw is refl
 

@@ -1,9 +1,10 @@
 // Expressions and assignments. Each function gives what it read and the pieces behind it.
 // Each turn of a loop takes a piece, so that there are no more turns than pieces.
 
-ghost use Rattle.std.specs.Prelude.{◌≡◌, [], IfOk, map};
+ghost use Rattle.std.specs.Prelude.{◌≡◌, [], IfOk, false, map};
 ghost use Rattle.hy_ast.specs.Trees.{formula_of, Binary, set_clause_of};
-ghost use Rattle.hy_parse.specs.Reading.{Gives, Sees, seen, addition_of, addition, plain_at, factor_at, term_by, formula_at, set_clause_at, items_at};
+ghost use Rattle.hy_parse.specs.Reading.{Done, Gives, Sees, seen, addition_of, addition, plain_at, factor_at, term_by, formula_at, formula_goes_on, set_clause_at, items_at};
+ghost use Rattle.hy_limits.specs.declared.TheConstants.{MOST_LEVELS as LEVELS};
 
 use crate::Piece;
 use crate::cursor::{Halt, begins, expect, name, next_span};
@@ -119,7 +120,34 @@ fn factor(alloc: Global, levels: u32, pieces: &[Piece]) -> Result<(Formula, &[Pi
     Ok((Formula::Bracket(Box::new(alloc, inner)?), rest))
 }
 
-/// An assignment.
+/// A column or a literal, or `+` or `-` between two: the whole expression, unless it goes on behind.
+#[inline(always)]
+#[tactic(auto, using(crate::proofs::Short::short_one, crate::proofs::Short::short_two))]
+fn short(pieces: &[Piece]) -> Result<(Formula, &[Piece]), Halt>
+    ensures { IfOk result (λ x. formula_goes_on x.1.now ≡ false → formula_at LEVELS pieces.now ≡ Done (formula_of x.0) x.1.now) }
+{
+    let (left, rest) = operand(pieces)?;
+    let Some((op, at, behind)) = next_addition(rest) else {
+        return Ok((Formula::Plain(left), rest));
+    };
+    let (right, rest) = operand(behind)?;
+    let pair = Formula::Pair {
+        left,
+        op,
+        at,
+        right,
+    };
+    Ok((pair, rest))
+}
+
+/// Whether an expression goes on with these pieces.
+fn goes_on(pieces: &[Piece]) -> bool
+    ensures { result ≡ formula_goes_on pieces.now }
+{
+    begins(pieces, Token::Sign(Sign::Star)) || next_addition(pieces).is_some()
+}
+
+/// An assignment. Most have a short right side, which is read without what a chain asks for.
 #[inline(always)]
 #[tactic(auto, unfolding(crate::specs::Reading::set_clause_at))]
 fn assignment(alloc: Global, pieces: &[Piece]) -> Result<(SetClause, &[Piece]), Halt>
@@ -127,7 +155,10 @@ fn assignment(alloc: Global, pieces: &[Piece]) -> Result<(SetClause, &[Piece]), 
 {
     let (column, rest) = name(pieces)?;
     let rest = expect(rest, &[Token::Sign(Sign::Equal)])?;
-    let (value, rest) = expression(alloc, MOST_LEVELS, rest)?;
+    let (value, rest) = match short(rest) {
+        Ok((value, behind)) if !goes_on(behind) => (value, behind),
+        _chain => expression(alloc, MOST_LEVELS, rest)?,
+    };
     Ok((SetClause { column, value }, rest))
 }
 

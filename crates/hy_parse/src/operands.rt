@@ -61,6 +61,7 @@ fn literal_of(piece: Piece) -> Option<Literal>
 }
 
 /// A literal.
+#[inline(always)]
 #[tactic(auto, unfolding(crate::specs::Reading::literal_at, crate::specs::Reading::piece_at))]
 pub fn literal(pieces: &[Piece]) -> Result<(Literal, &[Piece]), Halt>
     ensures { Gives (λ x. (x.0, x.1.now)) result (literal_at pieces.now) }
@@ -78,6 +79,7 @@ pub fn literal(pieces: &[Piece]) -> Result<(Literal, &[Piece]), Halt>
 }
 
 /// A column or a literal.
+#[inline(always)]
 #[tactic(auto, unfolding(crate::specs::Reading::operand_at))]
 pub fn operand(pieces: &[Piece]) -> Result<(Operand, &[Piece]), Halt>
     ensures { Gives (λ x. (x.0, x.1.now)) result (operand_at pieces.now) }

@@ -16,6 +16,8 @@ use std::alloc::Global;
 
 const COUNT: Token = Token::Reserved(Keyword::Count);
 
+const GROUP: Token = Token::Reserved(Keyword::Group);
+
 const SUM: Token = Token::Reserved(Keyword::Sum);
 
 /// `COUNT ( * )`.
@@ -119,13 +121,7 @@ fn groups<'a>(
 {
     let (table, rest) = from_table(pieces)?;
     let (condition, rest) = where_clause(alloc, rest)?;
-    let rest = expect(
-        rest,
-        &[
-            Token::Reserved(Keyword::Group),
-            Token::Reserved(Keyword::By),
-        ],
-    )?;
+    let rest = expect(rest, &[GROUP, Token::Reserved(Keyword::By)])?;
     let (key, rest) = column(rest)?;
     *into = Statement::Select(Selection::Groups {
         column: listed,

@@ -22,6 +22,10 @@ const CREATE: Token = Token::Reserved(Keyword::Create);
 
 const INSERT: Token = Token::Reserved(Keyword::Insert);
 
+const KEY: Token = Token::Reserved(Keyword::Key);
+
+const ONLY: Token = Token::Reserved(Keyword::Only);
+
 const LEFT_PAREN: Token = Token::Sign(Sign::LeftParen);
 
 const RIGHT_PAREN: Token = Token::Sign(Sign::RightParen);
@@ -58,11 +62,7 @@ fn column_def(pieces: &[Piece]) -> Result<(ColumnDef, &[Piece]), Halt>
 {
     let (name, rest) = name(pieces)?;
     let (kind, rest) = kind(rest)?;
-    let (key, rest) = flag(
-        rest,
-        Token::Reserved(Keyword::Primary),
-        &[Token::Reserved(Keyword::Key)],
-    )?;
+    let (key, rest) = flag(rest, Token::Reserved(Keyword::Primary), &[KEY])?;
     Ok((ColumnDef { name, kind, key }, rest))
 }
 
@@ -117,11 +117,7 @@ fn begin<'a>(pieces: &'a [Piece], into: &mut Statement) -> Rest<'a>
     ensures { Gives (λ rest. (statement_of into.new, rest.now)) result (begin_at pieces.now) }
 {
     let rest = expect(pieces, &[Token::Reserved(Keyword::Begin)])?;
-    let (read_only, rest) = flag(
-        rest,
-        Token::Reserved(Keyword::Read),
-        &[Token::Reserved(Keyword::Only)],
-    )?;
+    let (read_only, rest) = flag(rest, Token::Reserved(Keyword::Read), &[ONLY])?;
     *into = Statement::Begin { read_only };
     Ok(rest)
 }

@@ -5,11 +5,11 @@ ghost use Rattle.hy_script.specs.Codes.{number, rank, first_of_two, code_if_so, 
 
 use hy_bind::BindFault;
 
-/// Why a script is refused.
+/// Why a script is refused, by the numbers that stand behind the E.
 #[derive(Clone, Copy, Debug, PartialEq, Eq)]
 pub enum Code {
     /// It has over 16,777,216 bytes.
-    TooLong,
+    TooLong = 1,
     /// It is no UTF-8.
     NotUtf8,
     /// What stands there is no token.
@@ -45,7 +45,7 @@ pub enum Code {
     /// The listed column isn't that of GROUP BY.
     GroupColumn,
     /// No savepoint of the name is open.
-    UnknownSavepoint,
+    UnknownSavepoint = 21,
 }
 
 impl Code {
@@ -53,27 +53,7 @@ impl Code {
     pub fn number(self) -> u8
         ensures { result ≡ number self }
     {
-        match self {
-            Code::TooLong => 1,
-            Code::NotUtf8 => 2,
-            Code::BadToken => 3,
-            Code::Syntax => 4,
-            Code::UnknownTable => 5,
-            Code::UnknownColumn => 6,
-            Code::WrongType => 7,
-            Code::Twice => 8,
-            Code::Limit => 9,
-            Code::NoEnd => 10,
-            Code::ReadOnly => 11,
-            Code::KeySet => 12,
-            Code::UnknownSession => 13,
-            Code::TooBig => 14,
-            Code::KeyTwice => 15,
-            Code::KeyNull => 16,
-            Code::GroupInWriter => 17,
-            Code::GroupColumn => 18,
-            Code::UnknownSavepoint => 21,
-        }
+        self as u8
     }
 
     /// Its rank in the order in which the causes of one statement are tested.
@@ -131,14 +111,8 @@ pub fn first_of(one: Option<Code>, other: Option<Code>) -> Option<Code>
 {
     match (one, other) {
         (None, other) => other,
-        (Some(code), None) => Some(code),
-        (Some(code), Some(second)) => {
-            if code.rank() <= second.rank() {
-                Some(code)
-            } else {
-                Some(second)
-            }
-        }
+        (Some(one), Some(other)) if other.rank() < one.rank() => Some(other),
+        (one, _) => one,
     }
 }
 

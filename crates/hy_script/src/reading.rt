@@ -141,14 +141,9 @@ impl SoFar {
                 self.close(false)?;
                 Ok(None)
             }
-            Statement::Select(_) => self.statement(alloc, input.script, ast),
-            Statement::Update { .. } => self.statement(alloc, input.script, ast),
-            Statement::Delete { .. } => self.statement(alloc, input.script, ast),
-            Statement::Savepoint { .. } => self.statement(alloc, input.script, ast),
-            Statement::RollbackTo { .. } => self.statement(alloc, input.script, ast),
-            Statement::Release { .. } => self.statement(alloc, input.script, ast),
             Statement::Schedule { turns } => self.schedule(alloc, input.script, turns.as_slice()),
             Statement::End => Ok(None),
+            _ => self.statement(alloc, input.script, ast),
         }
     }
 

@@ -1,9 +1,9 @@
 -- Where spaces and comments end, by the offset in the bytes.
-use Rattle.std.proofs.Common.{◌≡◌, ℕ, ◌+◌, ◌≤◌, Bool, true, false, List, [], ◌∷◌, length, length-drop, drop-drop, drop, refl, ap, sym, ◌∙◌, subst, suc, arith, nat_eq}
+use Rattle.std.proofs.Common.{◌≡◌, ℕ, ◌+◌, ◌≤◌, Bool, true, false, List, [], ◌∷◌, length, get_or, length-drop, drop-drop, drop, refl, ap, sym, ◌∙◌, subst, suc, arith, nat_eq}
 use Rattle.std.specs.Prelude.{codes}
 use Rattle.std.specs.List.{prefix_len, starts_with}
 use Rattle.std.proofs.lemmas.List.Sums.{prefix_len-le-length}
-use Rattle.hy_token.specs.Lengths.{is_space, is_within_line, piece_len, blank_from}
+use Rattle.hy_token.specs.Lengths.{is_space, is_within_line, separates, piece_len, blank_from, blank_len}
 
 -- what is left of a list past one more element
 drop_one_more : (n b : ℕ) (bs : List ℕ) → drop (1 + n) (b ∷ bs) ≡ drop n bs
@@ -67,3 +67,22 @@ blank_more bs i n whole in_range is_piece so_far =
     let here : IsPiece (drop i bs) n = subst (IsPiece (drop i bs)) (sym is_piece) (piece (drop i bs)) in
     let after : drop n (drop i bs) ≡ drop (i + n) bs = drop-drop n i bs in
     (omega (arith, here.within, length-drop i bs), omega (arith, so_far, here.steps, ap (blank_from false) after))
+
+-- ---- seen at once
+
+opens_comment : (b : ℕ) (bs : List ℕ) → separates b ≡ false → starts_with nat_eq (b ∷ bs) (codes "--") ≡ false
+opens_comment b bs h = grind arith
+
+nothing_blank : (b : ℕ) (bs : List ℕ) → separates b ≡ false → blank_from false (b ∷ bs) ≡ 0
+nothing_blank b bs h = let no_space : is_space b ≡ false = grind arith in rw (no_space, opens_comment b bs h) refl
+
+pub no_space : (bytes : List ℕ) → 1 ≤ length bytes → separates (get_or bytes 0 0) ≡ false → blank_len bytes ≡ 0
+unfolding blank_len
+no_space [] some h = absurd (omega (arith, some))
+no_space (b ∷ bs) some h = nothing_blank b bs h
+
+pub one_space : (bytes : List ℕ) → 2 ≤ length bytes → get_or bytes 0 0 ≡ 32 → separates (get_or bytes 1 0) ≡ false → blank_len bytes ≡ 1
+unfolding blank_len
+one_space [] two is h = absurd (omega (arith, two))
+one_space (b ∷ []) two is h = absurd (omega (arith, two))
+one_space (b ∷ c ∷ bs) two is h = rw is (ap (λ n. 1 + n) (nothing_blank c bs h))

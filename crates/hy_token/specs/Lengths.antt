@@ -8,6 +8,10 @@ use Rattle.std.specs.Char.{is_ascii_alphabetic, is_ascii_alphanumeric, is_ascii_
 abbrev pub is_space : ℕ → Bool
 is_space b = b == 32 || b == 9 || b == 13 || b == 10
 
+-- what spaces and comments begin with
+abbrev pub separates : ℕ → Bool
+separates b = is_space b || b == 45
+
 -- any byte but a line feed
 abbrev pub is_within_line : ℕ → Bool
 is_within_line b = not (b == 10)

@@ -1,7 +1,7 @@
 // How many bytes of each kind stand first.
 
 ghost use Rattle.std.specs.Prelude.{◌≡◌, ◌≤◌, length, IfSome};
-ghost use Rattle.hy_token.specs.Lengths.{is_space, is_within_line, piece_len, begins_word, small, blank_len, digits_len, text_rest_len};
+ghost use Rattle.hy_token.specs.Lengths.{is_space, separates, is_within_line, piece_len, begins_word, small, blank_len, digits_len, text_rest_len};
 ghost use Rattle.hy_token.specs.Letters.{word_on};
 ghost use Rattle.std.specs.List.{prefix_len};
 
@@ -11,11 +11,18 @@ fn is_space(byte: u8) -> bool
     byte == b' ' || byte == b'\t' || byte == b'\r' || byte == b'\n'
 }
 
-/// What a word begins with.
+/// What a word begins with: it goes on with that, and it is no digit.
 pub fn begins_word(byte: u8) -> bool
     ensures { result ≡ begins_word byte }
 {
-    byte.is_ascii_alphabetic() || byte == b'_'
+    small(byte) > b'9'
+}
+
+/// What spaces and comments begin with.
+fn separates(byte: u8) -> bool
+    ensures { result ≡ separates byte }
+{
+    is_space(byte) || byte == b'-'
 }
 
 /// The bytes of an integer.
@@ -58,9 +65,23 @@ fn piece_len(bytes: &[u8]) -> usize
     }
 }
 
-/// Spaces and comments.
-#[tactic(auto, using(crate::proofs::Blanks::blank_steps), unfolding(crate::specs::Lengths::blank_len))]
+/// Spaces and comments. Most tokens stand behind one space or none.
+#[tactic(auto, using(crate::proofs::Blanks::one_space, crate::proofs::Blanks::no_space))]
 pub fn blank_len(bytes: &[u8]) -> usize
+    ensures value { result ≡ blank_len bytes.now }
+    ensures in_range { result ≤ length bytes.now }
+{
+    match bytes {
+        [b' ', second, ..] if !separates(*second) => 1,
+        [first, ..] if !separates(*first) => 0,
+        _ => pieces_len(bytes),
+    }
+}
+
+/// Spaces and comments, piece by piece.
+#[inline(never)]
+#[tactic(auto, using(crate::proofs::Blanks::blank_steps), unfolding(crate::specs::Lengths::blank_len))]
+fn pieces_len(bytes: &[u8]) -> usize
     ensures value { result ≡ blank_len bytes.now }
     ensures in_range { result ≤ length bytes.now }
 {

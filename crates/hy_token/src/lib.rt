@@ -125,7 +125,8 @@ pub struct Bad {
 }
 
 /// The next token from `at` on, after any spaces and comments; `Err` where what stands there is no
-/// token. The bytes may be any, and need not be UTF-8.
+/// token. The bytes may be any, and need not be UTF-8. It stands where it is called, since its answer is large to hand on.
+#[inline(always)]
 pub fn next(bytes: &[u8], at: usize) -> Result<(Token, Span), Bad>
     requires { at ≤ length bytes.now }
     ensures value { result ≡ token_at bytes.now at }

@@ -76,6 +76,7 @@ pub fn first_token(bytes: &[u8]) -> Option<(Token, usize)>
 }
 
 /// The next token from an offset on.
+#[inline(always)]
 #[tactic(auto, unfolding(crate::specs::Token::lexed))]
 pub fn token_at(bytes: &[u8], at: usize) -> Result<(Token, Span), Bad>
     requires { at ≤ length bytes.now }

@@ -65,17 +65,11 @@ fn any_unknown(script: &[u8], names: &Names, turns: &[Turn]) -> bool
 fn item_of(script: &[u8], names: &Names, turn: &Turn) -> Result<Item, AllocError>
     ensures { IfOk result (λ item. item ≡ item_at script.now names.now turn.now) }
 {
-    let number = match names.find(text_in(script, turn.session)) {
-        Some(number) => number,
-        None => 0,
-    };
-    match u32::try_from(number) {
-        Ok(session) => Ok(Item {
-            session,
-            whole: turn.whole,
-        }),
-        Err(_) => Err(AllocError),
-    }
+    let number = names.find(text_in(script, turn.session)).unwrap_or(0);
+    Ok(Item {
+        session: u32::try_from(number).map_err(|_| AllocError)?,
+        whole: turn.whole,
+    })
 }
 
 /// The items of a schedule.

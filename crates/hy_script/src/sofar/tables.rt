@@ -122,10 +122,7 @@ fn key_of(columns: &[ColumnDef]) -> Result<Option<u32>, AllocError>
 {
     for (ordinal, column) in columns.iter().enumerate() {
         if column.key {
-            return match u32::try_from(ordinal) {
-                Ok(key) => Ok(Some(key)),
-                Err(_) => Err(AllocError),
-            };
+            return Ok(Some(u32::try_from(ordinal).map_err(|_| AllocError)?));
         }
     }
     Ok(None)

@@ -2,7 +2,7 @@ use Rattle.std.proofs.Common.{◌≡◌, ◌-◌, take, drop, length, ap, ◌∙
 use Rattle.std.proofs.lemmas.Grind.{common_steps}
 use Rattle.hy_token.specs.Lengths.{piece_len}
 use Rattle.hy_token.proofs.Blanks.{blank_more}
-use Rattle.hy_token.proofs.lengths.blank_len.Goals as goal
+use Rattle.hy_token.proofs.lengths.pieces_len.Goals as goal
 
 pub loop-len-preserved : goal.loop-len-preserved
 loop-len-preserved c =

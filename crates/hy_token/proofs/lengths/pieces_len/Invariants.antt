@@ -1,6 +1,6 @@
 use Rattle.std.proofs.Common.{length, drop, ◌-◌, ◌≡◌, ◌+◌, ◌≤◌, false}
 use Rattle.hy_token.specs.Lengths.{blank_from}
-use Rattle.hy_token.proofs.lengths.blank_len.Given as goal
+use Rattle.hy_token.proofs.lengths.pieces_len.Given as goal
 
 -- the blank so far and that of what is left are the whole
 abbrev pub invariant-loop-len : goal.invariant-loop-len

@@ -8,3 +8,5 @@ pub mod Txns
 pub mod Changes
 pub mod Telling
 pub mod Buffers
+pub mod PrintedRows
+pub mod Decimals

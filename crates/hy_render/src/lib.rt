@@ -10,14 +10,17 @@ ghost use Rattle.hy_render.specs.Report.{line, word, table_name, label_name, pla
 ghost use Rattle.hy_render.specs.Report.{placed_line, placed_lines, start_line, txn_text, row_or_none, versions, change_line, entry_line};
 ghost use Rattle.hy_render.specs.Report.{order_lines, table_line, table_lines, tables_text, final_text, text};
 
+mod digits;
 mod laws;
+mod rows;
 mod summary;
 
+use digits::{print_number, print_wide};
 use hy_bound::{Ending, Grouped, Replies, Reply, StoredRows};
 use hy_stamp::Label;
-use hy_value::{Change, Changes, Seq, StoredRow, Text, print, print_stored_row};
-use itoa::Buffer;
+use hy_value::{Change, Changes, Seq, StoredRow, Text};
 pub use laws::text_tells_the_outcome;
+use rows::{print_row, print_value};
 use std::alloc::AllocError;
 pub use summary::summarize;
 
@@ -141,7 +144,8 @@ fn print_last(names: &Names, tables: &[StoredRows], out: &mut Vec<u8>) -> Result
     print_line(b"end", out)
 }
 
-/// Appends bytes.
+/// Appends bytes. Where they are known it comes to a few stores, and so it stands in its callers.
+#[inline(always)]
 fn put(bytes: &[u8], out: &mut Vec<u8>) -> Result<(), AllocError>
     ensures ok { OnOk result (out.new.items ≡ out.old.items ++ bytes.now) }
     ensures begun { BeginsWith out.old.items out.new.items }
@@ -149,16 +153,8 @@ fn put(bytes: &[u8], out: &mut Vec<u8>) -> Result<(), AllocError>
     out.extend_from_slice(bytes)
 }
 
-/// Appends a number in decimal.
-fn print_number(number: u64, out: &mut Vec<u8>) -> Result<(), AllocError>
-    ensures ok { OnOk result (out.new.items ≡ out.old.items ++ decimal number) }
-    ensures begun { BeginsWith out.old.items out.new.items }
-{
-    let mut digits = Buffer::new();
-    put(digits.format(number).as_bytes(), out)
-}
-
 /// Appends a whole line.
+#[inline(always)]
 fn print_line(bytes: &[u8], out: &mut Vec<u8>) -> Result<(), AllocError>
     ensures ok { OnOk result (out.new.items ≡ out.old.items ++ line bytes.now) }
     ensures begun { BeginsWith out.old.items out.new.items }
@@ -195,6 +191,7 @@ fn end_with_number(number: u64, out: &mut Vec<u8>) -> Result<(), AllocError>
 }
 
 /// Appends a line of some words and a number of things.
+#[inline(always)]
 fn print_count(words: &[u8], count: usize, out: &mut Vec<u8>) -> Result<(), AllocError>
     ensures ok { OnOk result (out.new.items ≡ out.old.items ++ line (words.now ++ decimal count)) }
     ensures begun { BeginsWith out.old.items out.new.items }
@@ -213,12 +210,21 @@ fn name_of(names: &Texts, number: usize) -> &[u8]
     }
 }
 
+/// Appends the name of this number, or nothing where there is none.
+#[inline(never)]
+fn print_name(names: &Texts, number: usize, out: &mut Vec<u8>) -> Result<(), AllocError>
+    ensures ok { OnOk result (out.new.items ≡ out.old.items ++ slice_index_or names.now number []) }
+    ensures begun { BeginsWith out.old.items out.new.items }
+{
+    put(name_of(names, number), out)
+}
+
 /// Appends a table's name.
 fn print_table(names: &Names, table: u32, out: &mut Vec<u8>) -> Result<(), AllocError>
     ensures ok { OnOk result (out.new.items ≡ out.old.items ++ table_name names.now table) }
     ensures begun { BeginsWith out.old.items out.new.items }
 {
-    put(name_of(&names.tables, table as usize), out)
+    print_name(&names.tables, table as usize, out)
 }
 
 /// Appends the name of a transaction.
@@ -226,7 +232,7 @@ fn print_label(names: &Names, label: Label, out: &mut Vec<u8>) -> Result<(), All
     ensures ok { OnOk result (out.new.items ≡ out.old.items ++ label_name names.now label) }
     ensures begun { BeginsWith out.old.items out.new.items }
 {
-    put(name_of(&names.sessions, label.session as usize), out)?;
+    print_name(&names.sessions, label.session as usize, out)?;
     put(b".", out)?;
     print_number(u64::from(label.txn), out)
 }
@@ -247,7 +253,7 @@ fn print_row_line(row: &StoredRow, out: &mut Vec<u8>) -> Result<(), AllocError>
     ensures begun { BeginsWith out.old.items out.new.items }
 {
     put(b"row ", out)?;
-    print_stored_row(row, out)?;
+    print_row(row, out)?;
     end_line(out)
 }
 
@@ -289,6 +295,7 @@ pub fn print_reply(reply: &Reply, out: &mut Vec<u8>) -> Result<(), AllocError>
 }
 
 /// Appends a line of a word and a number of rows.
+#[inline(always)]
 fn print_changed(words: &[u8], count: u64, out: &mut Vec<u8>) -> Result<(), AllocError>
     ensures ok { OnOk result (out.new.items ≡ out.old.items ++ line (words.now ++ decimal count)) }
     ensures begun { BeginsWith out.old.items out.new.items }
@@ -311,8 +318,8 @@ fn end_with_total(total: i128, out: &mut Vec<u8>) -> Result<(), AllocError>
     ensures ok { OnOk result (out.new.items ≡ out.old.items ++ line (signed_decimal total)) }
     ensures begun { BeginsWith out.old.items out.new.items }
 {
-    let mut digits = Buffer::new();
-    print_line(digits.format(total).as_bytes(), out)
+    print_wide(total, out)?;
+    end_line(out)
 }
 
 /// Appends the line of a group.
@@ -321,7 +328,7 @@ fn print_group(group: &Grouped, out: &mut Vec<u8>) -> Result<(), AllocError>
     ensures begun { BeginsWith out.old.items out.new.items }
 {
     put(b"group ", out)?;
-    print(&group.value, out)?;
+    print_value(group.value.refer(), out)?;
     put(b"|", out)?;
     end_with_total(group.total, out)
 }
@@ -464,7 +471,7 @@ fn print_inserts(
         return Ok(());
     }
     put(b"placed ", out)?;
-    put(name_of(&names.tables, table), out)?;
+    print_name(&names.tables, table, out)?;
     end_word(out)?;
     end_with_number(count, out)
 }
@@ -511,7 +518,7 @@ fn print_version(row: Option<&StoredRow>, out: &mut Vec<u8>) -> Result<(), Alloc
     ensures begun { BeginsWith out.old.items out.new.items }
 {
     match row {
-        Some(row) => print_stored_row(row, out),
+        Some(row) => print_row(row, out),
         None => put(b"none", out),
     }
 }
@@ -598,7 +605,7 @@ fn print_size(
     ensures begun { BeginsWith out.old.items out.new.items }
 {
     put(b"table ", out)?;
-    put(name_of(&names.tables, table), out)?;
+    print_name(&names.tables, table, out)?;
     end_word(out)?;
     end_with_number(count as u64, out)
 }

@@ -366,36 +366,44 @@ impl<P: Parted> Parts<P> {
         waiting.end_sleep();
     }
 
-    /// Notes that the caller is blocked at the part k, and gives the part's turn. Who visits the part after this, and finds that
-    /// it is blocked still, may wait for another turn and misses no change that is announced.
-    pub(crate) fn begin_blocked(&self, k: usize) -> u32
+    /// Notes that the caller is blocked at the part k, and gives the count of the turn that it waits for. Who visits the part after
+    /// this, and finds that it is blocked still, may wait for another count and misses nothing that is announced.
+    pub(crate) fn begin_blocked(&self, k: usize, is_long: bool) -> u32
         requires { k < self.now.slots }
     {
-        self.waiting[k].begin_blocked();
-        self.waiting[k].turn()
+        let turn = self.waiting[k].turn(is_long);
+        turn.begin_blocked();
+        turn.count()
     }
 
-    /// Waits until the turn of the part k is another one, and gives that; it sleeps at once where that is long. It may return
-    /// earlier.
-    pub(crate) fn next_turn<T: Wait>(&self, rt: &T, k: usize, turn: u32, is_long: bool) -> u32
+    /// Waits until the turn's count at the part k is another one, and gives that; it sleeps at once where that is long. It may
+    /// return earlier.
+    pub(crate) fn next_turn<T: Wait>(&self, rt: &T, k: usize, count: u32, is_long: bool) -> u32
         requires { k < self.now.slots }
     {
-        self.waiting[k].wait(rt, turn, is_long);
-        self.waiting[k].turn()
+        let turn = self.waiting[k].turn(is_long);
+        if is_long || !turn.look(count) {
+            turn.sleep(rt, count);
+        }
+        turn.count()
     }
 
     /// Notes that the caller is not blocked at the part k any more.
-    pub(crate) fn end_blocked(&self, k: usize)
+    pub(crate) fn end_blocked(&self, k: usize, is_long: bool)
         requires { k < self.now.slots }
     {
-        self.waiting[k].end_blocked();
+        self.waiting[k].turn(is_long).end_blocked();
     }
 
-    /// Announces that the part k was changed, once it was given back: all who are blocked look again.
-    pub(crate) fn announce(&self, k: usize)
+    /// Announces that the part k was changed, once it was given back: all who are blocked look again, and those whose wait is long
+    /// where that may have ended.
+    pub(crate) fn announce(&self, k: usize, ends_long: bool)
         requires { k < self.now.slots }
     {
-        self.waiting[k].announce();
+        self.waiting[k].turn(false).announce();
+        if ends_long {
+            self.waiting[k].turn(true).announce();
+        }
     }
 
     /// The next session's seat. Who has it has to have that session.

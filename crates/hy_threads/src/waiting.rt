@@ -13,17 +13,79 @@ use std::sync::atomic::{AtomicU64, Ordering};
 /// How often a thread looks before it sleeps.
 pub(crate) const LOOKS: u32 = 16000;
 
-/// Who waits at a part: for its word, or for a change of it.
+/// What is waited for at a part by those who are blocked there: that it is announced.
+#[derive(Drop)]
+pub(crate) struct Turn {
+    // How many threads look at the count, or may sleep on it.
+    blocked: AtomicU64,
+    // How many threads may sleep on the count.
+    dozers: AtomicU64,
+    // How often it was announced while somebody was blocked. Who sleeps on it compares its lower half.
+    count: AtomicU64,
+}
+
+impl Turn {
+    /// Nobody waits.
+    fn new() -> Turn {
+        Turn {
+            blocked: AtomicU64::new(0),
+            dozers: AtomicU64::new(0),
+            count: AtomicU64::new(0),
+        }
+    }
+
+    /// The caller is blocked from now on. It reads the count after this.
+    pub(crate) fn begin_blocked(&self) {
+        self.blocked.fetch_add(1, Ordering::SeqCst);
+    }
+
+    /// The caller is not blocked any more.
+    pub(crate) fn end_blocked(&self) {
+        self.blocked.fetch_sub(1, Ordering::SeqCst);
+    }
+
+    /// The count, which who is blocked reads before it visits the part again.
+    pub(crate) fn count(&self) -> u32 {
+        (self.count.load(Ordering::SeqCst) % 0x1_0000_0000) as u32
+    }
+
+    /// Sleeps until the count is another one. It may return earlier.
+    pub(crate) fn sleep<T: Wait>(&self, rt: &T, count: u32) {
+        // Whoever changes the count reads that of the dozers after that, and a thread sleeps only while the count is as it was.
+        self.dozers.fetch_add(1, Ordering::SeqCst);
+        self.count.park(rt, count);
+        self.dozers.fetch_sub(1, Ordering::SeqCst);
+    }
+
+    /// Looks for a while whether the count is another one.
+    pub(crate) fn look(&self, count: u32) -> bool {
+        for _ in 0..LOOKS {
+            if self.count() != count {
+                return true;
+            }
+            hint::spin_loop();
+        }
+        false
+    }
+
+    /// The next count, where somebody is blocked; whoever sleeps on it is woken.
+    pub(crate) fn announce(&self) {
+        if self.blocked.load(Ordering::SeqCst) != 0 {
+            self.count.fetch_add(1, Ordering::SeqCst);
+            if self.dozers.load(Ordering::SeqCst) != 0 {
+                self.count.wake_all();
+            }
+        }
+    }
+}
+
+/// Who waits at a part: for its word, for a change of it, or for the end of what takes long.
 #[derive(Drop)]
 pub(crate) struct Waiting {
     // How many threads may sleep on the part's word.
     sleepers: AtomicU64,
-    // How many threads look at the turn, or may sleep on it.
-    blocked: AtomicU64,
-    // How many threads may sleep on the turn.
-    dozers: AtomicU64,
-    // How often the part was changed while somebody was blocked. Who sleeps on it compares its lower half.
-    turn: AtomicU64,
+    change: Turn,
+    long: Turn,
 }
 
 impl Waiting {
@@ -31,9 +93,8 @@ impl Waiting {
     pub(crate) fn new() -> Waiting {
         Waiting {
             sleepers: AtomicU64::new(0),
-            blocked: AtomicU64::new(0),
-            dozers: AtomicU64::new(0),
-            turn: AtomicU64::new(0),
+            change: Turn::new(),
+            long: Turn::new(),
         }
     }
 
@@ -52,50 +113,8 @@ impl Waiting {
         self.sleepers.load(Ordering::SeqCst) != 0
     }
 
-    /// The caller is blocked from now on. It reads the turn after this.
-    pub(crate) fn begin_blocked(&self) {
-        self.blocked.fetch_add(1, Ordering::SeqCst);
-    }
-
-    /// The caller is not blocked any more.
-    pub(crate) fn end_blocked(&self) {
-        self.blocked.fetch_sub(1, Ordering::SeqCst);
-    }
-
-    /// The turn, which who is blocked reads before it visits the part again.
-    pub(crate) fn turn(&self) -> u32 {
-        (self.turn.load(Ordering::SeqCst) % 0x1_0000_0000) as u32
-    }
-
-    /// Waits until the turn is another one, and sleeps at once where that is long. It may return earlier.
-    pub(crate) fn wait<T: Wait>(&self, rt: &T, turn: u32, is_long: bool) {
-        if !is_long && self.look(turn) {
-            return;
-        }
-        // Whoever changes the turn reads the count after that, and a thread sleeps only while the turn is as it was.
-        self.dozers.fetch_add(1, Ordering::SeqCst);
-        self.turn.park(rt, turn);
-        self.dozers.fetch_sub(1, Ordering::SeqCst);
-    }
-
-    /// Looks for a while whether the turn is another one.
-    fn look(&self, turn: u32) -> bool {
-        for _ in 0..LOOKS {
-            if self.turn() != turn {
-                return true;
-            }
-            hint::spin_loop();
-        }
-        false
-    }
-
-    /// The next turn, where somebody is blocked; whoever sleeps on it is woken.
-    pub(crate) fn announce(&self) {
-        if self.blocked.load(Ordering::SeqCst) != 0 {
-            self.turn.fetch_add(1, Ordering::SeqCst);
-            if self.dozers.load(Ordering::SeqCst) != 0 {
-                self.turn.wake_all();
-            }
-        }
+    /// What is waited for by those whose wait is long, or by the others.
+    pub(crate) fn turn(&self, is_long: bool) -> &Turn {
+        if is_long { &self.long } else { &self.change }
     }
 }

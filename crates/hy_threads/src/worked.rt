@@ -61,6 +61,9 @@ pub trait Worked: Parted {
     /// processor to others.
     fn is_long_wait(session: &Self::Session) -> bool;
 
+    /// Whether a session's next visit may end such waits, as that does which tells of a sync: no other visit wakes who waits so.
+    fn ends_long_waits(session: &Self::Session) -> bool;
+
     /// The next visit. None at the end.
     fn need(session: &Self::Session) -> Option<Point>
         ensures { result ≡ point_of session.now };

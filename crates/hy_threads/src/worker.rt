@@ -19,8 +19,15 @@ pub struct Worker<P: Worked> {
     seat: Seat<P>,
     session: P::Session,
     starved: bool,
-    // Where its session is blocked, the turn that it waits behind at the part that the session needs.
-    turn: Option<u32>,
+    // What it waits behind, where its session is blocked at the part that the session needs.
+    blocked: Option<Blocked>,
+}
+
+// What a worker waits behind: the count of a turn, of the long waits or of the others.
+#[derive(Clone, Copy)]
+struct Blocked {
+    is_long: bool,
+    count: u32,
 }
 
 impl<P: Worked> Model for Worker<P> {
@@ -45,7 +52,7 @@ impl<P: Worked> Worker<P> {
             seat,
             session,
             starved: false,
-            turn: None,
+            blocked: None,
         }
     }
 
@@ -73,7 +80,7 @@ impl<P: Worked> Worker<P> {
             seat,
             session,
             starved: _,
-            turn: _,
+            blocked: _,
         } = self;
         (seat, session)
     }
@@ -95,6 +102,7 @@ impl<P: Worked> Worker<P> {
             return false;
         };
         gate.pass(&point);
+        let ends_long = P::ends_long_waits(&self.session);
         let mut part = parts.take(rt, &mut self.seat, point.part);
         gate.pass(&Point {
             moment: Moment::Held,
@@ -104,7 +112,7 @@ impl<P: Worked> Worker<P> {
         parts.give(&mut self.seat, &self.session, point.part, part);
         let is_blocked = matches!(visited, Ok(Visited::Blocked));
         if !is_blocked {
-            self.tell_change(parts, point.part);
+            self.tell_change(parts, point.part, ends_long);
         }
         gate.pass(&Point {
             moment: Moment::After,
@@ -119,15 +127,15 @@ impl<P: Worked> Worker<P> {
     }
 
     // The session is blocked no longer, and may have changed this part: the others who are blocked there look again.
-    fn tell_change(&mut self, parts: &Parts<P>, part: usize)
+    fn tell_change(&mut self, parts: &Parts<P>, part: usize, ends_long: bool)
         requires { part < parts.now.slots }
         ensures { self.new ≡ self.old }
     {
-        if self.turn.is_some() {
-            self.turn = None;
-            parts.end_blocked(part);
+        if let Some(blocked) = self.blocked {
+            self.blocked = None;
+            parts.end_blocked(part, blocked.is_long);
         }
-        parts.announce(part);
+        parts.announce(part, ends_long);
     }
 
     // The session is blocked at this part. It visits the part once more after its worker was noted as blocked, and before the
@@ -136,11 +144,12 @@ impl<P: Worked> Worker<P> {
         requires { part < parts.now.slots }
         ensures { self.new ≡ self.old }
     {
-        let turn = match self.turn {
-            Some(turn) => parts.next_turn(rt, part, turn, P::is_long_wait(&self.session)),
-            None => parts.begin_blocked(part),
+        let is_long = P::is_long_wait(&self.session);
+        let count = match self.blocked {
+            Some(blocked) => parts.next_turn(rt, part, blocked.count, is_long),
+            None => parts.begin_blocked(part, is_long),
         };
-        self.turn = Some(turn);
+        self.blocked = Some(Blocked { is_long, count });
     }
 }
 

@@ -96,6 +96,10 @@ impl Worked for Counting {
         false
     }
 
+    fn ends_long_waits(_session: &Adder) -> bool {
+        false
+    }
+
     fn need(session: &Adder) -> Option<Point> {
         next_point(session)
     }

@@ -119,6 +119,10 @@ impl<K: Case, D: Disk + Send + Sync> Worked for ShownLogged<K, D> {
         session.awaits()
     }
 
+    fn ends_long_waits(session: &LoggedSession) -> bool {
+        matches!(session.stage, Stage::Reporting(_))
+    }
+
     fn need(session: &LoggedSession) -> Option<Point> {
         next_point(session)
     }

@@ -130,6 +130,10 @@ impl<K: Case> Worked for Shown<K> {
         false
     }
 
+    fn ends_long_waits(_session: &Session) -> bool {
+        false
+    }
+
     fn need(session: &Session) -> Option<Point> {
         next_point(session)
     }

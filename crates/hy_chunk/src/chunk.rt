@@ -742,8 +742,8 @@ impl Chunk {
         Ok(pos)
     }
 
-    /// Whether no used position has this key, as the index tells: nobody sees a row with it. It is false where the column
-    /// isn't the key.
+    /// Whether no used position has this key, as the index tells: nobody sees a row with it. No clause says that it is told
+    /// wherever it is so.
     pub fn lacks_key(&self, column: u32, value: ValueRef<'_>) -> bool
         ensures { result ≡ true → AreFound column (referred value.entry) self.now.shown.places [] }
     {

@@ -23,7 +23,8 @@ pub struct AskedKey<'a> {
     pub value: ValueRef<'a>,
 }
 
-/// The key that a condition asks for, if it does, in a table whose key is this column.
+/// The key that a condition asks for, in a table whose key is this column, where that is seen. No clause says that it is seen
+/// wherever it is so.
 pub fn asked_key(pred: &Pred, key: Option<u32>) -> Option<AskedKey<'_>>
     ensures { IfSome result (λ asked. Asks pred.now asked.column (referred asked.value)) }
 {

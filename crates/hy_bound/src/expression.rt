@@ -4,7 +4,7 @@ ghost use Rattle.std.specs.Prelude.{◌≡◌, Ok, IfOk, slice_set};
 ghost use Rattle.hy_bound.specs.Predicate.{column_of};
 ghost use Rattle.hy_bound.specs.Expression.{Literal, Column, Add, Sub, Mul};
 ghost use Rattle.hy_bound.specs.Assignment.{value_of, exact, number_of, number_in, combined_numbers, assigned};
-ghost use Rattle.hy_bound.specs.ExprView.{rooted};
+ghost use Rattle.hy_bound.specs.ExprView.{leaf_expression, operation, rooted};
 ghost use Rattle.hy_bound.specs.ValueRefs.{value_referred};
 ghost use Rattle.hy_value.specs.declared.Value.{Value};
 
@@ -25,13 +25,33 @@ pub struct SetExpr {
 #[cycle(expressions)]
 #[derive(Drop)]
 enum ExprNode {
-    Null,
-    Int(i64),
+    Leaf(Leaf),
     Text(Box<Text>),
+    Pair(Operator, Leaf, Leaf),
+    Binary(Operator, Box<SetExpr>, Box<SetExpr>),
+}
+
+/// A value or a column that is kept without a block. Nearly every operator stands between two of them, and
+/// so they stand in its node.
+#[derive(Clone, Copy)]
+pub enum Leaf {
+    /// NULL.
+    Null,
+    /// A number.
+    Int(i64),
+    /// A column.
     Column(u32),
-    Add(Box<SetExpr>, Box<SetExpr>),
-    Sub(Box<SetExpr>, Box<SetExpr>),
-    Mul(Box<SetExpr>, Box<SetExpr>),
+}
+
+/// An operator between two expressions.
+#[derive(Clone, Copy)]
+pub enum Operator {
+    /// A sum.
+    Add,
+    /// A difference.
+    Sub,
+    /// A product.
+    Mul,
 }
 
 impl Model for SetExpr {
@@ -58,8 +78,8 @@ impl SetExpr {
         ensures { IfOk result (λ e. e ≡ Literal value) }
     {
         let node = match value {
-            Value::Null => ExprNode::Null,
-            Value::Int(number) => ExprNode::Int(number),
+            Value::Null => ExprNode::Leaf(Leaf::Null),
+            Value::Int(number) => ExprNode::Leaf(Leaf::Int(number)),
             Value::Text(text) => ExprNode::Text(Box::new(alloc, text)?),
         };
         Ok(SetExpr { node })
@@ -69,17 +89,31 @@ impl SetExpr {
     pub fn number(number: i64) -> SetExpr
         ensures { result ≡ Literal (Value.Int number) }
     {
-        SetExpr {
-            node: ExprNode::Int(number),
-        }
+        SetExpr::leaf(Leaf::Int(number))
     }
 
     /// A column.
     pub fn column(column: u32) -> SetExpr
         ensures { result ≡ Column column }
     {
+        SetExpr::leaf(Leaf::Column(column))
+    }
+
+    /// A value or a column.
+    pub fn leaf(leaf: Leaf) -> SetExpr
+        ensures { result ≡ leaf_expression leaf }
+    {
         SetExpr {
-            node: ExprNode::Column(column),
+            node: ExprNode::Leaf(leaf),
+        }
+    }
+
+    /// An operator between two values or columns.
+    pub fn pair(op: Operator, left: Leaf, right: Leaf) -> SetExpr
+        ensures { result ≡ operation op (leaf_expression left) (leaf_expression right) }
+    {
+        SetExpr {
+            node: ExprNode::Pair(op, left, right),
         }
     }
 
@@ -87,32 +121,39 @@ impl SetExpr {
     pub fn add(alloc: Global, left: SetExpr, right: SetExpr) -> Result<SetExpr, AllocError>
         ensures { IfOk result (λ e. e ≡ Add left right) }
     {
-        let left = Box::new(alloc, left)?;
-        let right = Box::new(alloc, right)?;
-        Ok(SetExpr {
-            node: ExprNode::Add(left, right),
-        })
+        SetExpr::combined(alloc, Operator::Add, left, right)
     }
 
     /// A difference.
     pub fn sub(alloc: Global, left: SetExpr, right: SetExpr) -> Result<SetExpr, AllocError>
         ensures { IfOk result (λ e. e ≡ Sub left right) }
     {
-        let left = Box::new(alloc, left)?;
-        let right = Box::new(alloc, right)?;
-        Ok(SetExpr {
-            node: ExprNode::Sub(left, right),
-        })
+        SetExpr::combined(alloc, Operator::Sub, left, right)
     }
 
     /// A product.
     pub fn mul(alloc: Global, left: SetExpr, right: SetExpr) -> Result<SetExpr, AllocError>
         ensures { IfOk result (λ e. e ≡ Mul left right) }
     {
+        SetExpr::combined(alloc, Operator::Mul, left, right)
+    }
+
+    /// An operator between two expressions.
+    pub fn combined(
+        alloc: Global,
+        op: Operator,
+        left: SetExpr,
+        right: SetExpr,
+    ) -> Result<SetExpr, AllocError>
+        ensures { IfOk result (λ e. e ≡ operation op left right) }
+    {
+        if let (ExprNode::Leaf(left), ExprNode::Leaf(right)) = (&left.node, &right.node) {
+            return Ok(SetExpr::pair(op, *left, *right));
+        }
         let left = Box::new(alloc, left)?;
         let right = Box::new(alloc, right)?;
         Ok(SetExpr {
-            node: ExprNode::Mul(left, right),
+            node: ExprNode::Binary(op, left, right),
         })
     }
 
@@ -121,13 +162,10 @@ impl SetExpr {
         ensures { rooted result ≡ self.now }
     {
         match &self.node {
-            ExprNode::Null => ExprRoot::Null,
-            ExprNode::Int(number) => ExprRoot::Int(*number),
+            ExprNode::Leaf(leaf) => ExprRoot::Leaf(*leaf),
             ExprNode::Text(text) => ExprRoot::Text(text),
-            ExprNode::Column(column) => ExprRoot::Column(*column),
-            ExprNode::Add(left, right) => ExprRoot::Add(left, right),
-            ExprNode::Sub(left, right) => ExprRoot::Sub(left, right),
-            ExprNode::Mul(left, right) => ExprRoot::Mul(left, right),
+            ExprNode::Pair(op, left, right) => ExprRoot::Pair(*op, *left, *right),
+            ExprNode::Binary(op, left, right) => ExprRoot::Binary(*op, left, right),
         }
     }
 }
@@ -135,28 +173,14 @@ impl SetExpr {
 /// What an expression is at its root, with the expressions that it is made of.
 #[derive(Clone, Copy)]
 pub enum ExprRoot<'a> {
-    /// NULL.
-    Null,
-    /// A number.
-    Int(i64),
+    /// NULL, a number or a column.
+    Leaf(Leaf),
     /// A text.
     Text(&'a Text),
-    /// A column.
-    Column(u32),
-    /// A sum.
-    Add(&'a SetExpr, &'a SetExpr),
-    /// A difference.
-    Sub(&'a SetExpr, &'a SetExpr),
-    /// A product.
-    Mul(&'a SetExpr, &'a SetExpr),
-}
-
-/// An operator between two expressions.
-#[derive(Clone, Copy)]
-enum Operator {
-    Add,
-    Sub,
-    Mul,
+    /// An operator between two values or columns.
+    Pair(Operator, Leaf, Leaf),
+    /// An operator between two expressions.
+    Binary(Operator, &'a SetExpr, &'a SetExpr),
 }
 
 /// What a right side of SET is in a row, unless a number leaves 64 bits. What reads a NULL is NULL.
@@ -172,7 +196,7 @@ pub fn value_ref<'a>(expression: &'a SetExpr, row: &'a Row) -> Result<ValueRef<'
 {
     match &expression.node {
         ExprNode::Text(text) => Ok(ValueRef::Text(text)),
-        ExprNode::Column(column) => Ok(column_ref(row, *column)),
+        ExprNode::Leaf(Leaf::Column(column)) => Ok(column_ref(row, *column)),
         _ => match number(expression, row)? {
             Some(number) => Ok(ValueRef::Int(number)),
             None => Ok(ValueRef::Null),
@@ -182,16 +206,30 @@ pub fn value_ref<'a>(expression: &'a SetExpr, row: &'a Row) -> Result<ValueRef<'
 
 /// The number that a right side of SET is in a row, none where it is a text or NULL. It takes little room
 /// for each operator, so that long chains of them are walked.
+#[tactic(auto, using(crate::proofs::Operations::number_of_operation))]
 fn number(expression: &SetExpr, row: &Row) -> Result<Option<i64>, Range>
     ensures { result ≡ number_in (value_of expression.now row.now) }
 {
     match &expression.node {
-        ExprNode::Null | ExprNode::Text(_) => Ok(None),
-        ExprNode::Int(number) => Ok(Some(*number)),
-        ExprNode::Column(column) => Ok(number_at(row, *column)),
-        ExprNode::Add(left, right) => combine(Operator::Add, number(left, row), number(right, row)),
-        ExprNode::Sub(left, right) => combine(Operator::Sub, number(left, row), number(right, row)),
-        ExprNode::Mul(left, right) => combine(Operator::Mul, number(left, row), number(right, row)),
+        ExprNode::Leaf(leaf) => leaf_number(*leaf, row),
+        ExprNode::Text(_) => Ok(None),
+        ExprNode::Pair(op, left, right) => combine(
+            *op,
+            leaf_number(*left, row),
+            leaf_number(*right, row),
+        ),
+        ExprNode::Binary(op, left, right) => combine(*op, number(left, row), number(right, row)),
+    }
+}
+
+/// The number that a value or a column is in a row, if it is one.
+fn leaf_number(leaf: Leaf, row: &Row) -> Result<Option<i64>, Range>
+    ensures { result ≡ number_in (value_of (leaf_expression leaf) row.now) }
+{
+    match leaf {
+        Leaf::Null => Ok(None),
+        Leaf::Int(number) => Ok(Some(number)),
+        Leaf::Column(column) => Ok(number_at(row, column)),
     }
 }
 

@@ -17,7 +17,7 @@ mod savepoints;
 mod schedule;
 
 pub use conjuncts::conditions;
-pub use expression::{ExprRoot, SetExpr, set_row, value, value_ref};
+pub use expression::{ExprRoot, Leaf, Operator, SetExpr, set_row, value, value_ref};
 use hy_stamp::Label;
 use hy_value::{ColMask, Row, Seq, StoredRow, Value};
 pub use laws::{only_named_columns_matter, projections_are_spread};

@@ -8,24 +8,7 @@ use hy_bound::{Assign, ExprRoot, SetExpr, Sets};
 use hy_value::{Seq, Text, Value};
 use std::alloc::{AllocError, Global};
 
-/// NULL. This and the other literals stand by themselves: a value takes much room, and a copy of a long chain of operators
-/// is to take little for each.
-#[inline(never)]
-fn null_expression(alloc: Global) -> Result<SetExpr, AllocError>
-    ensures { IfOk result (λ copy. copy ≡ Literal value.Null) }
-{
-    SetExpr::literal(alloc, Value::Null)
-}
-
-/// A number.
-#[inline(never)]
-fn number_expression(alloc: Global, number: i64) -> Result<SetExpr, AllocError>
-    ensures { IfOk result (λ copy. copy ≡ Literal (value.Int number)) }
-{
-    SetExpr::literal(alloc, Value::Int(number))
-}
-
-/// A text.
+/// A text. It stands by itself: a value takes much room, and a copy of a long chain of operators is to take little for each.
 #[inline(never)]
 fn text_expression(alloc: Global, text: &Text) -> Result<SetExpr, AllocError>
     ensures { IfOk result (λ copy. copy ≡ Literal (value.Text text.now)) }
@@ -38,24 +21,13 @@ fn copy_expression(alloc: Global, expression: &SetExpr) -> Result<SetExpr, Alloc
     ensures { IfOk result (λ copy. copy ≡ expression.now) }
 {
     match expression.root() {
-        ExprRoot::Null => null_expression(alloc),
-        ExprRoot::Int(value) => number_expression(alloc, value),
+        ExprRoot::Leaf(leaf) => Ok(SetExpr::leaf(leaf)),
         ExprRoot::Text(value) => text_expression(alloc, value),
-        ExprRoot::Column(column) => Ok(SetExpr::column(column)),
-        ExprRoot::Add(left, right) => {
+        ExprRoot::Pair(op, left, right) => Ok(SetExpr::pair(op, left, right)),
+        ExprRoot::Binary(op, left, right) => {
             let left = copy_expression(alloc, left)?;
             let right = copy_expression(alloc, right)?;
-            SetExpr::add(alloc, left, right)
-        }
-        ExprRoot::Sub(left, right) => {
-            let left = copy_expression(alloc, left)?;
-            let right = copy_expression(alloc, right)?;
-            SetExpr::sub(alloc, left, right)
-        }
-        ExprRoot::Mul(left, right) => {
-            let left = copy_expression(alloc, left)?;
-            let right = copy_expression(alloc, right)?;
-            SetExpr::mul(alloc, left, right)
+            SetExpr::combined(alloc, op, left, right)
         }
     }
 }

@@ -100,7 +100,7 @@ impl SetExpr {
     }
 
     /// A value or a column.
-    pub fn leaf(leaf: Leaf) -> SetExpr
+    fn leaf(leaf: Leaf) -> SetExpr
         ensures { result ≡ leaf_expression leaf }
     {
         SetExpr {
@@ -109,7 +109,7 @@ impl SetExpr {
     }
 
     /// An operator between two values or columns.
-    pub fn pair(op: Operator, left: Leaf, right: Leaf) -> SetExpr
+    fn pair(op: Operator, left: Leaf, right: Leaf) -> SetExpr
         ensures { result ≡ operation op (leaf_expression left) (leaf_expression right) }
     {
         SetExpr {
@@ -139,7 +139,7 @@ impl SetExpr {
     }
 
     /// An operator between two expressions.
-    pub fn combined(
+    fn combined(
         alloc: Global,
         op: Operator,
         left: SetExpr,

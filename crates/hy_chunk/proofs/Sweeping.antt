@@ -24,8 +24,8 @@ use Rattle.std.specs.List.{AllByRecursion}
 use Rattle.std.proofs.lemmas.Bool.{cases_eq, cases_lt}
 use Rattle.std.proofs.Common.{inl, inr}
 use Rattle.hy_value.specs.declared.Kind.{Kind}
-use Rattle.hy_bound.specs.declared.WriteKind.{WriteKind}
-use Rattle.hy_bound.specs.declared.WriteKind.TheVariants.{Set, Delete}
+use Rattle.hy_chunk.specs.declared.writes.RowWrite.{RowWrite}
+use Rattle.hy_chunk.specs.declared.writes.RowWrite.TheVariants.{Set, Delete}
 use Rattle.hy_chunk.specs.Writes.{FitsSets, FitsWrite, SetColumns, judged_at, refusal_in, WrittenAs, notes_with, IsDone}
 
 not_here : (v : Result (Option Cell) Refusal) (rest : Result (List (Option Cell)) Refusal) → None ≡ refusal_in v → refusal_in (and_new v rest) ≡ refusal_in rest
@@ -319,6 +319,6 @@ columns_of_sets : (kinds : List Kind) (key : Option ℕ) (sets : List Assign) (w
 columns_of_sets kinds key [] width e f = tt
 columns_of_sets kinds key (assign ∷ sets) width e f = (subst (λ (n : ℕ). assign.column < n) (sym e) f.0.column, columns_of_sets kinds key sets width e f.1)
 
-pub sets_within : (kinds : List Kind) (key : Option ℕ) (kind : WriteKind) (width : ℕ) → width ≡ length kinds → FitsWrite kinds key kind → SetColumns width kind
-sets_within kinds key (Set sets) width e f = columns_of_sets kinds key sets width e f
+pub sets_within : (kinds : List Kind) (key : Option ℕ) (kind : RowWrite) (width : ℕ) → width ≡ length kinds → FitsWrite kinds key kind → SetColumns width kind
+sets_within kinds key (Set sets) width e f = columns_of_sets kinds key sets.now width e f
 sets_within kinds key Delete width e f = tt

@@ -7,8 +7,8 @@ use Rattle.hy_value.specs.declared.Kind.TheVariants.{Int}
 use Rattle.hy_stamp.specs.declared.Viewer.{Viewer}
 use Rattle.hy_bound.specs.declared.Assign.{Assign}
 use Rattle.hy_bound.specs.declared.Range.{Range}
-use Rattle.hy_bound.specs.declared.WriteKind.{WriteKind}
-use Rattle.hy_bound.specs.declared.WriteKind.TheVariants.{Set, Delete}
+use Rattle.hy_chunk.specs.declared.writes.RowWrite.{RowWrite}
+use Rattle.hy_chunk.specs.declared.writes.RowWrite.TheVariants.{Set, Delete}
 use Rattle.hy_bound.specs.Assignment.{value_of}
 use Rattle.hy_value.specs.declared.change.Change.{Change}
 use Rattle.hy_column.specs.Cells.{FitsKind}
@@ -23,8 +23,8 @@ use Rattle.hy_undo.specs.Sweeps.{verdict, AllWritten}
 use Rattle.hy_chunk.specs.Sound.{FitsRow}
 
 -- the assignments of an UPDATE
-abbrev pub sets_of : WriteKind → Option (List Assign)
-sets_of (Set sets) = Some sets
+abbrev pub sets_of : RowWrite → Option (List Assign)
+sets_of (Set sets) = Some sets.now
 sets_of Delete = None
 
 -- an assignment sets a column other than the key, to a value of the column's type, or NULL, for each row that fits
@@ -37,13 +37,13 @@ pub record FitsSet (kinds : List Kind) (key : Option ℕ) (assign : Assign) : Ty
 abbrev pub FitsSets : List Kind → Option ℕ → List Assign → Type 0
 FitsSets kinds key sets = AllByRecursion (FitsSet kinds key) sets
 
-abbrev pub FitsWrite : List Kind → Option ℕ → WriteKind → Type 0
-FitsWrite kinds key (Set sets) = FitsSets kinds key sets
+abbrev pub FitsWrite : List Kind → Option ℕ → RowWrite → Type 0
+FitsWrite kinds key (Set sets) = FitsSets kinds key sets.now
 FitsWrite kinds key Delete = Unit {0}
 
 -- each assignment sets one of so many columns
-abbrev pub SetColumns : ℕ → WriteKind → Type 0
-SetColumns width (Set sets) = AllByRecursion (λ assign. assign.column < width) sets
+abbrev pub SetColumns : ℕ → RowWrite → Type 0
+SetColumns width (Set sets) = AllByRecursion (λ assign. assign.column < width) sets.now
 SetColumns width Delete = Unit {0}
 
 -- a row with a value in a column, where it is in range

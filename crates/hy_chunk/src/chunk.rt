@@ -40,8 +40,8 @@ use crate::gathering::{
 use crate::masks::{Scan, admitted, is_passed, may_select};
 use crate::positions::{Part, Positions};
 use crate::settled::Settled;
-use crate::writes::{is_selected, make_next, note, put_cell, refusal_at, row_of};
-use hy_bound::{Pred, WriteKind};
+use crate::writes::{RowWrite, is_selected, make_next, note, put_cell, refusal_at, row_of};
+use hy_bound::Pred;
 use hy_kernel::Mask;
 use hy_notes::Changes;
 use hy_plan::Gathered;
@@ -96,7 +96,7 @@ pub struct Sweep<'a> {
     /// The condition.
     pub pred: &'a Pred,
     /// What becomes of a row that it selects.
-    pub kind: &'a WriteKind,
+    pub kind: RowWrite<'a>,
     /// The positions, ascending.
     pub places: &'a [u32],
 }
@@ -796,7 +796,7 @@ impl Chunk {
     fn refusal(&mut self, sweep: &Sweep) -> Option<Refusal>
         requires { AreCandidates sweep.now.pred.now self.old.shown.key self.old.shown.places sweep.now.places.now }
         ensures refusal { result ≡ refusal_in
-            (swept (sets_of sweep.now.kind.now) sweep.now.pred.now sweep.now.viewer.now self.old.shown.first self.old.shown.places) }
+            (swept (sets_of sweep.now.kind) sweep.now.pred.now sweep.now.viewer.now self.old.shown.first self.old.shown.places) }
         ensures all { self.new ≡ self.old }
     {
         self.positions.keys_stay();
@@ -817,18 +817,18 @@ impl Chunk {
     fn write_all(&mut self, sweep: &Sweep, label: Label, changes: &mut Changes) -> u32
         requires candidates { AreCandidates sweep.now.pred.now self.old.shown.key self.old.shown.places sweep.now.places.now }
         requires ok { refusal_in
-            (swept (sets_of sweep.now.kind.now) sweep.now.pred.now sweep.now.viewer.now self.old.shown.first self.old.shown.places) ≡ None }
+            (swept (sets_of sweep.now.kind) sweep.now.pred.now sweep.now.viewer.now self.old.shown.first self.old.shown.places) ≡ None }
         requires room { length sweep.now.places.now ≤ self.old.room }
         requires notes { length sweep.now.places.now ≤ changes.old.room }
         requires wide { length self.old.kinds ≤ changes.old.width }
         requires long { most_texts self.old.kinds ≤ changes.old.texts }
-        requires fits { FitsWrite self.old.kinds self.old.shown.key sweep.now.kind.now }
+        requires fits { FitsWrite self.old.kinds self.old.shown.key sweep.now.kind }
         ensures all { self.new ≡ with_places self.old self.new.shown.places self.new.room }
         ensures done { IsDone sweep.now.viewer.now label self.old.shown.table self.old.shown.first
-            (swept (sets_of sweep.now.kind.now) sweep.now.pred.now sweep.now.viewer.now self.old.shown.first self.old.shown.places)
+            (swept (sets_of sweep.now.kind) sweep.now.pred.now sweep.now.viewer.now self.old.shown.first self.old.shown.places)
             self.old.shown.places self.new.shown.places changes.old.notes changes.new.notes result }
         ensures levels { changes.new.levels ≡ map (notes_with self.old.shown.table self.old.shown.first sweep.now.viewer.now
-            (swept (sets_of sweep.now.kind.now) sweep.now.pred.now sweep.now.viewer.now self.old.shown.first self.old.shown.places)
+            (swept (sets_of sweep.now.kind) sweep.now.pred.now sweep.now.viewer.now self.old.shown.first self.old.shown.places)
             self.old.shown.places) changes.old.levels }
         ensures room { self.old.room ≤ self.new.room + length sweep.now.places.now }
         ensures notes_room { changes.old.room ≤ changes.new.room + length sweep.now.places.now }
@@ -869,16 +869,16 @@ impl Chunk {
         requires notes { length sweep.now.places.now ≤ changes.old.room }
         requires wide { length self.old.kinds ≤ changes.old.width }
         requires long { most_texts self.old.kinds ≤ changes.old.texts }
-        requires fits { FitsWrite self.old.kinds self.old.shown.key sweep.now.kind.now }
+        requires fits { FitsWrite self.old.kinds self.old.shown.key sweep.now.kind }
         ensures all { self.new ≡ with_places self.old self.new.shown.places self.new.room }
         ensures done { IfOk result (λ count. IsDone sweep.now.viewer.now label self.old.shown.table self.old.shown.first
-            (swept (sets_of sweep.now.kind.now) sweep.now.pred.now sweep.now.viewer.now self.old.shown.first self.old.shown.places)
+            (swept (sets_of sweep.now.kind) sweep.now.pred.now sweep.now.viewer.now self.old.shown.first self.old.shown.places)
             self.old.shown.places self.new.shown.places changes.old.notes changes.new.notes count) }
         ensures levels { OnOk result (changes.new.levels ≡ map (notes_with self.old.shown.table self.old.shown.first sweep.now.viewer.now
-            (swept (sets_of sweep.now.kind.now) sweep.now.pred.now sweep.now.viewer.now self.old.shown.first self.old.shown.places)
+            (swept (sets_of sweep.now.kind) sweep.now.pred.now sweep.now.viewer.now self.old.shown.first self.old.shown.places)
             self.old.shown.places) changes.old.levels) }
         ensures refused { IfErr result (λ refusal. Some refusal ≡ refusal_in
-            (swept (sets_of sweep.now.kind.now) sweep.now.pred.now sweep.now.viewer.now self.old.shown.first self.old.shown.places)) }
+            (swept (sets_of sweep.now.kind) sweep.now.pred.now sweep.now.viewer.now self.old.shown.first self.old.shown.places)) }
         ensures kept { OnErr result ((self.new ≡ self.old) × (changes.new ≡ changes.old)) }
         ensures room { self.old.room ≤ self.new.room + length sweep.now.places.now }
         ensures notes_room { changes.old.room ≤ changes.new.room + length sweep.now.places.now }

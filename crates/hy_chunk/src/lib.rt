@@ -15,3 +15,4 @@ mod writes;
 
 pub use chunk::{Chunk, NoRoom, Sweep};
 pub use gathering::{Keys, Sought, conditions_gather_rows, value_asked};
+pub use writes::RowWrite;

@@ -16,11 +16,20 @@ ghost use Rattle.hy_value.specs.Cells.{texts_in};
 ghost use Rattle.hy_value.specs.declared.Kind.{Kind};
 ghost use Rattle.hy_value.specs.declared.Value.{Value};
 
-use hy_bound::{Assign, Pred, Range, WriteKind, truth, value_ref};
+use hy_bound::{Assign, Pred, Range, Sets, truth, value_ref};
 use hy_notes::Changes;
 use hy_stamp::Label;
 use hy_undo::{Refusal, Version};
 use hy_value::{Row, StoredRow, ValueRef};
+
+/// What an UPDATE or a DELETE makes of a row that it selects, by the statement's own assignments.
+#[derive(Clone, Copy)]
+pub enum RowWrite<'a> {
+    /// These set columns of it.
+    Set(&'a Sets),
+    /// It goes.
+    Delete,
+}
 
 /// Whether a value of SET is out of range for a row.
 fn is_out_of_range(set: &Assign, row: &Row) -> bool
@@ -42,18 +51,18 @@ fn is_in_range(sets: &[Assign], row: &Row) -> bool
 }
 
 /// Why a row that is selected is not written, if a value for it is out of range.
-fn range_refusal(kind: &WriteKind, row: &Row, pos: u32) -> Option<Refusal>
-    ensures { result ≡ refusal_in (judged pos None (new_cell (sets_of kind.now) row.now)) }
+fn range_refusal(kind: RowWrite, row: &Row, pos: u32) -> Option<Refusal>
+    ensures { result ≡ refusal_in (judged pos None (new_cell (sets_of kind.entry) row.now)) }
 {
     match kind {
-        WriteKind::Set(sets) => {
+        RowWrite::Set(sets) => {
             if is_in_range(sets.as_slice(), row) {
                 None
             } else {
                 Some(Refusal::Range { pos })
             }
         }
-        WriteKind::Delete => None,
+        RowWrite::Delete => None,
     }
 }
 
@@ -68,11 +77,11 @@ pub fn is_selected(version: &Version, pred: &Pred) -> bool
 pub fn refusal_at(
     version: &Version,
     pred: &Pred,
-    kind: &WriteKind,
+    kind: RowWrite,
     rival: Option<Label>,
     pos: u32,
 ) -> Option<Refusal>
-    ensures { result ≡ refusal_in (verdict (sets_of kind.now) pred.now pos rival (cell_of version.now)) }
+    ensures { result ≡ refusal_in (verdict (sets_of kind.entry) pred.now pos rival (cell_of version.now)) }
 {
     if !is_selected(version, pred) {
         return None;
@@ -116,22 +125,22 @@ fn copy_over(row: &Row, next: &mut Row)
 }
 
 /// Makes a version, of as many values, what an UPDATE or a DELETE makes of a row, where its values are in range.
-pub fn make_next(kind: &WriteKind, row: &Row, next: &mut Version)
+pub fn make_next(kind: RowWrite, row: &Row, next: &mut Version)
     requires width { length next.old.row ≡ length row.now }
-    requires within { SetColumns (length row.now) kind.now }
-    requires in_range { is_some (new_cell (sets_of kind.now) row.now) ≡ true }
-    ensures cell { new_cell (sets_of kind.now) row.now ≡ Some (cell_of next.new) }
-    ensures fits { (kinds : List Kind) (key : Option ℕ) → FitsRow kinds row.now → FitsWrite kinds key kind.now → FitsRow kinds next.new.row }
-    ensures same_key { (kinds : List Kind) (key : Option ℕ) → FitsWrite kinds key kind.now → SameKey key next.new.row row.now }
+    requires within { SetColumns (length row.now) kind }
+    requires in_range { is_some (new_cell (sets_of kind) row.now) ≡ true }
+    ensures cell { new_cell (sets_of kind.entry) row.now ≡ Some (cell_of next.new) }
+    ensures fits { (kinds : List Kind) (key : Option ℕ) → FitsRow kinds row.now → FitsWrite kinds key kind.entry → FitsRow kinds next.new.row }
+    ensures same_key { (kinds : List Kind) (key : Option ℕ) → FitsWrite kinds key kind.entry → SameKey key next.new.row row.now }
     ensures size { length next.new.row ≡ length row.now }
 {
     copy_over(row, &mut next.row);
     match kind {
-        WriteKind::Set(sets) => {
+        RowWrite::Set(sets) => {
             set_columns(sets.as_slice(), row, &mut next.row);
             next.live = true;
         }
-        WriteKind::Delete => {
+        RowWrite::Delete => {
             next.live = false;
         }
     }

@@ -4,18 +4,17 @@ use Rattle.hy_value.specs.declared.Value.{Value}
 use Rattle.hy_value.specs.declared.Value.TheVariants.{Int}
 use Rattle.hy_value.specs.declared.Kind.TheVariants as kind
 use Rattle.hy_bound.specs.declared.Assign.{Assign}
-use Rattle.hy_bound.specs.declared.WriteKind.TheVariants.{Set}
 use Rattle.hy_bound.specs.Expression.{Expression, Literal}
 use Rattle.hy_bound.specs.Projection.{projected}
 use Rattle.hy_column.specs.Cells.{FitsKind}
 use Rattle.hy_chunk.specs.Sound.{FitsRow}
-use Rattle.hy_chunk.specs.Writes.{FitsSets, FitsWrite}
+use Rattle.hy_chunk.specs.Writes.{FitsSets}
 use Rattle.hy_engine_tests.specs.Ready.{two_numbers}
 
 pub pair_fits : (first second : ℤ) (row : List Value) → row ≡ Int first ∷ Int second ∷ [] → FitsRow two_numbers row
 pair_fits first second row e = subst (FitsRow two_numbers) (sym e) (tt, (tt, tt))
 
-pub set_fits : (bal : ℤ) → FitsWrite two_numbers (Some 0) (Set (record { column = 1; value = Literal (Int bal) } ∷ []))
+pub set_fits : (bal : ℤ) → FitsSets two_numbers (Some 0) (record { column = 1; value = Literal (Int bal) } ∷ [])
 set_fits bal = (
   record {
     column = lit< tt;

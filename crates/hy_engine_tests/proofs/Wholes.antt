@@ -10,7 +10,7 @@ use Rattle.hy_stamp.specs.declared.Viewer.{Viewer}
 use Rattle.hy_prune.specs.declared.Cover.{Cover}
 use Rattle.hy_bound.specs.Condition.{Condition}
 use Rattle.hy_bound.specs.declared.Assign.{Assign}
-use Rattle.hy_bound.specs.declared.WriteKind.{WriteKind}
+use Rattle.hy_chunk.specs.declared.writes.RowWrite.{RowWrite}
 use Rattle.hy_value.specs.declared.change.Change.{Change}
 use Rattle.hy_chain.specs.Pruning.{KeepsStamps, Shrinks}
 use Rattle.hy_undo.specs.Images.{both}
@@ -107,7 +107,7 @@ pub pair_ready : (next : ℕ) (whole : Whole) → IsReady next whole → (first 
     → FitsRow whole.kinds row
 pair_ready next whole r first second row e = subst (λ (kinds : List Kind). FitsRow kinds row) (sym r.kinds) (pair_fits first second row e)
 
-pub write_ready : (next : ℕ) (whole : Whole) → IsReady next whole → (kind : WriteKind) → FitsWrite two_numbers (Some 0) kind
+pub write_ready : (next : ℕ) (whole : Whole) → IsReady next whole → (kind : RowWrite) → FitsWrite two_numbers (Some 0) kind
     → FitsWrite whole.kinds whole.shown.key kind
 write_ready next whole r kind fits =
     subst (λ (kinds : List Kind). FitsWrite kinds whole.shown.key kind) (sym r.kinds)

@@ -1,12 +1,12 @@
 //! A chunk with the transactions that are open on it, called as an engine calls it.
 
 ghost use Rattle.std.specs.Prelude.{◌≡◌, ◌<◌, ◌≤◌, ◌+◌, ◌^◌, [], ◌∷◌, Some, IfOk, OnOk, length};
-ghost use Rattle.hy_chunk.specs.Writes.{FitsWrite};
+ghost use Rattle.hy_chunk.specs.Writes.{FitsSets, FitsWrite};
 ghost use Rattle.hy_engine_tests.specs.Ready.{AreUnused, IsReady, two_numbers};
 ghost use Rattle.hy_stamp.specs.Times.{IsLabel};
 
-use hy_bound::{Assign, Pred, SetExpr, WriteKind};
-use hy_chunk::{Chunk, Keys, NoRoom, Sought, Sweep};
+use hy_bound::{Assign, Pred, SetExpr, Sets};
+use hy_chunk::{Chunk, Keys, NoRoom, RowWrite, Sought, Sweep};
 use hy_given::{equal, pair};
 use hy_notes::Changes;
 use hy_plan::Gathered;
@@ -75,19 +75,16 @@ fn check_times(next: u64, viewer: &Viewer) -> Result<(), Fail>
     }
 }
 
-/// UPDATE of bal to a number, or DELETE where there is none.
-fn write_of(alloc: Global, bal: Option<i64>) -> Result<WriteKind, AllocError>
-    ensures { IfOk result (λ kind. FitsWrite two_numbers (Some 0) kind) }
+/// SET of bal to a number.
+fn set_bal(alloc: Global, bal: i64) -> Result<Sets, AllocError>
+    ensures { IfOk result (λ sets. FitsSets two_numbers (Some 0) sets) }
 {
-    let Some(bal) = bal else {
-        return Ok(WriteKind::Delete);
-    };
     let mut sets = Seq::new(alloc);
     sets.push(Assign {
         column: 1,
         value: SetExpr::literal(alloc, Value::Int(bal))?,
     })?;
-    Ok(WriteKind::Set(sets))
+    Ok(sets)
 }
 
 /// Room to note so many writes.
@@ -248,17 +245,35 @@ impl Tried {
         id: i64,
         bal: Option<i64>,
     ) -> Result<Result<u32, Refusal>, Fail> {
+        let pred = equal(alloc, 0, id)?;
+        match bal {
+            Some(bal) => {
+                let sets = set_bal(alloc, bal)?;
+                self.write_rows(alloc, open, &pred, RowWrite::Set(&sets))
+            }
+            None => self.write_rows(alloc, open, &pred, RowWrite::Delete),
+        }
+    }
+
+    /// UPDATE or DELETE where a condition holds.
+    fn write_rows(
+        &mut self,
+        alloc: Global,
+        open: &Open,
+        pred: &Pred,
+        kind: RowWrite,
+    ) -> Result<Result<u32, Refusal>, Fail>
+        requires { FitsWrite two_numbers (Some 0) kind }
+    {
         let viewer = &open.viewer;
         check_times(self.next, viewer)?;
-        let pred = equal(alloc, 0, id)?;
-        let kind = write_of(alloc, bal)?;
-        let places = self.chunk.find_candidates(&pred)?;
+        let places = self.chunk.find_candidates(pred)?;
         let mut changes = notes(alloc, places.len())?;
         self.chunk.reserve(places.len())?;
         let sweep = Sweep {
             viewer,
-            pred: &pred,
-            kind: &kind,
+            pred,
+            kind,
             places: places.as_slice(),
         };
         Ok(self.chunk.write(&sweep, open.label, &mut changes))

@@ -10,7 +10,6 @@ use Rattle.hy_stamp.specs.declared.Viewer.{Viewer}
 use Rattle.hy_prune.specs.declared.Cover.{Cover}
 use Rattle.hy_bound.specs.Condition.{Condition}
 use Rattle.hy_bound.specs.declared.Assign.{Assign}
-use Rattle.hy_bound.specs.declared.WriteKind.{WriteKind}
 use Rattle.hy_value.specs.declared.change.Change.{Change}
 use Rattle.hy_chain.specs.Pruning.{KeepsStamps, Shrinks}
 use Rattle.hy_undo.specs.Images.{both}
@@ -21,7 +20,7 @@ use Rattle.hy_chunk.specs.Fields.{blank_place, blank_with, nth}
 use Rattle.hy_chunk.specs.Sound.{FitsRow}
 use Rattle.hy_chunk.specs.Steps.{loaded_place}
 use Rattle.hy_chunk.specs.Views.{Whole, with_places}
-use Rattle.hy_chunk.specs.Writes.{FitsWrite, IsDone}
+use Rattle.hy_chunk.specs.Writes.{FitsSets, IsDone}
 use Rattle.hy_measured.specs.Ready.{AreUnused, PlacesInOrder, IsReady, two_numbers}
 use Rattle.hy_measured.proofs.Fits.{pair_fits}
 use Rattle.hy_measured.proofs.Visits.{places_later, none_yet, put_in_order, nth_in_order, everywhere_in_order, everywhere_many, stamped_in_order}
@@ -105,11 +104,11 @@ module _ (most : ℕ) where
       → FitsRow whole.kinds row
   pair_ready next whole r first second row e = subst (λ (kinds : List Kind). FitsRow kinds row) (sym r.kinds) (pair_fits first second row e)
 
-  pub write_ready : (next : ℕ) (whole : Whole) → IsReady most next whole → (kind : WriteKind) → FitsWrite two_numbers (Some 0) kind
-      → FitsWrite whole.kinds whole.shown.key kind
-  write_ready next whole r kind fits =
-      subst (λ (kinds : List Kind). FitsWrite kinds whole.shown.key kind) (sym r.kinds)
-      (subst (λ (key : Option ℕ). FitsWrite two_numbers key kind) (sym r.key) fits)
+  pub sets_ready : (next : ℕ) (whole : Whole) → IsReady most next whole → (sets : List Assign) → FitsSets two_numbers (Some 0) sets
+      → FitsSets whole.kinds whole.shown.key sets
+  sets_ready next whole r sets fits =
+      subst (λ (kinds : List Kind). FitsSets kinds whole.shown.key sets) (sym r.kinds)
+      (subst (λ (key : Option ℕ). FitsSets two_numbers key sets) (sym r.key) fits)
 
   pub after_write_call : {B : Type 0} (same : Type 0) (result : Result ℕ B) (sets : Option (List Assign)) (pred : Condition) (viewer : Viewer)
       (label : Label) (table first next : ℕ) (old mid new : Whole)

@@ -1,14 +1,14 @@
 //! A chunk of two numbers a row, called as an engine calls it.
 
 ghost use Rattle.std.specs.Prelude.{◌≡◌, ◌<◌, ◌≤◌, ◌+◌, ◌^◌, [], ◌∷◌, Some, IfOk, OnOk, length};
-ghost use Rattle.hy_chunk.specs.Writes.{FitsWrite};
+ghost use Rattle.hy_chunk.specs.Writes.{FitsSets};
 ghost use Rattle.hy_measured.specs.Ready.{AreUnused, IsReady, two_numbers};
 ghost use Rattle.hy_measured.specs.declared.ready.TheConstants.{OLD_START};
 ghost use Rattle.hy_stamp.specs.Times.{IsLabel};
 ghost use Rattle.hy_value.specs.declared.Value.{Value};
 
-use hy_bound::{Assign, Pred, SetExpr, Side, WriteKind};
-use hy_chunk::{Chunk, Sweep};
+use hy_bound::{Assign, Pred, SetExpr, Sets, Side};
+use hy_chunk::{Chunk, RowWrite, Sweep};
 use hy_notes::Changes;
 use hy_plan::Gathered;
 use hy_prune::{Cover, Starts};
@@ -73,16 +73,16 @@ fn label_of(number: u32) -> Label
     }
 }
 
-/// UPDATE of bal to a number.
-fn write_of(alloc: Global, bal: i64) -> Result<WriteKind, AllocError>
-    ensures { IfOk result (λ kind. FitsWrite two_numbers (Some 0) kind) }
+/// SET of bal to a number.
+fn set_bal(alloc: Global, bal: i64) -> Result<Sets, AllocError>
+    ensures { IfOk result (λ sets. FitsSets two_numbers (Some 0) sets) }
 {
     let mut sets = Seq::new(alloc);
     sets.push(Assign {
         column: 1,
         value: SetExpr::literal(alloc, Value::Int(bal))?,
     })?;
-    Ok(WriteKind::Set(sets))
+    Ok(sets)
 }
 
 /// Room to note so many writes.
@@ -223,14 +223,14 @@ impl Ready {
     ) -> Result<(), AllocError> {
         let viewer = &writer.viewer;
         check_times(self.next, viewer)?;
-        let kind = write_of(alloc, bal)?;
+        let sets = set_bal(alloc, bal)?;
         let places = self.chunk.find_candidates(pred)?;
         let mut changes = notes(alloc, places.len())?;
         self.chunk.reserve(places.len())?;
         let sweep = Sweep {
             viewer,
             pred,
-            kind: &kind,
+            kind: RowWrite::Set(&sets),
             places: places.as_slice(),
         };
         let _count = self.chunk.write(&sweep, writer.label, &mut changes);

@@ -6,10 +6,7 @@ use Rattle.hy_bound.specs.declared.Bound.{Bound}
 use Rattle.hy_bound.specs.declared.Bound.TheVariants.{Update, Delete, RollbackTo}
 use Rattle.hy_bound.specs.declared.Assign.{Assign}
 use Rattle.hy_bound.specs.declared.Txn.{Txn}
-use Rattle.hy_bound.specs.declared.WriteKind.{WriteKind}
-use Rattle.hy_bound.specs.declared.WriteKind.TheVariants.{Set}
 use Rattle.hy_bound.specs.Condition.{Condition}
-use Rattle.hy_chunk.specs.Writes.{sets_of}
 use Rattle.hy_bound.specs.declared.Ending.{Ending}
 use Rattle.hy_bound.specs.declared.Ending.TheVariants.{RolledBack}
 use Rattle.hy_undo.specs.Chunks.{ChunkData}
@@ -28,7 +25,6 @@ use Rattle.hy_event.specs.Stamping.{StampVisit}
 use Rattle.hy_event.specs.Undoing.{UndoVisit}
 use Rattle.hy_event.specs.Writing.{WriteVisit}
 use Rattle.hy_session.specs.Near.{present_statement}
-use Rattle.hy_session.specs.Preparing.{kind_of}
 use Rattle.hy_session.specs.Short.{statement_prunes, visit_prunes}
 
 -- ---- a session that is at a transaction of its program, which is open
@@ -108,16 +104,12 @@ rolls_back session now false table number need = refl
 
 module _ (session : SessionData) (now : Open) (visited count : ℕ) (statement : Bound) (table : ℕ) (pred : Condition)
     (old : ChunkData) (progress : Progress) (after : SessionData) (new : ChunkData) where
-  pub as_update : (sets : List Assign) (kind : WriteKind) → statement ≡ Update table sets pred → Some kind ≡ kind_of statement
-      → WriteVisit session now visited count statement table (sets_of kind) pred old progress after new
+  pub as_update : (sets : List Assign) → statement ≡ Update table sets pred
+      → WriteVisit session now visited count statement table (Some sets) pred old progress after new
       → StatementVisit session now visited count statement old progress after new
-  as_update sets kind is made visit =
-      let both : Some kind ≡ Some (Set sets) = made ∙ ap kind_of is in
-      let set : kind ≡ Set sets = cc in
-      let own : WriteVisit session now visited count statement table (Some sets) pred old progress after new =
-      subst (λ (k : WriteKind). WriteVisit session now visited count statement table (sets_of k) pred old progress after new) set visit in
+  as_update sets is visit =
       let one : StatementVisit session now visited count (Update table sets pred) old progress after new =
-      subst (λ (b : Bound). WriteVisit session now visited count b table (Some sets) pred old progress after new) is own in
+      subst (λ (b : Bound). WriteVisit session now visited count b table (Some sets) pred old progress after new) is visit in
       subst (λ (b : Bound). StatementVisit session now visited count b old progress after new) (sym is) one
 
   pub as_delete : statement ≡ Delete table pred → WriteVisit session now visited count statement table None pred old progress after new

@@ -18,7 +18,6 @@ use Rattle.hy_event.specs.Needs.{need_of}
 use Rattle.hy_event.specs.Sessions.{txn_at}
 use Rattle.hy_event.specs.Turns.{with_open}
 use Rattle.hy_session.specs.declared.prepared.Prepared.{Prepared}
-use Rattle.hy_session.specs.declared.prepared.StatementPlan.TheVariants.{Read}
 use Rattle.hy_session.specs.declared.visitors.Visitor.{Visitor}
 use Rattle.hy_session.specs.Passing.{GoneBy, GoneNowhere, IsFirstPart, Passes, ReadOn, ReadTo}
 use Rattle.hy_session.specs.Preparing.{IsKept, statement_at}
@@ -47,10 +46,10 @@ module _ (session : SessionData) (visitor : Visitor) (txn : Txn) (now after : Op
         → (table number : ℕ) → need_of session ≡ Chunk table number → Passes session table number chunks (with_open after session)
     reads statement None chunks present known gone table number need = nowhere chunks gone table number
     reads statement (Some part) chunks present known gone table number need =
-        let whole : Prepared = record { txn = length session.done; statement = length now.replies; plan = Read known.reader } in
+        let whole : Prepared = record { txn = length session.done; statement = length now.replies; reader = known.reader } in
         let plans : IsKept session.shapes session.program (Some whole) =
         subst (λ (p : Option Prepared). IsKept session.shapes session.program p) known.kept kept in
-        let planned : IsPlanOf session.shapes statement (plan_by known.reader) = plans statement (at statement present) in
+        let planned : IsPlanOf session.shapes statement (plan_by known.reader) = (plans.runs whole refl statement (at statement present)).planned in
         session_reads session visitor txn now after visited count statement known.reader part chunks is there opened works present planned known.first gone
         table number need
 

@@ -21,6 +21,7 @@ mod PassedChunks
 mod SparedChunks
 mod ReadChunks
 mod GoneSessions
+mod KeptPlans
 mod OrderedPlaces
 mod NotedSeeks
 mod OrderedNotes

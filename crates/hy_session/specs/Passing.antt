@@ -25,7 +25,6 @@ use Rattle.hy_event.specs.Inserting.{free_index, sees_key}
 use Rattle.hy_event.specs.Needs.{need_of}
 use Rattle.hy_session.specs.declared.visitors.Visitor.{Visitor}
 use Rattle.hy_session.specs.declared.prepared.Prepared.{Prepared}
-use Rattle.hy_session.specs.declared.prepared.StatementPlan.TheVariants.{Read}
 use Rattle.hy_session.specs.Short.{LeavesShort}
 
 -- ---- a session
@@ -126,5 +125,5 @@ GoneBy visitor (Release name) part visited count old chunks new = GoneNowhere ol
 -- the plan of a SELECT of this number is kept, and this is taken of its first table
 pub record IsFirstPart (prepared : Option Prepared) (txn number : ℕ) (part : PlanPart) : Type 0 where
   pub reader : Reader
-  pub kept : prepared ≡ Some (record { txn = txn; statement = number; plan = Read reader })
+  pub kept : prepared ≡ Some (record { txn = txn; statement = number; reader = reader })
   pub first : slice_get reader.parts 0 ≡ Some part

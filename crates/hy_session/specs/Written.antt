@@ -61,7 +61,7 @@ kept_after kept (Ok changes) = kept_with kept changes
 pub record CanWrite (visitor : Visitor) (write : Write) (cover : Cover) (chunk : Whole) : Type 0 where
   pub ready : IsReady visitor cover chunk
   pub table : write.table ≡ chunk.shown.table
-  pub fits : FitsWrite chunk.kinds chunk.shown.key write.kind.now
+  pub fits : FitsWrite chunk.kinds chunk.shown.key write.kind
 
 -- the chunk was pruned and then written, and how many rows that were was told, or why none
 pub record Wrote (session : SessionData) (now : Open) (table : ℕ) (sets : Option (List Assign)) (pred : Condition) (old : ChunkData)
@@ -77,7 +77,7 @@ abbrev pub HasWritten : Visitor → Write → ℕ → Cover → List Change → 
     → List (List Change) → Type 0
 HasWritten visitor write start cover notes levels old answer new after later = (session : SessionData) (now : Open) (names : List (Saved (Unit {0})))
     → IsVisitor session visitor → HasNoted start cover notes names levels now
-    → Wrote session now write.table (sets_of write.kind.now) write.pred.now old answer new (kept_as names after later)
+    → Wrote session now write.table (sets_of write.kind) write.pred.now old answer new (kept_as names after later)
 
 -- ---- INSERT
 

@@ -9,7 +9,6 @@ ghost use Rattle.hy_session.specs.Standing.{standing_of};
 mod ahead;
 mod answers;
 mod backing;
-mod copying;
 mod core_steps;
 mod core_visits;
 mod ends;
@@ -104,7 +103,7 @@ pub struct Session {
     counts: Vec<u64>,
     /// No notes: the room of those of the last transaction, for the next one.
     spare: Changes,
-    /// How a statement is run, kept for its next visit.
+    /// How a SELECT is run, kept for its next visit.
     prepared: Option<Prepared>,
 }
 

@@ -15,7 +15,7 @@ ghost use Rattle.hy_session.specs.Passing.{GoneBy, IsFirstPart, IsSpared, MayBeP
 ghost use Rattle.hy_session.specs.Short.{LeavesShort};
 
 use crate::inserting::{Insertion, pass};
-use crate::prepared::{Prepared, StatementPlan};
+use crate::prepared::Prepared;
 use crate::visitors::{Present, Visitor};
 use crate::{OpenTransaction, Session};
 use hy_bound::{Bound, Pred, table_shape};
@@ -165,17 +165,12 @@ fn pass_statement(
     }
 }
 
-/// What is taken of the first table by the plan of a statement of this number, if that is kept and the statement is a SELECT.
+/// What is taken of the first table by the plan of a statement of this number, if that is kept.
 fn first_part(prepared: &Option<Prepared>, txn: usize, number: usize) -> Option<&PlanPart>
     ensures { IfSome result (λ part. IsFirstPart prepared.now txn number part.now) }
 {
-    let Some(kept) = prepared else {
-        return None;
-    };
-    match &kept.plan {
-        StatementPlan::Read(reader) if kept.txn == txn && kept.statement == number => {
-            reader.part(0)
-        }
+    match prepared {
+        Some(kept) if kept.txn == txn && kept.statement == number => kept.reader.part(0),
         _ => None,
     }
 }

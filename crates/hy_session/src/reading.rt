@@ -15,13 +15,11 @@ ghost use Rattle.hy_event.specs.Turns.{Takes, with_changed};
 ghost use Rattle.hy_session.specs.Near.{NearChunk};
 ghost use Rattle.hy_visit.specs.Parts.{tables_found};
 ghost use Rattle.hy_visit.specs.Readers.{IsPlanOf, plan_by, told_of};
-ghost use Rattle.hy_session.specs.declared.prepared.StatementPlan.TheVariants.{Read};
 ghost use Rattle.hy_session.specs.Preparing.{IsPlanFor};
 ghost use Rattle.hy_session.specs.Reading.{IsNextFor, IsReading, IsStep, IsStepOf};
 
 use crate::answers::{Answer, push_answer, reserve_answer};
 use crate::numbers::number_of;
-use crate::prepared::StatementPlan;
 use crate::visitors::Present;
 use crate::{OpenTransaction, Session};
 use hy_bound::{Bound, Records, Reply};
@@ -142,7 +140,7 @@ impl Session {
     ) -> Result<ReadStep, AllocError>
         requires near { NearChunk self.now chunk.old }
         requires reads { IsReading self.now }
-        requires plan { IsPlanFor self.now (Read reader.now) }
+        requires plan { IsPlanFor self.now reader.now }
         ensures step { IfOk result (λ step. IsStepOf self.entry.now chunk.old.shown.places step) }
         ensures all { chunk.new ≡ chunk.old }
     {
@@ -174,9 +172,6 @@ impl Session {
         let Some(kept) = &self.prepared else {
             return Ok(());
         };
-        let StatementPlan::Read(reader) = &kept.plan else {
-            return Ok(());
-        };
         let Some(now) = &mut self.now else {
             return Ok(());
         };
@@ -184,7 +179,12 @@ impl Session {
             return Ok(());
         };
         let number = visited / chunks;
-        keep_keys(alloc, reader.parts.as_slice(), number, &mut now.gathered)
+        keep_keys(
+            alloc,
+            kept.reader.parts.as_slice(),
+            number,
+            &mut now.gathered,
+        )
     }
 
     /// What comes of a visit of a SELECT, which its open transaction is at. How the SELECT is run is kept, once that is made.
@@ -203,7 +203,7 @@ impl Session {
         let answered = self.count_answered();
         let reader = self.make_reader(alloc)?;
         let step = self.read_step(alloc, &reader, chunk)?;
-        self.keep_plan(answered, StatementPlan::Read(reader));
+        self.keep_reader(answered, reader);
         Ok(step)
     }
 

@@ -2,7 +2,6 @@
 
 ghost use Rattle.std.specs.Prelude.{◌≡◌, ◌≤◌, ℕ, List, None, true, false, IfOk, OnErr, OnOk, length, take};
 ghost use Rattle.std.specs.List.{All};
-ghost use Rattle.std.specs.Option.{option_copied};
 ghost use Rattle.hy_bound.specs.declared.Bound.{Bound};
 ghost use Rattle.hy_event.specs.Events.{ChunkEvent, StatementVisit};
 ghost use Rattle.hy_event.specs.Needs.{need_of};
@@ -13,19 +12,17 @@ ghost use Rattle.hy_protocol.specs.declared.Progress.{Progress};
 ghost use Rattle.hy_session.specs.Entered.{has_entry};
 ghost use Rattle.hy_session.specs.Limits.{IsSavedInOrder};
 ghost use Rattle.hy_session.specs.Near.{NearChunk};
-ghost use Rattle.hy_session.specs.Preparing.{kind_in, kind_of};
 ghost use Rattle.hy_session.specs.Short.{LeavesShort};
 ghost use Rattle.hy_session.specs.Visitors.{CanWork, ForVisitor, ShortAt, gathers, is_reading};
 
 use crate::backing::go_back;
 use crate::inserting::{Insertion, insert};
-use crate::prepared::StatementPlan;
 use crate::stamping::{stamp, undo};
 use crate::visitors::{Present, Visitor};
 use crate::writing::{Write, write_rows};
 use crate::{OpenTransaction, Session};
-use hy_bound::{Bound, Ending, WriteKind};
-use hy_chunk::Chunk;
+use hy_bound::{Bound, Ending};
+use hy_chunk::{Chunk, RowWrite};
 use hy_notes::notes_tell;
 use hy_protocol::{Phase, Progress};
 use hy_render::TxnOutcome;
@@ -47,12 +44,11 @@ fn gathers(statement: &Bound) -> bool
     }
 }
 
-/// A visit of the present statement, which writes; an UPDATE does this with each row that it selects. Err is for want of memory, and changes nothing.
+/// A visit of the present statement, which writes. Err is for want of memory, and changes nothing.
 fn visit_statement(
     alloc: Global,
     visitor: &Visitor,
     present: &Present,
-    kind: Option<&WriteKind>,
     now: &mut OpenTransaction,
     chunk: &mut Chunk,
 ) -> Result<Progress, AllocError>
@@ -60,7 +56,6 @@ fn visit_statement(
     requires order { IsSavedInOrder now.old.saved }
     requires back { (name : List ℕ) → present.now.statement.now ≡ Bound.RollbackTo name
         → MayAllGoBack chunk.old.kinds chunk.old.shown.key visitor.now.id (notes_since now.old name) chunk.old.shown }
-    requires kind { option_copied kind ≡ kind_of present.now.statement.now }
     ensures event { IfOk result (λ progress. ForVisitor visitor.now now.old now.new (λ session after.
         StatementVisit session now.old present.now.visited present.now.count present.now.statement.now
         chunk.old.shown progress after chunk.new.shown)) }
@@ -83,22 +78,20 @@ fn visit_statement(
             };
             insert(alloc, visitor, &insertion, now, chunk)
         }
-        Bound::Update { table, pred, .. } => {
-            let Some(kind) = kind else { unreachable!() };
+        Bound::Update { table, sets, pred } => {
             let update = Write {
                 present: *present,
                 table: *table,
-                kind,
+                kind: RowWrite::Set(sets),
                 pred,
             };
             write_rows(alloc, visitor, &update, now, chunk)
         }
         Bound::Delete { table, pred } => {
-            let kind = WriteKind::Delete;
             let delete = Write {
                 present: *present,
                 table: *table,
-                kind: &kind,
+                kind: RowWrite::Delete,
                 pred,
             };
             write_rows(alloc, visitor, &delete, now, chunk)
@@ -123,20 +116,13 @@ impl Session {
         }
     }
 
-    /// A visit of a chunk that isn't one of a SELECT; an UPDATE does this with each row that it selects. Err is for want of
-    /// memory, and changes nothing; it never comes where its open transaction has its entry.
-    fn change_by(
-        &mut self,
-        alloc: Global,
-        kind: Option<&WriteKind>,
-        chunk: &mut Chunk,
-    ) -> Result<Progress, AllocError>
+    /// A visit of a chunk that isn't one of a SELECT. Err is for want of memory, and changes nothing; it never comes where
+    /// its open transaction has its entry.
+    fn change(&mut self, alloc: Global, chunk: &mut Chunk) -> Result<Progress, AllocError>
         requires near { NearChunk self.old chunk.old }
         requires changes { is_reading self.old ≡ false }
-        requires kind { option_copied kind ≡ kind_in self.old }
         ensures event { IfOk result (λ progress. ChunkEvent self.old chunk.old.shown progress self.new chunk.new.shown) }
         ensures short { OnOk result (LeavesShort self.old self.old.now chunk.new.shown) }
-        ensures others { record self.new { now = None } ≡ record self.old { now = None } }
         ensures kept { OnErr result (self.new ≡ self.old) }
         ensures entered { OnErr result (has_entry self.old ≡ false) }
         ensures chunk_kept { OnErr result (chunk.new.shown ≡ chunk.old.shown) }
@@ -167,7 +153,7 @@ impl Session {
                             visited,
                             count,
                         };
-                        visit_statement(alloc, &visitor, &present, kind, now, chunk)
+                        visit_statement(alloc, &visitor, &present, now, chunk)
                     }
                     None => Ok(undo(&visitor, 0, Ending::RolledBack, now, chunk)),
                 }
@@ -175,29 +161,6 @@ impl Session {
             Phase::Stamping { visited } => Ok(stamp(&visitor, visited, now, chunk)),
             Phase::Undoing { visited, cause } => Ok(undo(&visitor, visited, cause, now, chunk)),
         }
-    }
-
-    /// A visit of a chunk that isn't one of a SELECT. Err is for want of memory, and changes nothing; it never comes where
-    /// its open transaction has its entry.
-    fn change(&mut self, alloc: Global, chunk: &mut Chunk) -> Result<Progress, AllocError>
-        requires near { NearChunk self.old chunk.old }
-        requires changes { is_reading self.old ≡ false }
-        ensures event { IfOk result (λ progress. ChunkEvent self.old chunk.old.shown progress self.new chunk.new.shown) }
-        ensures short { OnOk result (LeavesShort self.old self.old.now chunk.new.shown) }
-        ensures kept { OnErr result (self.new ≡ self.old) }
-        ensures entered { OnErr result (has_entry self.old ≡ false) }
-        ensures chunk_kept { OnErr result (chunk.new.shown ≡ chunk.old.shown) }
-        ensures kinds { chunk.new.kinds ≡ chunk.old.kinds }
-    {
-        let answered = self.count_answered();
-        let kind = self.take_kind(alloc)?;
-        let progress = self.change_by(alloc, kind.as_ref(), chunk)?;
-        if let Some(kind) = kind
-            && let Progress::Moved = progress
-        {
-            self.keep_plan(answered, StatementPlan::Write(kind));
-        }
-        Ok(progress)
     }
 
     /// Visits a chunk, which it needs: it reads or writes there for the present statement, or stamps or undoes what its

@@ -10,8 +10,8 @@ ghost use Rattle.hy_session.specs.Written.{CanWrite, HasWritten};
 use crate::OpenTransaction;
 use crate::answers::{Answer, push_answer, reserve_answer, reserve_writes};
 use crate::visitors::{Present, Visitor};
-use hy_bound::{Ending, Pred, Reply, WriteKind, table_shape};
-use hy_chunk::Chunk;
+use hy_bound::{Ending, Pred, Reply, table_shape};
+use hy_chunk::{Chunk, RowWrite};
 use hy_notes::Changes;
 use hy_protocol::{Phase, Progress};
 use hy_prune::Cover;
@@ -27,18 +27,18 @@ pub struct Write<'a> {
     /// Its table.
     pub table: u32,
     /// What it does with a row that it selects.
-    pub kind: &'a WriteKind,
+    pub kind: RowWrite<'a>,
     /// Its condition.
     pub pred: &'a Pred,
 }
 
 /// The reply to one that selected so many rows.
-fn reply_of(kind: &WriteKind, count: u64) -> Reply
-    ensures { result ≡ told_by (sets_of kind.now) count }
+fn reply_of(kind: RowWrite, count: u64) -> Reply
+    ensures { result ≡ told_by (sets_of kind.entry) count }
 {
     match kind {
-        WriteKind::Set(_) => Reply::Updated(count),
-        WriteKind::Delete => Reply::Deleted(count),
+        RowWrite::Set(_) => Reply::Updated(count),
+        RowWrite::Delete => Reply::Deleted(count),
     }
 }
 
@@ -107,7 +107,7 @@ fn write_on(
     requires fits { write.now.present.count + 2 ^ 32 ≤ 2 ^ 64 }
     ensures event { IfOk result (λ progress. ForVisitor visitor.now now.old now.new (λ session after.
         WriteVisit session now.old write.now.present.visited write.now.present.count write.now.present.statement.now write.now.table
-        (sets_of write.now.kind.now) write.now.pred.now chunk.old.shown progress after chunk.new.shown)) }
+        (sets_of write.now.kind) write.now.pred.now chunk.old.shown progress after chunk.new.shown)) }
     ensures short { OnOk result (visitor.now.prunes ≡ true → AllShort now.old.cover chunk.new.shown.places) }
     ensures kept { OnErr result (now.new ≡ now.old) }
     ensures chunk_kept { OnErr result (chunk.new.shown ≡ chunk.old.shown) }
@@ -140,7 +140,7 @@ fn write_last(
     requires fits { write.now.present.count + 2 ^ 32 ≤ 2 ^ 64 }
     ensures event { IfOk result (λ progress. ForVisitor visitor.now now.old now.new (λ session after.
         WriteVisit session now.old write.now.present.visited write.now.present.count write.now.present.statement.now write.now.table
-        (sets_of write.now.kind.now) write.now.pred.now chunk.old.shown progress after chunk.new.shown)) }
+        (sets_of write.now.kind) write.now.pred.now chunk.old.shown progress after chunk.new.shown)) }
     ensures short { OnOk result (visitor.now.prunes ≡ true → AllShort now.old.cover chunk.new.shown.places) }
     ensures kept { OnErr result (now.new ≡ now.old) }
     ensures chunk_kept { OnErr result (chunk.new.shown ≡ chunk.old.shown) }
@@ -190,7 +190,7 @@ pub fn write_rows(
     requires { CanWrite visitor.now write.now now.old.cover chunk.old }
     ensures event { IfOk result (λ progress. ForVisitor visitor.now now.old now.new (λ session after.
         WriteVisit session now.old write.now.present.visited write.now.present.count write.now.present.statement.now write.now.table
-        (sets_of write.now.kind.now) write.now.pred.now chunk.old.shown progress after chunk.new.shown)) }
+        (sets_of write.now.kind) write.now.pred.now chunk.old.shown progress after chunk.new.shown)) }
     ensures short { OnOk result (visitor.now.prunes ≡ true → AllShort now.old.cover chunk.new.shown.places) }
     ensures kept { OnErr result (now.new ≡ now.old) }
     ensures chunk_kept { OnErr result (chunk.new.shown ≡ chunk.old.shown) }

@@ -15,8 +15,8 @@ ghost use Rattle.hy_visit.specs.Pruning.{AllFall, AllShort};
 ghost use Rattle.hy_visit.specs.Writing.{WriteDone};
 
 use crate::pruning::{has_none_to_prune, prune_first};
-use hy_bound::{Pred, WriteKind, column_ref};
-use hy_chunk::{Chunk, Sweep};
+use hy_bound::{Pred, column_ref};
+use hy_chunk::{Chunk, RowWrite, Sweep};
 use hy_notes::Changes;
 use hy_prune::Cover;
 use hy_stamp::{Label, Viewer};
@@ -43,7 +43,7 @@ pub fn write_visit(
     chunk: &mut Chunk,
     writer: &Writer,
     pred: &Pred,
-    kind: &WriteKind,
+    kind: RowWrite,
     places: &[u32],
     changes: &mut Changes,
 ) -> Result<u32, Refusal>
@@ -53,8 +53,8 @@ pub fn write_visit(
     requires notes { length places.now ≤ changes.old.room }
     requires wide { length chunk.old.kinds ≤ changes.old.width }
     requires long { most_texts chunk.old.kinds ≤ changes.old.texts }
-    requires fits { FitsWrite chunk.old.kinds chunk.old.shown.key kind.now }
-    ensures done { WriteDone writer.now (sets_of kind.now) pred.now chunk.old.shown changes.old.notes changes.old.levels result
+    requires fits { FitsWrite chunk.old.kinds chunk.old.shown.key kind }
+    ensures done { WriteDone writer.now (sets_of kind.entry) pred.now chunk.old.shown changes.old.notes changes.old.levels result
         chunk.new.shown changes.new.notes changes.new.levels }
     ensures short { writer.now.prunes ≡ true → writer.now.cover.now.next ≤ writer.now.viewer.id → AllShort writer.now.cover.now chunk.new.shown.places }
     ensures all { chunk.new ≡ with_places chunk.old chunk.new.shown.places chunk.new.room }

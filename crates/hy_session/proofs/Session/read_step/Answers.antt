@@ -47,8 +47,8 @@ read_statement-requires-clause-planned c =
     c.in-Some-get.ensures.lookup.0 c.in-Some-get.ensures.lookup.1 in
     let opened : session.now ≡ Some now = sym (ap (λ (s : SessionData). s.now) c.self.view_is) ∙ c.in-Some-now.is in
     let working : now.phase ≡ Working c.in-Working.visited c.in-Working.count = sym (ap (λ (o : Open). o.phase) c.now.view_is) ∙ c.in-Working.is in
-    c.requires.plan statement
-    (works_at session now c.in-Working.visited c.in-Working.count statement opened working (present_at session txn now statement there found))
+    (c.requires.plan statement
+    (works_at session now c.in-Working.visited c.in-Working.count statement opened working (present_at session txn now statement there found))).planned
 
 pub returns-clause-step : goal.returns-clause-step
 returns-clause-step c =

@@ -15,9 +15,9 @@ returns-clause-done c = λ session now names is noted.
     let write = c.args.write.now in
     let same : c.reserve_writes.new.chunk.shown ≡ c.args.chunk.now.shown =
     ap (λ (w : Whole). w.shown) c.reserve_writes.ensures.all ∙ ap (λ (w : Whole). w.shown) c.find_candidates.ensures.all in
-    let did : Wrote session now write.table (sets_of write.kind.now) write.pred.now c.reserve_writes.new.chunk.shown c.write_visit-answer.result
+    let did : Wrote session now write.table (sets_of write.kind) write.pred.now c.reserve_writes.new.chunk.shown c.write_visit-answer.result
     c.write_visit-answer.new.chunk.shown (kept_as names c.write_visit-answer.new.changes.notes c.write_visit-answer.new.changes.levels) =
-    wrote_so session now _ write.table _ _ _ _ _ _ names (sets_of write.kind.now) write.pred.now _ c.write_visit-answer.ensures.done
+    wrote_so session now _ write.table _ _ _ _ _ _ names (sets_of write.kind) write.pred.now _ c.write_visit-answer.ensures.done
     (record {
       viewer = c.viewer.ensures ∙ viewer_so session now c.args.visitor.now.id c.args.start is.id noted.starts;
       label = is.label;
@@ -27,7 +27,7 @@ returns-clause-done c = λ session now names is noted.
     (ap (λ (o : ChunkData). o.table) same ∙ sym c.requires.table) (c.reserve_writes.ensures.notes ∙ sym noted.noted)
     (ap (savepoints names) c.reserve_writes.ensures.levels ∙ sym noted.saved) in
     subst
-    (λ (o : ChunkData). Wrote session now write.table (sets_of write.kind.now) write.pred.now o c.write_visit-answer.result c.write_visit-answer.new.chunk.shown
+    (λ (o : ChunkData). Wrote session now write.table (sets_of write.kind) write.pred.now o c.write_visit-answer.result c.write_visit-answer.new.chunk.shown
     (kept_as names c.write_visit-answer.new.changes.notes c.write_visit-answer.new.changes.levels))
     same did
 

@@ -16,11 +16,11 @@ returns-in-Ok-clause-event c = λ session is opened.
     let old = c.args.chunk.now.shown in
     let new = c.write_chunk.new.chunk.shown in
     let kept = kept_as c.now.inside.saved c.write_chunk.new.notes.notes c.write_chunk.new.notes.levels in
-    let did : Wrote session now write.table (sets_of write.kind.now) write.pred.now old (Ok c.in-Ok.rows) new kept =
-    subst (λ (answer : Result ℕ Refusal). Wrote session now write.table (sets_of write.kind.now) write.pred.now old answer new kept) c.in-Ok.is
+    let did : Wrote session now write.table (sets_of write.kind) write.pred.now old (Ok c.in-Ok.rows) new kept =
+    subst (λ (answer : Result ℕ Refusal). Wrote session now write.table (sets_of write.kind) write.pred.now old answer new kept) c.in-Ok.is
     (c.in_ok-rows.ensures.done session now c.now.inside.saved is (has_noted _ now c.now.inside.saved c.now.inside.notes.levels c.now.view_is refl)) in
     writes_on session now _ c.args.visitor.now write.present.visited write.present.statement.now write.table old new is opened
-    write.present.count (sets_of write.kind.now) write.pred.now kept c.in-Ok.rows c.args.visited did c.requires.next c.requires.more
+    write.present.count (sets_of write.kind) write.pred.now kept c.in-Ok.rows c.args.visited did c.requires.next c.requires.more
     (ap (λ (v : Open). moved_to v kept (Working c.args.visited (write.present.count + c.from.result))) c.now.view_is
     ∙ ap (λ (n : ℕ). moved_to now kept (Working c.args.visited (write.present.count + n))) c.from.ensures)
 
@@ -31,10 +31,10 @@ returns-in-Err-clause-event c = λ session is opened.
     let old = c.args.chunk.now.shown in
     let new = c.write_chunk.new.chunk.shown in
     let kept = kept_as c.now.inside.saved c.write_chunk.new.notes.notes c.write_chunk.new.notes.levels in
-    let did : Wrote session now write.table (sets_of write.kind.now) write.pred.now old (Err c.in-Err.refusal) new kept =
-    subst (λ (answer : Result ℕ Refusal). Wrote session now write.table (sets_of write.kind.now) write.pred.now old answer new kept) c.in-Err.is
+    let did : Wrote session now write.table (sets_of write.kind) write.pred.now old (Err c.in-Err.refusal) new kept =
+    subst (λ (answer : Result ℕ Refusal). Wrote session now write.table (sets_of write.kind) write.pred.now old answer new kept) c.in-Err.is
     (c.in_ok-rows.ensures.done session now c.now.inside.saved is (has_noted _ now c.now.inside.saved c.now.inside.notes.levels c.now.view_is refl)) in
     refuses session now _ c.args.visitor.now write.present.visited write.present.statement.now write.table old new is opened
-    write.present.count (sets_of write.kind.now) write.pred.now kept c.in-Err.refusal did
+    write.present.count (sets_of write.kind) write.pred.now kept c.in-Err.refusal did
     (ap (λ (v : Open). moved_to v kept (Undoing 0 c.refusal_ending-cause.result)) c.now.view_is
     ∙ ap (λ (e : Ending). moved_to now kept (Undoing 0 e)) c.refusal_ending-cause.ensures)

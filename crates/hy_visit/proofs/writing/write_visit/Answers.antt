@@ -10,7 +10,7 @@ use Rattle.hy_visit.proofs.writing.write_visit.Goals as goal
 pub returns-clause-done : goal.returns-clause-done
 returns-clause-done c =
     let writer = c.args.writer.now in
-    let sets = sets_of c.args.kind.now in
+    let sets = sets_of c.args.kind in
     let between = c.prune_first.new.chunk in
     let new = c.write.new.self in
     let here = comes_to writer sets c.args.pred.now between new c.args.changes.now c.write.new.changes c.write.result
@@ -21,7 +21,7 @@ returns-clause-done c =
 pub returns-clause-short : goal.returns-clause-short
 returns-clause-short c = λ does late.
     let writer = c.args.writer.now in
-    let sets = sets_of c.args.kind.now in
+    let sets = sets_of c.args.kind in
     let between = c.prune_first.new.chunk in
     let new = c.write.new.self in
     let here = comes_to writer sets c.args.pred.now between new c.args.changes.now c.write.new.changes c.write.result

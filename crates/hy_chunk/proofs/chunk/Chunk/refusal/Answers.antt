@@ -27,7 +27,7 @@ invariant_of-self-in-Some c =
 
 pub see-requires-clause-within : goal.see-requires-clause-within
 see-requires-clause-within c =
-    let sets = sets_of c.args.sweep.now.kind.now in
+    let sets = sets_of c.args.sweep.now.kind in
     let pred = c.args.sweep.now.pred.now in
     let viewer = c.args.sweep.now.viewer.now in
     let olds = c.self.inside.positions.places in
@@ -46,7 +46,7 @@ see-requires-clause-within c =
 
 pub rival-rival-requires : goal.rival-rival-requires
 rival-rival-requires c =
-    let sets = sets_of c.args.sweep.now.kind.now in
+    let sets = sets_of c.args.sweep.now.kind in
     let pred = c.args.sweep.now.pred.now in
     let viewer = c.args.sweep.now.viewer.now in
     let olds = c.self.inside.positions.places in
@@ -65,7 +65,7 @@ rival-rival-requires c =
 
 pub overflow_add-pos : goal.overflow_add-pos
 overflow_add-pos c =
-    let sets = sets_of c.args.sweep.now.kind.now in
+    let sets = sets_of c.args.sweep.now.kind in
     let pred = c.args.sweep.now.pred.now in
     let viewer = c.args.sweep.now.viewer.now in
     let olds = c.self.inside.positions.places in
@@ -84,7 +84,7 @@ overflow_add-pos c =
 
 pub loop-i-init : goal.loop-i-init
 loop-i-init c =
-    let sets = sets_of c.args.sweep.now.kind.now in
+    let sets = sets_of c.args.sweep.now.kind in
     let pred = c.args.sweep.now.pred.now in
     let viewer = c.args.sweep.now.viewer.now in
     let olds = c.self.inside.positions.places in
@@ -109,7 +109,7 @@ loop-i-init c =
 
 pub loop-i-preserved : goal.loop-i-preserved
 loop-i-preserved c =
-    let sets = sets_of c.args.sweep.now.kind.now in
+    let sets = sets_of c.args.sweep.now.kind in
     let pred = c.args.sweep.now.pred.now in
     let viewer = c.args.sweep.now.viewer.now in
     let olds = c.self.inside.positions.places in

@@ -15,8 +15,8 @@ invariant-loop-i l = record {
   next : length l.self-inside.next.row ≡ length l.initial.self-inside.positions.kinds;
   wide : length l.self-inside.seen.row ≡ length l.initial.self-inside.positions.kinds;
   settles : Settles l.self-inside.settled l.self-inside.positions.places;
-  rest : refusal_in (swept (sets_of l.sweep.kind.now) l.sweep.pred.now l.sweep.viewer.now
+  rest : refusal_in (swept (sets_of l.sweep.kind) l.sweep.pred.now l.sweep.viewer.now
       (l.initial.self-inside.first + reach l.sweep.places.now l.initial.self-inside.positions.places l.i)
       (drop (reach l.sweep.places.now l.initial.self-inside.positions.places l.i) l.initial.self-inside.positions.places))
-      ≡ refusal_in (swept (sets_of l.sweep.kind.now) l.sweep.pred.now l.sweep.viewer.now l.initial.self-inside.first l.initial.self-inside.positions.places);
+      ≡ refusal_in (swept (sets_of l.sweep.kind) l.sweep.pred.now l.sweep.viewer.now l.initial.self-inside.first l.initial.self-inside.positions.places);
 }

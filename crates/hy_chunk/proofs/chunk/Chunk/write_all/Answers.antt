@@ -24,7 +24,7 @@ use Rattle.hy_chunk.proofs.chunk.Chunk.write_all.Goals as goal
 
 pub see-requires-clause-within : goal.see-requires-clause-within
 see-requires-clause-within c =
-    let sets = sets_of c.args.sweep.now.kind.now in
+    let sets = sets_of c.args.sweep.now.kind in
     let pred = c.args.sweep.now.pred.now in
     let viewer = c.args.sweep.now.viewer.now in
     let olds = c.self.inside.positions.places in
@@ -49,13 +49,13 @@ make_next-requires-clause-width c =
 
 pub make_next-requires-clause-within : goal.make_next-requires-clause-within
 make_next-requires-clause-within c =
-    let v = c.loop-i.invariant in sets_within c.args.self.now.kinds c.args.self.now.shown.key c.args.sweep.now.kind.now (length c.see.new.version.row)
+    let v = c.loop-i.invariant in sets_within c.args.self.now.kinds c.args.self.now.shown.key c.args.sweep.now.kind (length c.see.new.version.row)
     (fits_length c.loop-i.self-inside.positions.kinds c.see.new.version.row c.see.ensures.fits
     ∙ ap (λ (kinds : List Kind). length kinds) v.kinds ∙ (ap (λ (w : Whole). length w.kinds) c.self.view_is)) c.requires.fits
 
 pub make_next-requires-clause-in_range : goal.make_next-requires-clause-in_range
 make_next-requires-clause-in_range c =
-    let sets = sets_of c.args.sweep.now.kind.now in
+    let sets = sets_of c.args.sweep.now.kind in
     let pred = c.args.sweep.now.pred.now in
     let viewer = c.args.sweep.now.viewer.now in
     let olds = c.self.inside.positions.places in
@@ -84,7 +84,7 @@ make_next-requires-clause-in_range c =
 
 pub write_at-requires-clause-within : goal.write_at-requires-clause-within
 write_at-requires-clause-within c =
-    let sets = sets_of c.args.sweep.now.kind.now in
+    let sets = sets_of c.args.sweep.now.kind in
     let pred = c.args.sweep.now.pred.now in
     let viewer = c.args.sweep.now.viewer.now in
     let olds = c.self.inside.positions.places in
@@ -103,7 +103,7 @@ write_at-requires-clause-within c =
 
 pub write_at-requires-clause-live : goal.write_at-requires-clause-live
 write_at-requires-clause-live c =
-    let sets = sets_of c.args.sweep.now.kind.now in
+    let sets = sets_of c.args.sweep.now.kind in
     let pred = c.args.sweep.now.pred.now in
     let viewer = c.args.sweep.now.viewer.now in
     let olds = c.self.inside.positions.places in
@@ -136,11 +136,11 @@ write_at-requires-clause-fits c =
     let v = c.loop-i.invariant in
     let kinds : c.args.self.now.kinds ≡ c.loop-i.self-inside.positions.kinds = sym (v.kinds ∙ ap (λ (w : Whole). w.kinds) c.self.view_is) in
     c.make_next.ensures.fits c.loop-i.self-inside.positions.kinds c.args.self.now.shown.key c.see.ensures.fits
-    (subst (λ (ks : List Kind). FitsWrite ks c.args.self.now.shown.key c.args.sweep.now.kind.now) kinds c.requires.fits)
+    (subst (λ (ks : List Kind). FitsWrite ks c.args.self.now.shown.key c.args.sweep.now.kind) kinds c.requires.fits)
 
 pub write_at-requires-clause-same_key : goal.write_at-requires-clause-same_key
 write_at-requires-clause-same_key c =
-    let sets = sets_of c.args.sweep.now.kind.now in
+    let sets = sets_of c.args.sweep.now.kind in
     let pred = c.args.sweep.now.pred.now in
     let viewer = c.args.sweep.now.viewer.now in
     let olds = c.self.inside.positions.places in
@@ -174,7 +174,7 @@ write_at-requires-clause-same_key c =
 
 pub overflow_add-pos : goal.overflow_add-pos
 overflow_add-pos c =
-    let sets = sets_of c.args.sweep.now.kind.now in
+    let sets = sets_of c.args.sweep.now.kind in
     let pred = c.args.sweep.now.pred.now in
     let viewer = c.args.sweep.now.viewer.now in
     let olds = c.self.inside.positions.places in
@@ -223,7 +223,7 @@ note-requires-clause-texts_after c =
 
 pub overflow_add-written : goal.overflow_add-written
 overflow_add-written c =
-    let sets = sets_of c.args.sweep.now.kind.now in
+    let sets = sets_of c.args.sweep.now.kind in
     let pred = c.args.sweep.now.pred.now in
     let viewer = c.args.sweep.now.viewer.now in
     let olds = c.self.inside.positions.places in
@@ -242,7 +242,7 @@ overflow_add-written c =
 
 pub loop-i-init : goal.loop-i-init
 loop-i-init c =
-    let sets = sets_of c.args.sweep.now.kind.now in
+    let sets = sets_of c.args.sweep.now.kind in
     let pred = c.args.sweep.now.pred.now in
     let viewer = c.args.sweep.now.viewer.now in
     let olds = c.self.inside.positions.places in
@@ -277,7 +277,7 @@ loop-i-init c =
 
 pub loop-i-preserved-then-not-is_selected : goal.loop-i-preserved-then-not-is_selected
 loop-i-preserved-then-not-is_selected c =
-    let sets = sets_of c.args.sweep.now.kind.now in
+    let sets = sets_of c.args.sweep.now.kind in
     let pred = c.args.sweep.now.pred.now in
     let viewer = c.args.sweep.now.viewer.now in
     let olds = c.self.inside.positions.places in
@@ -332,7 +332,7 @@ loop-i-preserved-then-not-is_selected c =
 
 pub loop-i-preserved : goal.loop-i-preserved
 loop-i-preserved c =
-    let sets = sets_of c.args.sweep.now.kind.now in
+    let sets = sets_of c.args.sweep.now.kind in
     let pred = c.args.sweep.now.pred.now in
     let viewer = c.args.sweep.now.viewer.now in
     let olds = c.self.inside.positions.places in
@@ -401,7 +401,7 @@ loop-i-preserved c =
 
 pub touch-requires-clause-uncommitted : goal.touch-requires-clause-uncommitted
 touch-requires-clause-uncommitted c =
-    let sets = sets_of c.args.sweep.now.kind.now in
+    let sets = sets_of c.args.sweep.now.kind in
     let pred = c.args.sweep.now.pred.now in
     let viewer = c.args.sweep.now.viewer.now in
     let olds = c.self.inside.positions.places in
@@ -420,7 +420,7 @@ touch-requires-clause-uncommitted c =
 
 pub touch-requires-clause-unpruned : goal.touch-requires-clause-unpruned
 touch-requires-clause-unpruned c =
-    let sets = sets_of c.args.sweep.now.kind.now in
+    let sets = sets_of c.args.sweep.now.kind in
     let pred = c.args.sweep.now.pred.now in
     let viewer = c.args.sweep.now.viewer.now in
     let olds = c.self.inside.positions.places in
@@ -439,7 +439,7 @@ touch-requires-clause-unpruned c =
 
 pub returns-clause-done : goal.returns-clause-done
 returns-clause-done c =
-    let sets = sets_of c.args.sweep.now.kind.now in
+    let sets = sets_of c.args.sweep.now.kind in
     let pred = c.args.sweep.now.pred.now in
     let viewer = c.args.sweep.now.viewer.now in
     let olds = c.self.inside.positions.places in
@@ -460,7 +460,7 @@ returns-clause-done c =
 
 pub returns-clause-levels : goal.returns-clause-levels
 returns-clause-levels c =
-    let sets = sets_of c.args.sweep.now.kind.now in
+    let sets = sets_of c.args.sweep.now.kind in
     let pred = c.args.sweep.now.pred.now in
     let viewer = c.args.sweep.now.viewer.now in
     let olds = c.self.inside.positions.places in

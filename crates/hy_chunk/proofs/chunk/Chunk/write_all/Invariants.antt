@@ -15,10 +15,10 @@ invariant-loop-i l = record {
   next : length l.self-inside.next.row ≡ length l.initial.self-inside.positions.kinds;
   wide : length l.self-inside.seen.row ≡ length l.initial.self-inside.positions.kinds;
   settles : Settles l.self-inside.settled l.self-inside.positions.places;
-  sweep : SweptTo (sets_of l.sweep.kind.now) l.sweep.pred.now l.sweep.viewer.now l.label l.initial.self-inside.table l.initial.self-inside.first
+  sweep : SweptTo (sets_of l.sweep.kind) l.sweep.pred.now l.sweep.viewer.now l.label l.initial.self-inside.table l.initial.self-inside.first
       l.initial.self-inside.positions.places l.initial.changes.notes l.self-inside.positions.places l.changes.notes l.written
       (reach l.sweep.places.now l.initial.self-inside.positions.places l.i);
-  levels : InLevels (sets_of l.sweep.kind.now) l.sweep.pred.now l.sweep.viewer.now l.label l.initial.self-inside.table l.initial.self-inside.first
+  levels : InLevels (sets_of l.sweep.kind) l.sweep.pred.now l.sweep.viewer.now l.label l.initial.self-inside.table l.initial.self-inside.first
       l.initial.self-inside.positions.places l.initial.changes.notes l.initial.changes.levels l.changes.levels
       (reach l.sweep.places.now l.initial.self-inside.positions.places l.i);
   room : l.initial.self-inside.positions.room ≤ l.self-inside.positions.room + l.i;

@@ -5,7 +5,7 @@ use Rattle.hy_chunk.specs.Views.{Whole, with_places}
 use Rattle.hy_chunk.specs.Writes.{sets_of}
 use Rattle.hy_engine_tests.specs.Ready.{IsReady}
 use Rattle.hy_engine_tests.proofs.Wholes.{after_reserve, write_ready, after_write_call}
-use Rattle.hy_engine_tests.proofs.tried.Tried.write.Goals as goal
+use Rattle.hy_engine_tests.proofs.tried.Tried.write_rows.Goals as goal
 
 pub write-requires-clause-wide : goal.write-requires-clause-wide
 write-requires-clause-wide c =
@@ -26,7 +26,7 @@ write-requires-clause-fits c =
     let reserved : c.reserve.new.self ≡ with_places c.self.inside.chunk c.self.inside.chunk.shown.places c.reserve.new.self.room =
     subst (λ (w : Whole). c.reserve.new.self ≡ with_places w w.shown.places c.reserve.new.self.room) c.find_candidates.ensures.all c.reserve.ensures.all in
     let ready = after_reserve c.self.inside.next c.self.inside.chunk c.reserve.new.self c.self.invariant reserved in
-    write_ready c.self.inside.next c.reserve.new.self ready c.in_ok-kind.kind c.in_ok-kind.ensures
+    write_ready c.self.inside.next c.reserve.new.self ready c.args.kind c.requires
 
 pub invariant_of-self : goal.invariant_of-self
 invariant_of-self c = subst (IsReady c.self.inside.next) (sym c.find_candidates.ensures.all) c.self.invariant
@@ -44,7 +44,7 @@ pub invariant_of-self-2 : goal.invariant_of-self-2
 invariant_of-self-2 c =
     let reserved : c.reserve.new.self ≡ with_places c.self.inside.chunk c.self.inside.chunk.shown.places c.reserve.new.self.room =
     subst (λ (w : Whole). c.reserve.new.self ≡ with_places w w.shown.places c.reserve.new.self.room) c.find_candidates.ensures.all c.reserve.ensures.all in
-    after_write_call _ c.write.result (sets_of c.in_ok-kind.kind) c.in_ok-pred.pred c.args.open.now.viewer c.args.open.now.label
+    after_write_call _ c.write.result (sets_of c.args.kind) c.args.pred.now c.args.open.now.viewer c.args.open.now.label
     c.reserve.new.self.shown.table c.reserve.new.self.shown.first c.self.inside.next c.self.inside.chunk c.reserve.new.self c.write.new.self
     c.in_ok-changes.changes.notes c.write.new.changes.notes c.in_ok-check_times.ensures.start c.in_ok-check_times.ensures.id c.self.invariant
     reserved c.write.ensures.all c.write.ensures.done c.write.ensures.kept

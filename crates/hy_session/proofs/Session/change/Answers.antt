@@ -22,8 +22,8 @@ use Rattle.hy_session.proofs.OpenVisits.{closed, event_moves, stamped, undone, w
 use Rattle.hy_session.proofs.Dispatch.{close_prunes_nothing, statement_is}
 use Rattle.hy_session.proofs.ShortChains.{leaves_at, leaves_others, leaves_stamped, leaving_moves}
 use Rattle.hy_session.proofs.Results.{got, got_none, ok_gives}
-use Rattle.hy_session.proofs.Session.change_by.Goals as goal
-use Rattle.hy_session.proofs.Session.change_by.Goals.{in-Working+in-Some-get, in-Working+in-None, in-Stamping, in-Undoing}
+use Rattle.hy_session.proofs.Session.change.Goals as goal
+use Rattle.hy_session.proofs.Session.change.Goals.{in-Working+in-Some-get, in-Working+in-None, in-Stamping, in-Undoing}
 
 abbrev visitor_at : goal.Joined-now → Visitor
 visitor_at c = record {

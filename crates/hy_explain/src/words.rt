@@ -62,7 +62,7 @@ fn session_name(sessions: &[NamedTxns], number: u32) -> &[u8]
     ensures { result.now ≡ session_name sessions.now number }
 {
     match sessions.get(number as usize) {
-        Some(session) => session.name.as_bytes(),
+        Some(session) => session.name.text().as_bytes(),
         None => &[],
     }
 }

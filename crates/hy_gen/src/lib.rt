@@ -11,7 +11,7 @@ mod statements;
 mod transactions;
 
 use draws::Draws;
-use hy_bound::StoredRows;
+use hy_bound::{Name, StoredRows};
 use hy_schema::{AddError, Catalog, Column, TableDef};
 use hy_script::{NamedTxns, Options, Script};
 use hy_value::{Kind, RowBuffer, Seq, StoredRow, Text};
@@ -125,11 +125,11 @@ fn account_row(alloc: Global, account: u32) -> StoredRow
 }
 
 /// The name of a session.
-fn name_session(alloc: Global, number: u32) -> Result<Text, AllocError>
+fn name_session(alloc: Global, number: u32) -> Result<Name, AllocError>
     ensures { IfOk result (λ name. name ≡ session_name number) }
 {
     let bytes = format!(in alloc; "s{number}")?;
-    Ok(name(alloc, bytes.as_bytes()))
+    Name::new(alloc, name(alloc, bytes.as_bytes()))
 }
 
 /// Makes the sessions, one after another.

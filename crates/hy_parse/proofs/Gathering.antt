@@ -1,15 +1,15 @@
 -- The pieces of a statement, gathered one by one.
-use Rattle.std.proofs.Common.{◌≡◌, ℕ, zero, suc, ◌-◌, ◌+◌, ◌<◌, ◌≤◌, true, false, List, [], ◌∷◌, ◌++◌, Result, Ok, Err, refl, sym, ap, ◌∙◌, append_assoc, arith}
+use Rattle.std.proofs.Common.{◌≡◌, ℕ, zero, suc, ◌-◌, ◌+◌, ◌<◌, false, List, [], ◌∷◌, ◌++◌, Result, Ok, Err, refl, sym, ap, ◌∙◌, append_assoc, arith}
 use Rattle.std.proofs.lemmas.List.{append-nil}
-use Rattle.hy_token.specs.Token.{token_at, LiesWithin}
+use Rattle.hy_token.specs.Token.{token_at}
 use Rattle.hy_token.specs.declared.Bad.{Bad}
 use Rattle.hy_token.specs.declared.Sign.TheVariants.{Semicolon}
 use Rattle.hy_token.specs.declared.Span.{Span}
 use Rattle.hy_token.specs.declared.Token.{Token}
 use Rattle.hy_token.specs.declared.Token.TheVariants.{Sign, End}
 use Rattle.hy_parse.specs.declared.Piece.{Piece}
-use Rattle.hy_parse.specs.declared.Ending.TheVariants.{Closed, Cut, Bad as BadEnding}
-use Rattle.std.specs.Prelude.{length, IfOk}
+use Rattle.hy_parse.specs.declared.Ending.TheVariants.{Bad as BadEnding}
+use Rattle.std.specs.Prelude.{length}
 use Rattle.hy_parse.specs.Pieces.{Pieces, piece_of, ended, preceded, continued, pieces_within, most_pieces, pieces_of}
 use Rattle.hy_parse.specs.Reading.{same}
 
@@ -27,21 +27,12 @@ unfolding pieces_within
 gathered_at zero bytes at = refl
 gathered_at (suc most) bytes at = refl
 
--- a token that was found ends in the script
-pub ends_within : (len at : ℕ) (found : Result (Token × Span) Bad) → IfOk found (λ f. LiesWithin len at f.1) → IfOk found (λ f. f.1.end ≤ len)
-ends_within len at (Ok found) lies = lies.within
-ends_within len at (Err bad) lies = tt
+-- no piece is gathered from what is no token
+gathered_bad : (most : ℕ) (bytes : List ℕ) (bad : Bad) → gathered most bytes (Err bad) ≡ ended (Err bad)
+gathered_bad zero bytes bad = refl
+gathered_bad (suc most) bytes bad = refl
 
 -- ---- one step
-
-is_end : (token : Token) (span : Span) (others : ℕ → Pieces) → same End token ≡ true → continued (Ok (token, span)) others ≡ ended (Ok (token, span))
-is_end End span others is = refl
-is_end (Sign Semicolon) span others is = absurd cc
-is_end _ span others is = absurd cc
-
-is_last : (token : Token) (span : Span) (others : ℕ → Pieces) → same (Sign Semicolon) token ≡ true → continued (Ok (token, span)) others ≡ record { pieces = piece_of token span ∷ []; ending = Closed span.end }
-is_last (Sign Semicolon) span others is = refl
-is_last _ span others is = absurd cc
 
 is_within : (token : Token) (span : Span) (others : ℕ → Pieces) → same End token ≡ false → same (Sign Semicolon) token ≡ false → continued (Ok (token, span)) others ≡ preceded (piece_of token span) (others span.end)
 is_within (Sign Semicolon) span others no_end no_last = absurd cc
@@ -66,23 +57,11 @@ module _ (bytes : List ℕ) (front : List Piece) (total : Pieces) where
   whole (Ok found) is = (sym (append-nil front) ∙ ap (λ (p : Pieces). p.pieces) is, ap (λ (p : Pieces). p.ending) is)
   whole (Err bad) is = (sym (append-nil front) ∙ ap (λ (p : Pieces). p.pieces) is, ap (λ (p : Pieces). p.ending) is)
 
-  pub at_bad : (most i : ℕ) (found : Result (Token × Span) Bad) (bad : Bad) → i < most → found ≡ Err bad → behind front (gathered (most - i) bytes found) ≡ total → (front ≡ total.pieces) × (BadEnding bad.at ≡ total.ending)
-  at_bad most i found bad lt is so_far = whole (Err bad) (rw is at (step most i found lt so_far))
-
-  pub at_end : (most i : ℕ) (found : Result (Token × Span) Bad) (token : Token) (span : Span) → i < most → found ≡ Ok (token, span) → true ≡ same End token → behind front (gathered (most - i) bytes found) ≡ total → (front ≡ total.pieces) × (Cut span.start ≡ total.ending)
-  at_end most i found token span lt is last so_far = whole (Ok (token, span)) (rw (is_end token span _ (sym last)) at (rw is at (step most i found lt so_far)))
-
-  pub at_last : (most i : ℕ) (found : Result (Token × Span) Bad) (token : Token) (span : Span) (new : List Piece) → i < most → found ≡ Ok (token, span) → new ≡ front ++ piece_of token span ∷ [] → true ≡ same (Sign Semicolon) token
-      → behind front (gathered (most - i) bytes found) ≡ total → (new ≡ total.pieces) × (Closed span.end ≡ total.ending)
-  at_last most i found token span new lt is pushed last so_far =
-      let known = rw (is_last token span _ (sym last)) at (rw is at (step most i found lt so_far)) in
-      (pushed ∙ ap (λ (p : Pieces). p.pieces) known, ap (λ (p : Pieces). p.ending) known)
+  pub at_bad : (most : ℕ) (found : Result (Token × Span) Bad) (bad : Bad) → found ≡ Err bad → behind front (gathered most bytes found) ≡ total → (front ≡ total.pieces) × (BadEnding bad.at ≡ total.ending)
+  at_bad most found bad is so_far = whole (Err bad) (rw (gathered_bad most bytes bad) at (rw is at so_far))
 
   pub at_piece : (most i : ℕ) (found next : Result (Token × Span) Bad) (token : Token) (span : Span) (new : List Piece) → i < most → found ≡ Ok (token, span) → new ≡ front ++ piece_of token span ∷ [] → false ≡ same End token → false ≡ same (Sign Semicolon) token
       → next ≡ token_at bytes span.end → behind front (gathered (most - i) bytes found) ≡ total → behind new (gathered (most - (i + 1)) bytes next) ≡ total
   at_piece most i found next token span new lt is pushed no_end no_last is_next so_far =
       let known = rw (is_within token span _ (sym no_end) (sym no_last)) at (rw is at (step most i found lt so_far)) in
       rw (is_next, gathered_at (most - (i + 1)) bytes span.end, pushed, append_assoc) known
-
-  pub at_most : (most i : ℕ) (found : Result (Token × Span) Bad) → most ≤ i → behind front (gathered (most - i) bytes found) ≡ total → (front ≡ total.pieces) × ((ended found).ending ≡ total.ending)
-  at_most most i found le so_far = let k : most - i ≡ 0 = omega arith in whole found (rw k at so_far)

@@ -2,7 +2,7 @@
 
 ghost use Rattle.std.specs.Prelude.{◌≡◌, ◌≤◌, length, IfOk};
 ghost use Rattle.hy_token.specs.Token.{token_at};
-ghost use Rattle.hy_parse.specs.Pieces.{most_pieces, ended, pieces_of};
+ghost use Rattle.hy_parse.specs.Pieces.{most_pieces, pieces_of};
 
 use crate::cursor::is_same;
 use crate::{Ending, Piece};
@@ -22,18 +22,9 @@ fn most_pieces(len: usize, first: Result<(Token, Span), Bad>) -> usize
     }
 }
 
-/// What follows where no piece may, by what stands there.
-fn no_more(found: Result<(Token, Span), Bad>) -> Ending
-    ensures { result ≡ (ended found).ending }
-{
-    match found {
-        Ok((_, span)) => Ending::Cut { at: span.start },
-        Err(bad) => Ending::Bad { at: bad.at },
-    }
-}
-
 /// Puts the pieces of the statement that begins at the first token from `at` on, which is `first`, in place of
 /// those that are there, and gives what follows them.
+#[inline(never)]
 pub fn pieces(
     bytes: &[u8],
     at: usize,
@@ -46,12 +37,12 @@ pub fn pieces(
 {
     tokens_move_on();
     pieces.clear();
-    let mut found = first;
+    let mut found = match first {
+        Ok(found) => found,
+        Err(bad) => return Ok(Ending::Bad { at: bad.at }),
+    };
     for _ in 0..most_pieces(bytes.len(), first) {
-        let (token, span) = match found {
-            Ok(found) => found,
-            Err(bad) => return Ok(Ending::Bad { at: bad.at }),
-        };
+        let (token, span) = found;
         if is_same(Token::End, token) {
             return Ok(Ending::Cut { at: span.start });
         }
@@ -59,7 +50,10 @@ pub fn pieces(
         if is_same(Token::Sign(Sign::Semicolon), token) {
             return Ok(Ending::Closed { at: span.end });
         }
-        found = next(bytes, span.end);
+        found = match next(bytes, span.end) {
+            Ok(found) => found,
+            Err(bad) => return Ok(Ending::Bad { at: bad.at }),
+        };
     }
-    Ok(no_more(found))
+    Ok(Ending::Cut { at: found.1.start })
 }

@@ -8,10 +8,10 @@ ghost use Rattle.hy_script.specs.declared.Refused.{Refused};
 ghost use Rattle.hy_script.specs.Reading.{Reads, Answers, Says, error_of_halt};
 
 use hy_ast::Statement;
-use hy_bound::{Schedule, StoredRows, Txns};
+use hy_bound::{Name, Schedule, StoredRows, Txns};
 use hy_limits::MOST_BYTES;
 use hy_schema::Catalog;
-use hy_value::{Seq, Text};
+use hy_value::Seq;
 use std::alloc::{AllocError, Global};
 
 mod codes;
@@ -48,7 +48,7 @@ pub struct Options {
 #[derive(Drop)]
 pub struct NamedTxns {
     /// The session's name.
-    pub name: Text,
+    pub name: Name,
     /// Its transactions, in order.
     pub txns: Txns,
 }

@@ -128,6 +128,7 @@ impl Keyword {
 }
 
 /// The reserved word of this many letters, at most eight, whose letters in lower case are this number: 0x61 is `a`.
+#[inline(always)]
 pub fn reserved(len: usize, letters: u64) -> Option<Keyword>
     ensures { result ≡ reserved len letters }
 {

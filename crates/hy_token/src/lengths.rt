@@ -1,6 +1,6 @@
 // How many bytes of each kind stand first.
 
-ghost use Rattle.std.specs.Prelude.{◌≡◌, ◌≤◌, length, IfSome};
+ghost use Rattle.std.specs.Prelude.{◌≡◌, ◌+◌, ◌<◌, ◌≤◌, length, drop, IfSome, IfNone};
 ghost use Rattle.hy_token.specs.Lengths.{is_space, separates, is_within_line, piece_len, begins_word, small, blank_len, digits_len, text_rest_len};
 ghost use Rattle.hy_token.specs.Letters.{word_on};
 ghost use Rattle.std.specs.List.{prefix_len};
@@ -130,6 +130,9 @@ const SMALL: [u8; 256] = [
     0, 0, 0, 0, 0, 0, 0,
 ];
 
+/// As many letters are told by a number of 64 bits.
+pub const MOST_LETTERS: usize = 8;
+
 /// A byte that a word goes on with in lower case, and 0 for any other.
 fn small(byte: u8) -> u8
     ensures { result ≡ small byte }
@@ -137,18 +140,69 @@ fn small(byte: u8) -> u8
     SMALL[byte as usize]
 }
 
+/// The number of letters that the byte at this place adds one to, if a word goes on with it.
+#[inline(always)]
+fn more(bytes: &[u8], at: usize, letters: u64) -> Option<u64>
+    requires { at < length bytes.now }
+    ensures some { IfSome result (λ more. word_on (at + 1) more (drop (at + 1) bytes.now) ≡ word_on at letters (drop at bytes.now)) }
+    ensures none { IfNone result (word_on at letters (drop at bytes.now) ≡ (at, letters)) }
+{
+    let small = small(bytes[at]);
+    if small == 0 {
+        return None;
+    }
+    Some(letters.wrapping_mul(256).wrapping_add(u64::from(small)))
+}
+
 /// A word's bytes, and the number that they are in lower case, the first weighing most: up to eight bytes are told by it.
+/// Most words have fewer: the length of each of them is known where it ends, and so is which reserved words have it.
+#[inline(always)]
 pub fn word_with_letters(bytes: &[u8]) -> (usize, u64)
     ensures { result ≡ word_on 0 0 bytes.now }
 {
-    let mut len = 0;
-    let mut letters: u64 = 0;
+    if bytes.len() < MOST_LETTERS {
+        return longer_word(bytes, 0, 0);
+    }
+    let Some(one) = more(bytes, 0, 0) else {
+        return (0, 0);
+    };
+    let Some(two) = more(bytes, 1, one) else {
+        return (1, one);
+    };
+    let Some(three) = more(bytes, 2, two) else {
+        return (2, two);
+    };
+    let Some(four) = more(bytes, 3, three) else {
+        return (3, three);
+    };
+    let Some(five) = more(bytes, 4, four) else {
+        return (4, four);
+    };
+    let Some(six) = more(bytes, 5, five) else {
+        return (5, five);
+    };
+    let Some(seven) = more(bytes, 6, six) else {
+        return (6, six);
+    };
+    let Some(eight) = more(bytes, 7, seven) else {
+        return (7, seven);
+    };
+    longer_word(bytes, MOST_LETTERS, eight)
+}
+
+/// A word of which so many bytes are seen, which are this number, with what goes on with it.
+#[inline(never)]
+fn longer_word(bytes: &[u8], seen: usize, letters: u64) -> (usize, u64)
+    requires { seen ≤ length bytes.now }
+    ensures { result ≡ word_on seen letters (drop seen bytes.now) }
+{
+    let mut len = seen;
+    let mut letters = letters;
     while len < bytes.len() {
-        let small = small(bytes[len]);
-        if small == 0 {
+        let Some(letters_on) = more(bytes, len, letters) else {
             return (len, letters);
-        }
-        letters = letters.wrapping_mul(256).wrapping_add(u64::from(small));
+        };
+        letters = letters_on;
         len += 1;
     }
     (len, letters)

@@ -30,6 +30,7 @@ impl Sign {
     }
 
     /// The longest sign that stands first.
+    #[inline(always)]
     pub fn first(bytes: &[u8]) -> Option<Sign>
         ensures { result ≡ sign_of bytes.now }
     {

@@ -6,16 +6,16 @@ ghost use Rattle.hy_token.specs.Lengths.{word_len};
 ghost use Rattle.hy_token.specs.Token.{first_word, first_text, first_sign, first_token, token_at};
 
 use crate::keywords::reserved;
-use crate::lengths::{begins_word, blank_len, digits_len, text_rest_len, word_with_letters};
+use crate::lengths::{
+    MOST_LETTERS, begins_word, blank_len, digits_len, text_rest_len, word_with_letters,
+};
 use crate::{Bad, Keyword, Sign, Span, Token};
 
 // A word of more bytes is no token.
 const LONGEST_WORD: usize = 32;
 
-// As many letters are told by a number of 64 bits.
-const MOST_LETTERS: usize = 8;
-
 /// How many bytes the word has that stands first, and the reserved word that it is, if it is one.
+#[inline(always)]
 fn first_keyword(bytes: &[u8]) -> (usize, Option<Keyword>)
     ensures len { result.0 ≡ word_len bytes.now }
     ensures keyword { result.1 ≡ keyword_of (take (word_len bytes.now) bytes.now) }
@@ -29,6 +29,7 @@ fn first_keyword(bytes: &[u8]) -> (usize, Option<Keyword>)
 }
 
 /// The word that stands first, and how many bytes it takes.
+#[inline(always)]
 fn first_word(bytes: &[u8]) -> Option<(Token, usize)>
     ensures { result ≡ first_word bytes.now }
 {
@@ -49,6 +50,7 @@ fn first_text(bytes: &[u8]) -> Option<(Token, usize)>
 }
 
 /// The sign that stands first.
+#[inline(always)]
 fn first_sign(bytes: &[u8]) -> Option<(Token, usize)>
     ensures { result ≡ first_sign bytes.now }
 {
@@ -57,6 +59,7 @@ fn first_sign(bytes: &[u8]) -> Option<(Token, usize)>
 }
 
 /// The token that stands first, where no space and no comment does, and how many bytes it takes.
+#[inline(always)]
 #[tactic(auto, unfolding(crate::specs::Token::first_token))]
 pub fn first_token(bytes: &[u8]) -> Option<(Token, usize)>
     ensures { result ≡ first_token bytes.now }

@@ -85,7 +85,7 @@ fn session_names(alloc: Global, sessions: &[NamedTxns]) -> Result<Texts, AllocEr
 {
     let mut names = Seq::new(alloc);
     for session in sessions {
-        names.push(session.name.copy())?;
+        names.push(session.name.text().copy())?;
     }
     Ok(names)
 }

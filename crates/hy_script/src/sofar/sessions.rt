@@ -13,7 +13,7 @@ use crate::judging::judge;
 use crate::sofar::{OpenTxn, Section, SoFar};
 use hy_ast::Statement;
 use hy_bind::{text, text_in};
-use hy_bound::{SavedName, Statements, Txn, Txns, keep_open};
+use hy_bound::{Name, SavedName, Statements, Txn, Txns, keep_open};
 use hy_limits::{MOST_SESSIONS, MOST_TXNS};
 use hy_token::Span;
 use hy_value::Seq;
@@ -100,7 +100,7 @@ impl SoFar {
             self.end_session()?;
             self.names.add(alloc, written)?;
             self.section = Section::Between(NamedTxns {
-                name: text(alloc, written),
+                name: Name::new(alloc, text(alloc, written))?,
                 txns: Seq::new(alloc),
             });
         }

@@ -453,10 +453,13 @@ impl Chunk {
         ensures err { OnErr result (gathered.new.rows ≡ gathered.old.rows) }
         ensures width { gathered.new.width ≡ gathered.old.width }
     {
+        if part.first == part.end {
+            return Ok(());
+        }
         self.positions.rows_fit();
-        let places = self.positions.plain_places(alloc, mask, part)?;
         let columns = columns_in(alloc, wanted.columns, self.positions.width())?;
-        gathered.add_placed(&self.positions, places.as_slice(), columns.as_slice())
+        let places = self.positions.plain_places(mask, part);
+        gathered.add_placed(&self.positions, &places, columns.as_slice())
     }
 
     /// Appends, position by position, what is wanted without keys of the rows that a viewer sees, by a mask that tells

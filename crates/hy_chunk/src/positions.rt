@@ -32,7 +32,7 @@ use hy_chain::{Chains, Image};
 use hy_column::Columns;
 use hy_index::{Found, KeyIndex};
 use hy_kernel::Mask;
-use hy_plan::PlacedRows;
+use hy_plan::{PlacedRows, Places};
 use hy_prune::Cover;
 use hy_range::Versioned;
 use hy_stamp::{Label, Stamp, Viewer};
@@ -90,6 +90,40 @@ pub struct Part {
     pub first: usize,
     /// One past the last position.
     pub end: usize,
+}
+
+/// The positions of a part for which a mask has its bit set and a row is in place, in order. Contracts see the list of them.
+#[derive(Drop)]
+pub struct PlainPlaces<'a> {
+    mask: &'a Mask,
+    /// Where no row is in place.
+    vacant: &'a Mask,
+    part: Part,
+}
+
+impl<'a> Model for PlainPlaces<'a> {
+    ghost use Rattle.std.specs.Prelude.{List, ℕ};
+    ghost use Rattle.hy_kernel.specs.Bits.{places_without};
+    ghost use Rattle.hy_chunk.specs.Parts.{IsCovered};
+
+    ghost Value = { List ℕ };
+
+    ghost view = { λ a. places_without a.mask.now a.vacant.now a.part.first a.part.end };
+
+    ghost invariant = { λ a. IsCovered a.mask.now a.vacant.now a.part.end };
+}
+
+impl Places for PlainPlaces<'_> {
+    ghost places = { λ places. places };
+
+    fn list(&self, alloc: Global) -> Result<Vec<u32>, AllocError> {
+        self.mask
+            .places_without(self.vacant, alloc, self.part.first, self.part.end)
+    }
+
+    fn pick(&self, alloc: Global, numbers: &[i64]) -> Result<Vec<i64>, AllocError> {
+        self.mask.pick_without(self.vacant, alloc, numbers, self.part.first, self.part.end)
+    }
 }
 
 impl PlacedRows for Positions {
@@ -656,22 +690,19 @@ impl Positions {
         self.live[place]
     }
 
-    /// The positions of a part for which a mask has its bit set and a row is in place, in order. Err is for want of
-    /// memory.
-    pub fn plain_places(
-        &self,
-        alloc: Global,
-        mask: &Mask,
-        part: Part,
-    ) -> Result<Vec<u32>, AllocError>
+    /// The positions of a part for which a mask has its bit set and a row is in place, in order.
+    pub fn plain_places<'a>(&'a self, mask: &'a Mask, part: Part) -> PlainPlaces<'a>
         requires mask { length mask.now ≡ length self.now.places }
         requires ordered { part.first ≤ part.end }
         requires within { part.end ≤ length self.now.places }
         requires numbered { part.end < 2 ^ 32 }
-        ensures { IfOk result (λ found. found.items
-            ≡ places_set mask.now part.first part.end self.now.places) }
+        ensures { result ≡ places_set mask.now part.first part.end self.now.places }
     {
-        mask.places_without(self.vacant.bits(), alloc, part.first, part.end)
+        PlainPlaces {
+            mask,
+            vacant: self.vacant.bits(),
+            part,
+        }
     }
 
     /// Whether a column is the key.

@@ -1,13 +1,14 @@
 -- The places of the bits that are set, in order, word by word.
-use Rattle.std.proofs.Common.{◌≡◌, ◌≢◌, ℕ, zero, suc, ◌+◌, ◌-◌, ◌*◌, ◌^◌, ◌<◌, ◌≤◌, Bool, true, false, cond, List, [], ◌∷◌, ◌++◌, length, get_or, refl, sym, ap, ◌∙◌, arith, inl, inr}
+use Rattle.std.proofs.Common.{◌≡◌, ◌≢◌, ℕ, ℤ, pos, zero, suc, ◌+◌, ◌-◌, ◌*◌, ◌^◌, ◌<◌, ◌≤◌, Bool, true, false, cond, List, [], ◌∷◌, ◌++◌, length, get_or, refl, sym, ap, ◌∙◌, arith, inl, inr}
 use Rattle.std.specs.Prelude.{◌==◌, ◌&&◌, not, min, nat_lt, filter, bit_and, IfOk, Result, Ok, Err}
-use Rattle.std.specs.List.{range_with_len}
+use Rattle.std.specs.List.{All, range_with_len}
 use Rattle.std.specs.Int.{bit_at, bit_not, trailing_zeros, w64}
 use Rattle.std.proofs.lemmas.Bool.{cases_lt, cases_eq, lt-ltb, le-ltb}
-use Rattle.std.proofs.lemmas.List.{append-nil, append_assoc}
-use Rattle.std.proofs.lemmas.List.Elements.{filter-append}
+use Rattle.std.proofs.Math.Seq.{drop-append_seam, take-append_seam}
+use Rattle.std.proofs.lemmas.List.{append-nil, append_assoc, map-append}
+use Rattle.std.proofs.lemmas.List.Elements.{All-drop, All-same, All-take, filter-append}
 use Rattle.std.proofs.lemmas.Nat.Bits.{bit_at_and, bit_at-lt, bit_at-zero, bit_at_not, bit_at_ones, bit_at_ones_above, bit_at-trailing_zeros}
-use Rattle.hy_kernel.specs.Bits.{is_bit, bits_below, is_set_from, places_of_word}
+use Rattle.hy_kernel.specs.Bits.{is_bit, is_kept, bits_below, is_set_from, places_kept, places_of_word, places_without, values_at}
 use Rattle.hy_kernel.proofs.Joining.{both, turned}
 use Rattle.hy_kernel.proofs.Listed.{bit_of}
 use Rattle.hy_kernel.proofs.Lowest.{bit_here, cleared_other, cleared_same}
@@ -109,14 +110,14 @@ unfolding places_of_word
 few_in_word word first = kept_few (is_set_from word first) first 64
 
 -- one place more is found
-pub one_found : (found now rest left whole : List ℕ) (place : ℕ) → now ≡ found ++ place ∷ [] → rest ≡ place ∷ left → found ++ rest ≡ whole → now ++ left ≡ whole
-one_found found now rest left whole place pushed is so =
-    ap (λ (xs : List ℕ). xs ++ left) pushed
-    ∙ (append_assoc found (place ∷ []) left ∙ (ap (λ (xs : List ℕ). found ++ xs) (sym is) ∙ so))
+pub one_found : {X : Type 0} (found now rest left whole : List X) (place : X) → now ≡ found ++ place ∷ [] → rest ≡ place ∷ left → found ++ rest ≡ whole → now ++ left ≡ whole
+one_found {X} found now rest left whole place pushed is so =
+    ap (λ (xs : List X). xs ++ left) pushed
+    ∙ (append_assoc found (place ∷ []) left ∙ (ap (λ (xs : List X). found ++ xs) (sym is) ∙ so))
 
 -- none is left
-pub all_found : (found rest whole : List ℕ) → rest ≡ [] → found ++ rest ≡ whole → found ≡ whole
-all_found found rest whole none so = sym (append-nil found) ∙ (ap (λ (xs : List ℕ). found ++ xs) (sym none) ∙ so)
+pub all_found : {X : Type 0} (found rest whole : List X) → rest ≡ [] → found ++ rest ≡ whole → found ≡ whole
+all_found {X} found rest whole none so = sym (append-nil found) ∙ (ap (λ (xs : List X). found ++ xs) (sym none) ∙ so)
 
 -- ---- a part of a word
 
@@ -152,9 +153,6 @@ part_bits word from to i fits within =
 
 -- ---- a part of a mask, without the bits of another
 
-abbrev pub kept_in : ℕ → ℕ → List ℕ → List ℕ → ℕ → Bool
-kept_in first end words others place = (not (nat_lt place first) && nat_lt place end) && (is_bit words place && not (is_bit others place))
-
 same_lt : (a b c d : ℕ) → (a < b → c < d) → (b ≤ a → d ≤ c) → nat_lt a b ≡ nat_lt c d
 same_lt a b c d below above = elim (cases_lt a b) [
   | inl less ↦ lt-ltb a b less ∙ sym (lt-ltb c d (below less))
@@ -164,7 +162,7 @@ same_lt a b c d below above = elim (cases_lt a b) [
 -- what is kept of a word
 pub kept_word : (words others : List ℕ) (first end k part i : ℕ) → get_or others k 0 < 2 ^ 64 → 64 * k ≤ i → i < 64 * k + 64
     → ((j : ℕ) → j < 64 → (bit_at part j == 1) ≡ ((not (nat_lt j (first - 64 * k)) && nat_lt j (min (end - 64 * k) 64)) && (bit_at (bit_and (get_or words k 0) (bit_not w64 (get_or others k 0))) j == 1)))
-    → is_set_from part (64 * k) i ≡ kept_in first end words others i
+    → is_set_from part (64 * k) i ≡ is_kept words others first end i
 kept_word words others first end k part i fits more less bits =
     let j = i - 64 * k in
     let within : j < 64 = omega (arith, more, less) in
@@ -189,31 +187,52 @@ kept_word words others first end k part i fits more less bits =
 
 module _ (words others : List ℕ) (first end : ℕ) where
   -- before the first word nothing is kept
-  pub none_before : (begin : ℕ) → 64 * begin ≤ first → [] ≡ filter (kept_in first end words others) (range_with_len 0 (64 * begin))
+  pub none_before : (begin : ℕ) → 64 * begin ≤ first → [] ≡ filter (is_kept words others first end) (range_with_len 0 (64 * begin))
   none_before begin low =
-      sym (none_kept (kept_in first end words others) 0 (64 * begin) (λ i more less.
+      sym (none_kept (is_kept words others first end) 0 (64 * begin) (λ i more less.
       ap (λ (b : Bool). (not b && nat_lt i end) && (is_bit words i && not (is_bit others i))) (lt-ltb i first (omega (arith, less, low)))))
 
-  -- one more word
-  pub word_more : (k part : ℕ) (before now : List ℕ) → before ≡ filter (kept_in first end words others) (range_with_len 0 (64 * k))
-      → now ≡ before ++ places_of_word part (64 * k)
-      → ((i : ℕ) → 64 * k ≤ i → i < 64 * k + 64 → is_set_from part (64 * k) i ≡ kept_in first end words others i)
-      → now ≡ filter (kept_in first end words others) (range_with_len 0 (64 * (k + 1)))
+  -- those of one word more
+  pub word_kept : (k part : ℕ) → ((i : ℕ) → 64 * k ≤ i → i < 64 * k + 64 → is_set_from part (64 * k) i ≡ is_kept words others first end i)
+      → places_of_word part (64 * k) ≡ filter (is_kept words others first end) (range_with_len (64 * k) 64)
   unfolding places_of_word
-  word_more k part before now so_far pushed same =
+  word_kept k part same = kept_alike (is_set_from part (64 * k)) (is_kept words others first end) (64 * k) 64 same
+
+  word_more : (k : ℕ)
+      → filter (is_kept words others first end) (range_with_len 0 (64 * k)) ++ filter (is_kept words others first end) (range_with_len (64 * k) 64)
+      ≡ filter (is_kept words others first end) (range_with_len 0 (64 * (k + 1)))
+  word_more k =
       let many : 64 * k + 64 ≡ 64 * (k + 1) = omega arith in
       let start : 0 + 64 * k ≡ 64 * k = omega arith in
+      ap (λ (n : ℕ). filter (is_kept words others first end) (range_with_len 0 (64 * k)) ++ filter (is_kept words others first end) (range_with_len n 64)) (sym start)
+      ∙ (sym (kept_both (is_kept words others first end) 0 (64 * k) 64)
+      ∙ ap (λ (n : ℕ). filter (is_kept words others first end) (range_with_len 0 n)) many)
+
+  -- their places behind those of the words before
+  pub places_more : (k part : ℕ) (before now : List ℕ) → before ≡ filter (is_kept words others first end) (range_with_len 0 (64 * k))
+      → now ≡ before ++ places_of_word part (64 * k)
+      → places_of_word part (64 * k) ≡ filter (is_kept words others first end) (range_with_len (64 * k) 64)
+      → now ≡ filter (is_kept words others first end) (range_with_len 0 (64 * (k + 1)))
+  places_more k part before now so_far pushed same = pushed ∙ ((λ t. so_far t ++ same t) ∙ word_more k)
+
+  -- the numbers there behind those of the words before
+  pub numbers_more : (values : List ℤ) (k part : ℕ) (before now : List ℤ)
+      → before ≡ values_at values (filter (is_kept words others first end) (range_with_len 0 (64 * k)))
+      → now ≡ before ++ values_at values (places_of_word part (64 * k))
+      → places_of_word part (64 * k) ≡ filter (is_kept words others first end) (range_with_len (64 * k) 64)
+      → now ≡ values_at values (filter (is_kept words others first end) (range_with_len 0 (64 * (k + 1))))
+  numbers_more values k part before now so_far pushed same =
+      let old = filter (is_kept words others first end) (range_with_len 0 (64 * k)) in
+      let more = filter (is_kept words others first end) (range_with_len (64 * k) 64) in
       pushed
-      ∙ ((λ t. so_far t ++ kept_alike (is_set_from part (64 * k)) (kept_in first end words others) (64 * k) 64 same t)
-      ∙ (ap (λ (n : ℕ). filter (kept_in first end words others) (range_with_len 0 (64 * k)) ++ filter (kept_in first end words others) (range_with_len n 64)) (sym start)
-      ∙ (sym (kept_both (kept_in first end words others) 0 (64 * k) 64)
-      ∙ ap (λ (n : ℕ). filter (kept_in first end words others) (range_with_len 0 n)) many)))
+      ∙ ((λ t. so_far t ++ values_at values (same t))
+      ∙ (sym (map-append (λ place. get_or values place (pos 0)) old more) ∙ ap (values_at values) (word_more k)))
 
   -- all words
   pub whole_part : (many : ℕ) → end ≤ many
-      → filter (kept_in first end words others) (range_with_len 0 many) ≡ filter (λ place. is_bit words place && not (is_bit others place)) (range_with_len first (end - first))
+      → filter (is_kept words others first end) (range_with_len 0 many) ≡ places_kept words others first end
   whole_part many all =
-      let kept : ℕ → Bool = kept_in first end words others in
+      let kept : ℕ → Bool = is_kept words others first end in
       let bare : ℕ → Bool = λ place. is_bit words place && not (is_bit others place) in
       elim (cases_lt end first) [
         | inl none ↦
@@ -242,6 +261,24 @@ module _ (words others : List ℕ) (first end : ℕ) where
             ∙ append-nil (filter bare (range_with_len first (end - first))))))))
       ]
 
+  -- what holds of all places holds of those of a word
+  pub word_within : (P : ℕ → Type 0) (k : ℕ) → All P (places_kept words others first end)
+      → All P (filter (is_kept words others first end) (range_with_len (64 * k) 64))
+  word_within P k all =
+      let kept : ℕ → Bool = is_kept words others first end in
+      let start : 0 + 64 * k ≡ 64 * k = omega arith in
+      let before = filter kept (range_with_len 0 (64 * k)) in
+      let here = filter kept (range_with_len (64 * k) 64) in
+      let behind = filter kept (range_with_len (64 * k + 64) end) in
+      let parts : before ++ (here ++ behind) ≡ places_kept words others first end =
+      ap (λ (xs : List ℕ). before ++ xs) (sym (kept_both kept (64 * k) 64 end))
+      ∙ (ap (λ (n : ℕ). before ++ filter kept (range_with_len n (64 + end))) (sym start)
+      ∙ (sym (kept_both kept 0 (64 * k) (64 + end)) ∙ whole_part (64 * k + (64 + end)) (omega arith))) in
+      let rest : All P (here ++ behind) =
+      All-same P (here ++ behind) _ (sym (drop-append_seam before (here ++ behind)))
+      (All-drop P (length before) (before ++ (here ++ behind)) (All-same P (before ++ (here ++ behind)) (places_kept words others first end) parts all)) in
+      All-same P here _ (sym (take-append_seam here behind)) (All-take P (length here) (here ++ behind) rest)
+
 -- ---- what contracts see of masks
 
 bit_in : (bits : ℕ) (words slice : List ℕ) (list : List Bool) (place : ℕ) → bits_below bits words ≡ list → slice ≡ words → place < bits → is_bit slice place ≡ get_or list place false
@@ -251,8 +288,7 @@ bit_in bits words slice list place is same l =
 -- the places of a part of a mask, without those of another
 pub masked : (bits m : ℕ) (words others slice beside : List ℕ) (xs ys : List Bool) (first end : ℕ) → bits_below bits words ≡ xs → bits_below m others ≡ ys
     → slice ≡ words → beside ≡ others → m ≡ bits → end ≤ bits
-    → filter (λ place. is_bit slice place && not (is_bit beside place)) (range_with_len first (end - first))
-    ≡ filter (λ place. get_or xs place false && not (get_or ys place false)) (range_with_len first (end - first))
+    → places_kept slice beside first end ≡ places_without xs ys first end
 masked bits m words others slice beside xs ys first end one two same alike size within =
     kept_alike (λ place. is_bit slice place && not (is_bit beside place)) (λ place. get_or xs place false && not (get_or ys place false)) first (end - first)
     (λ i more less.

@@ -1,5 +1,5 @@
 -- The bits of a mask that lies in words of 64.
-use Rattle.std.specs.Prelude.{◌≡◌, ◌≤◌, ◌<◌, ◌+◌, ◌-◌, false, ℕ, ℤ, ◌/◌, ◌%◌, List, Bool, ◌==◌, map, filter, length, slice_index}
+use Rattle.std.specs.Prelude.{◌≡◌, ◌≤◌, ◌<◌, ◌+◌, ◌-◌, false, ℕ, ℤ, pos, ◌/◌, ◌%◌, List, Bool, ◌==◌, ◌&&◌, not, nat_lt, map, filter, length, slice_index, slice_index_or}
 use Rattle.std.specs.List.{range_with_len}
 use Rattle.std.specs.Int.{bit_at}
 use Rattle.std.specs.Ordering.{int_cmp}
@@ -25,6 +25,23 @@ is_set_from word first place = bit_at word (place - first) == 1
 -- the places of the bits of a word that are set, ascending, where its lowest bit has a place
 unfoldable pub places_of_word : ℕ → ℕ → List ℕ
 places_of_word word first = filter (is_set_from word first) (range_with_len first 64)
+
+-- whether a place is from one up to, and without, another, with its bit set in some words and not in others
+abbrev pub is_kept : List ℕ → List ℕ → ℕ → ℕ → ℕ → Bool
+is_kept words others first end place = (not (nat_lt place first) && nat_lt place end) && (is_bit words place && not (is_bit others place))
+
+-- the places from one up to, and without, another, whose bit is set in some words and not in others, ascending
+abbrev pub places_kept : List ℕ → List ℕ → ℕ → ℕ → List ℕ
+places_kept words others first end = filter (λ place. is_bit words place && not (is_bit others place)) (range_with_len first (end - first))
+
+-- the same of bits that are listed
+abbrev pub places_without : List Bool → List Bool → ℕ → ℕ → List ℕ
+places_without bits others first end =
+    filter (λ place. slice_index_or bits place false && not (slice_index_or others place false)) (range_with_len first (end - first))
+
+-- the numbers at places
+abbrev pub values_at : List ℤ → List ℕ → List ℤ
+values_at values places = map (λ place. slice_index_or values place (pos 0)) places
 
 -- so many bits lie in words, with none set behind them
 pub record Lies (count : ℕ) (words : List ℕ) : Type 0 where

@@ -1,11 +1,11 @@
 //! Masks: one bit for each of some places.
 
-ghost use Rattle.std.specs.Prelude.{◌≡◌, ◌≢◌, ℕ, ◌<◌, ◌≤◌, ◌-◌, ◌^◌, ◌==◌, ◌&&◌, ◌||◌, length, map, filter, not as negated};
+ghost use Rattle.std.specs.Prelude.{◌≡◌, ◌≢◌, ℕ, ◌<◌, ◌≤◌, ◌^◌, ◌==◌, ◌&&◌, ◌||◌, length, map, not as negated};
 ghost use Rattle.std.specs.Prelude.{true, false, IfOk, replicate, slice_index_or, slice_set};
-ghost use Rattle.std.specs.List.{range_with_len};
+ghost use Rattle.std.specs.List.{All};
 ghost use lib.Lanes.{zip2};
 ghost use Rattle.std.specs.Int.{bit_at};
-ghost use Rattle.hy_kernel.specs.Bits.{compares};
+ghost use Rattle.hy_kernel.specs.Bits.{compares, places_without, values_at};
 
 use crate::words;
 use hy_value::Cmp;
@@ -100,13 +100,38 @@ impl Mask {
         requires many { length other.now ≡ length self.now }
         requires within { end ≤ length self.now }
         requires numbered { end < 2 ^ 32 }
-        ensures { IfOk result (λ found. found.items ≡ filter
-            (λ place. slice_index_or self.now place false && negated (slice_index_or other.now place false)) (range_with_len first (end - first))) }
+        ensures { IfOk result (λ found. found.items ≡ places_without self.now other.now first end) }
     {
         words::places_without(
             self.words.as_slice(),
             other.words.as_slice(),
             alloc,
+            first,
+            end,
+        )
+    }
+
+    /// The numbers at the places from one up to, and without, another, whose bit is set here and not in another mask of as
+    /// many, ascending by place. Err is for want of memory.
+    pub fn pick_without(
+        &self,
+        other: &Mask,
+        alloc: Global,
+        values: &[i64],
+        first: usize,
+        end: usize,
+    ) -> Result<Vec<i64>, AllocError>
+        requires many { length other.now ≡ length self.now }
+        requires within { end ≤ length self.now }
+        requires numbered { end < 2 ^ 32 }
+        requires places { All (λ place. place < length values.now) (places_without self.now other.now first end) }
+        ensures { IfOk result (λ found. found.items ≡ values_at values.now (places_without self.now other.now first end)) }
+    {
+        words::pick_without(
+            self.words.as_slice(),
+            other.words.as_slice(),
+            alloc,
+            values,
             first,
             end,
         )

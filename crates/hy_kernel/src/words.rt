@@ -6,7 +6,7 @@ ghost use Rattle.std.specs.Prelude.{true, false, FitsSigned, IfOk, IfSome, IfNon
 ghost use Rattle.std.specs.Int.{w64, bit_at};
 ghost use Rattle.std.specs.List.{All, range_with_len};
 ghost use lib.Lanes.{mask_l};
-ghost use Rattle.hy_kernel.specs.Bits.{is_bit, places_of_word, compares, IsLowest, Lies};
+ghost use Rattle.hy_kernel.specs.Bits.{is_bit, is_kept, places_of_word, places_kept, values_at, compares, IsLowest, Lies};
 
 use hy_value::Cmp;
 use std::alloc::{AllocError, Global};
@@ -176,6 +176,35 @@ fn push_set(word: u64, first: u32, found: &mut Vec<u32>)
     }
 }
 
+/// Adds the numbers at the places of a word's bits that are set, ascending, where its lowest bit has a place.
+fn push_picked(word: u64, values: &[i64], first: usize, found: &mut Vec<i64>)
+    requires room { vec_len found.old + 64 ≤ vec_capacity found.old }
+    requires numbered { first + 64 ≤ 2 ^ 32 }
+    requires within { All (λ place. place < length values.now) (places_of_word word first) }
+    ensures found { found.new.items ≡ found.old.items ++ values_at values.now (places_of_word word first) }
+    ensures few { vec_len found.new ≤ vec_len found.old + 64 }
+    ensures room { vec_capacity found.new ≡ vec_capacity found.old }
+{
+    let mut rest = word;
+    while rest != 0 {
+        let bit = rest.trailing_zeros() as usize;
+        found.push_reserved(values[first + bit]);
+        rest &= rest - 1;
+    }
+}
+
+/// Of the bits of one word those that are set and not in another mask, from a place up to, and without, another.
+fn word_without(words: &[u64], others: &[u64], k: usize, first: usize, end: usize) -> u64
+    requires many { length others.now ≡ length words.now }
+    requires word { k < length words.now }
+    requires reached { first ≤ 64 * k + 64 }
+    requires begun { 64 * k < end }
+    ensures { places_of_word result (64 * k) ≡ filter (is_kept words.now others.now first end) (range_with_len (64 * k) 64) }
+{
+    let from = first.saturating_sub(64 * k);
+    between(words[k] & !others[k], from, (end - 64 * k).min(64))
+}
+
 /// The places from one up to, and without, another, whose bit is set in a mask and not in another one, ascending. Err is for
 /// want of memory.
 pub fn places_without(
@@ -188,16 +217,40 @@ pub fn places_without(
     requires many { length others.now ≡ length words.now }
     requires within { end ≤ 64 * length words.now }
     requires numbered { end < 2 ^ 32 }
-    ensures { IfOk result (λ found. found.items
-        ≡ filter (λ place. is_bit words.now place && negated (is_bit others.now place)) (range_with_len first (end - first))) }
+    ensures { IfOk result (λ found. found.items ≡ places_kept words.now others.now first end) }
 {
     let begin = first / 64;
     let last = (end + 63) / 64;
     let mut found = Vec::with_capacity(alloc, 64 * last.saturating_sub(begin))?;
     for k in begin..last {
-        let from = first.saturating_sub(64 * k);
-        let word = between(words[k] & !others[k], from, (end - 64 * k).min(64));
+        let word = word_without(words, others, k, first, end);
         push_set(word, (64 * k) as u32, &mut found);
+    }
+    Ok(found)
+}
+
+/// The numbers at the places from one up to, and without, another, whose bit is set in a mask and not in another one,
+/// ascending by place. Err is for want of memory.
+pub fn pick_without(
+    words: &[u64],
+    others: &[u64],
+    alloc: Global,
+    values: &[i64],
+    first: usize,
+    end: usize,
+) -> Result<Vec<i64>, AllocError>
+    requires many { length others.now ≡ length words.now }
+    requires within { end ≤ 64 * length words.now }
+    requires numbered { end < 2 ^ 32 }
+    requires places { All (λ place. place < length values.now) (places_kept words.now others.now first end) }
+    ensures { IfOk result (λ found. found.items ≡ values_at values.now (places_kept words.now others.now first end)) }
+{
+    let begin = first / 64;
+    let last = (end + 63) / 64;
+    let mut found = Vec::with_capacity(alloc, 64 * last.saturating_sub(begin))?;
+    for k in begin..last {
+        let word = word_without(words, others, k, first, end);
+        push_picked(word, values, 64 * k, &mut found);
     }
     Ok(found)
 }

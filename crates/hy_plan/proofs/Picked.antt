@@ -93,9 +93,8 @@ pub known_put : (rows : Rows) (numbers known more : List ℤ) (nulls : List Bool
     → length nulls ≤ length numbers → length others ≡ 0 → numbered numbers nulls ++ others ≡ old
     → more ≡ numbers ++ map (λ (place : ℕ). get_or known place (pos 0)) places
     → map Int known ≡ map (λ (row : List Value). column_of row column) rows → All (λ place. place < length rows) places
-    → numbered more nulls ++ others ≡ old ++ values_picked rows (take (length places) places) column
+    → numbered more nulls ++ others ≡ old ++ values_picked rows places column
 known_put rows numbers known more nulls others old places column few none view put same within =
     ap (λ (ns : List ℤ). numbered ns nulls ++ others) put
     ∙ (numbers_more numbers (map (λ (place : ℕ). get_or known place (pos 0)) places) nulls others few none
-    ∙ ((λ i. view i ++ known_picked rows known places column same within i)
-    ∙ ap (λ (ps : List ℕ). old ++ values_picked rows ps column) (sym (take_all (length places) places (omega arith)))))
+    ∙ (λ i. view i ++ known_picked rows known places column same within i))

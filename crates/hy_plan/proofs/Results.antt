@@ -1,5 +1,5 @@
 -- Facts about what a call returned.
-use Rattle.std.specs.Prelude.{IfSome, Option, None, Some, Result, Ok, Err, OnOk, OnErr}
+use Rattle.std.specs.Prelude.{IfOk, IfSome, Option, None, Some, Result, Ok, Err, OnOk, OnErr}
 
 -- a fact from two that hold where there is a value
 pub on_ok_both : {T E P Q R : Type 0} (r : Result T E) → (P → Q → R) → OnOk r P → OnOk r Q → OnOk r R
@@ -10,6 +10,11 @@ on_ok_both (Err e) f p q = tt
 pub on_ok_then : {T E P Q : Type 0} (r : Result T E) → (P → Q) → OnOk r P → OnOk r Q
 on_ok_then (Ok x) f p = f p
 on_ok_then (Err e) f p = tt
+
+-- a fact about a value, from one about it and one that holds where there is one
+pub if_ok_both : {T E Q : Type 0} {P R : T → Type 0} (r : Result T E) → ((x : T) → P x → Q → R x) → IfOk r P → OnOk r Q → IfOk r R
+if_ok_both (Ok x) f p q = f x p q
+if_ok_both (Err e) f p q = tt
 
 -- a fact holds where there is an error
 pub on_err_always : {T E P : Type 0} (r : Result T E) → P → OnErr r P

@@ -6,7 +6,7 @@ ghost use Rattle.hy_value.specs.Refs.{referred};
 ghost use Rattle.hy_plan.specs.Numbers.{numbered};
 ghost use Rattle.hy_plan.specs.Placed.{values_picked};
 
-use crate::gathered::PlacedRows;
+use crate::gathered::{PlacedRows, Places};
 use hy_value::{Value, ValueRef};
 use std::alloc::{AllocError, Global};
 use std::marker::Model;
@@ -87,9 +87,38 @@ impl Column {
         self.push(value)
     }
 
-    /// Puts the values in a column of the rows at some places behind the first ones. Without memory only these stay for
+    /// Puts the values in a column of the rows at some places behind the first ones: how many. Without memory only these stay
+    /// for certain.
+    pub fn put_placed<S: PlacedRows, P: Places>(
+        &mut self,
+        len: usize,
+        source: &S,
+        places: &P,
+        column: u32,
+    ) -> Result<usize, AllocError>
+        requires reach { len ≤ length self.old }
+        requires places { All (λ place. place < length (S.rows source.now)) (P.places places.now) }
+        requires column { (place : ℕ) → place < length (S.rows source.now)
+            → column < length (slice_index_or (S.rows source.now) place []) }
+        ensures count { IfOk result (λ count. count ≡ length (P.places places.now)) }
+        ensures ok { OnOk result (self.new ≡ take len self.old ++ values_picked (S.rows source.now) (P.places places.now) column) }
+        ensures err { OnErr result (take len self.new ≡ take len self.old) }
+    {
+        self.truncate(len);
+        if self.others.is_empty() {
+            if let Some(known) = source.numbers(column as usize) {
+                let found = places.pick(*self.numbers.allocator(), known)?;
+                return push_all(&mut self.numbers, found);
+            }
+        }
+        let listed = places.list(*self.numbers.allocator())?;
+        self.put_listed(len, source, listed.as_slice(), column)?;
+        Ok(listed.len())
+    }
+
+    /// Puts the values in a column of the rows at listed places behind the first ones. Without memory only these stay for
     /// certain.
-    pub fn put_placed<S: PlacedRows>(
+    pub fn put_listed<S: PlacedRows>(
         &mut self,
         len: usize,
         source: &S,
@@ -128,8 +157,8 @@ impl Column {
         }
         match source.numbers(column as usize) {
             Some(known) => {
-                push_known(&mut self.numbers, known, places)?;
-                Ok(places.len())
+                let found = picked(*self.numbers.allocator(), known, places)?;
+                push_all(&mut self.numbers, found)
             }
             None => push_told(&mut self.numbers, &mut self.nulls, source, places, column),
         }
@@ -233,19 +262,19 @@ fn picked(alloc: Global, known: &[i64], places: &[u32]) -> Result<Vec<i64>, Allo
     Ok(found)
 }
 
-/// Adds the numbers at some places of others. Without memory nothing changes.
-fn push_known(numbers: &mut Vec<i64>, known: &[i64], places: &[u32]) -> Result<(), AllocError>
-    requires { All (λ place. place < length known.now) places.now }
-    ensures ok { OnOk result (numbers.new.items ≡ numbers.old.items ++ map (λ place. slice_index_or known.now place (pos 0)) places.now) }
+/// Adds numbers: how many. Without memory nothing changes.
+fn push_all(numbers: &mut Vec<i64>, more: Vec<i64>) -> Result<usize, AllocError>
+    ensures count { IfOk result (λ count. count ≡ length more.items) }
+    ensures ok { OnOk result (numbers.new.items ≡ numbers.old.items ++ more.items) }
     ensures err { OnErr result (numbers.new.items ≡ numbers.old.items) }
 {
-    let found = picked(*numbers.allocator(), known, places)?;
+    let count = more.len();
     if numbers.is_empty() {
-        *numbers = found;
-        Ok(())
+        *numbers = more;
     } else {
-        numbers.extend_from_slice(found.as_slice())
+        numbers.extend_from_slice(more.as_slice())?;
     }
+    Ok(count)
 }
 
 /// Adds to numbers, and to which of them stand for NULL, the values in a column of the rows at the first places, up to the

@@ -1,6 +1,6 @@
 //! Rows gathered of a table, kept by column.
 
-ghost use Rattle.std.specs.Prelude.{◌≡◌, ℕ, ◌<◌, ◌++◌, [], ◌∷◌, All, IfOk, IfSome, OnOk, OnErr, length, map, slice_index_or, take};
+ghost use Rattle.std.specs.Prelude.{◌≡◌, ℕ, pos, ◌<◌, ◌++◌, [], ◌∷◌, All, IfOk, IfSome, OnOk, OnErr, length, map, slice_index_or, take};
 ghost use Rattle.hy_value.specs.Columns.{has_column};
 ghost use Rattle.hy_value.specs.Refs.{referred};
 ghost use Rattle.hy_plan.specs.Placed.{row_picked, values_picked};
@@ -29,6 +29,22 @@ pub trait PlacedRows {
     /// The numbers in a column by place, if it is known that each row has a number there.
     fn numbers(&self, column: usize) -> Option<&[i64]>
         ensures { IfSome result (λ numbers. map Value.Int numbers.now ≡ map (λ row. column_of row column) (rows self.now)) };
+}
+
+/// Places of which a list may be made, or at which numbers may be picked without one. Contracts see them as a list.
+pub trait Places {
+    ghost use Rattle.std.specs.Prelude.{List, ℕ};
+
+    ghost places: { Self → List ℕ };
+
+    /// The list of them. Err is for want of memory.
+    fn list(&self, alloc: Global) -> Result<Vec<u32>, AllocError>
+        ensures { IfOk result (λ listed. listed.items ≡ places self.now) };
+
+    /// The numbers there, place by place. Err is for want of memory.
+    fn pick(&self, alloc: Global, numbers: &[i64]) -> Result<Vec<i64>, AllocError>
+        requires { All (λ place. place < length numbers.now) (places self.now) }
+        ensures { IfOk result (λ picked. picked.items ≡ map (λ place. slice_index_or numbers.now place (pos 0)) (places self.now)) };
 }
 
 /// Rows of so many values each, kept by column. Contracts see them as the list of the rows.
@@ -130,25 +146,24 @@ impl Gathered {
 
     /// Adds the rows at some places of others: of each the values in some columns, in this order. Without memory nothing
     /// changes.
-    pub fn add_placed<S: PlacedRows>(
+    pub fn add_placed<S: PlacedRows, P: Places>(
         &mut self,
         source: &S,
-        places: &[u32],
+        places: &P,
         columns: &[u32],
     ) -> Result<(), AllocError>
-        requires places { All (λ place. place < length (S.rows source.now)) places.now }
+        requires places { All (λ place. place < length (S.rows source.now)) (P.places places.now) }
         requires columns { (place : ℕ) → place < length (S.rows source.now)
             → All (λ column. column < length (slice_index_or (S.rows source.now) place [])) columns.now }
         requires width { length columns.now ≡ self.old.width }
         ensures ok { OnOk result (self.new ≡ record {
           width = self.old.width;
-          rows = self.old.rows ++ map (row_picked (S.rows source.now) columns.now) places.now;
+          rows = self.old.rows ++ map (row_picked (S.rows source.now) columns.now) (P.places places.now);
         }) }
         ensures err { OnErr result (self.new ≡ self.old) }
     {
-        let len = self.len.checked_add(places.len()).ok_or(AllocError)?;
-        put_placed(&mut self.columns, self.len, source, places, columns)?;
-        self.len = len;
+        let count = put_placed(&mut self.columns, self.len, source, places, columns)?;
+        self.len = self.len.checked_add(count).ok_or(AllocError)?;
         Ok(())
     }
 
@@ -220,9 +235,9 @@ fn is_of_set(columns: ColMask, column: usize) -> bool
     column < 32 && columns.has(column as u32)
 }
 
-/// Puts the values in some columns of the rows at some places behind the first ones of each column. Without memory only
+/// Puts the values in some columns of the rows at listed places behind the first ones of each column. Without memory only
 /// these stay for certain.
-fn put_placed<S: PlacedRows>(
+fn put_listed<S: PlacedRows>(
     columns: &mut Vec<Column>,
     len: usize,
     source: &S,
@@ -239,7 +254,35 @@ fn put_placed<S: PlacedRows>(
     ensures err { OnErr result (firsts len columns.new.items ≡ firsts len columns.old.items) }
 {
     for (index, column) in wanted.iter().enumerate() {
-        columns[index].put_placed(len, source, places, *column)?;
+        columns[index].put_listed(len, source, places, *column)?;
     }
     Ok(())
+}
+
+/// Puts the values in some columns of the rows at some places behind the first ones of each column: of how many rows. Without
+/// memory only these stay for certain.
+fn put_placed<S: PlacedRows, P: Places>(
+    columns: &mut Vec<Column>,
+    len: usize,
+    source: &S,
+    places: &P,
+    wanted: &[u32],
+) -> Result<usize, AllocError>
+    requires width { length wanted.now ≡ length columns.old.items }
+    requires reach { ReachTo len columns.old.items }
+    requires places { All (λ place. place < length (S.rows source.now)) (P.places places.now) }
+    requires columns { (place : ℕ) → place < length (S.rows source.now)
+        → All (λ column. column < length (slice_index_or (S.rows source.now) place [])) wanted.now }
+    ensures count { IfOk result (λ count. count ≡ length (P.places places.now)) }
+    ensures ok { OnOk result (columns.new.items
+        ≡ with_values len (map (values_picked (S.rows source.now) (P.places places.now)) wanted.now) columns.old.items) }
+    ensures err { OnErr result (firsts len columns.new.items ≡ firsts len columns.old.items) }
+{
+    // Several columns share a list; for one alone none may be needed.
+    if wanted.len() == 1 {
+        return columns[0].put_placed(len, source, places, wanted[0]);
+    }
+    let listed = places.list(*columns.allocator())?;
+    put_listed(columns, len, source, listed.as_slice(), wanted)?;
+    Ok(listed.len())
 }

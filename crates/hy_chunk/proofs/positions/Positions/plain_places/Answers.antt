@@ -1,13 +1,13 @@
-use Rattle.std.proofs.Common.{length, ap, ◌∙◌, arith}
+use Rattle.std.proofs.Common.{◌≡◌, length, ap, arith}
 use Rattle.hy_chunk.specs.Views.{Held}
-use Rattle.hy_chunk.proofs.Masking.{ok_weaker}
 use Rattle.hy_chunk.proofs.Places.{Fields, fields, length_all}
 use Rattle.hy_chunk.proofs.Vacating.{plain_places}
 use Rattle.hy_chunk.proofs.positions.Positions.plain_places.Goals as goal
 
-pub places_without-requires-clause-many : goal.places_without-requires-clause-many
-places_without-requires-clause-many c =
+pub invariant_of-result : goal.invariant_of-result
+invariant_of-result c =
     let f : Fields = fields c.self.inside in
+    let many : length c.bits.result.now ≡ length c.args.mask.now =
     omega (
       arith,
       c.requires.mask,
@@ -16,16 +16,16 @@ places_without-requires-clause-many c =
       length_all f,
       c.self.invariant.sound.lives,
       c.self.invariant.vacated.many,
-    )
-
-pub places_without-requires-clause-within : goal.places_without-requires-clause-within
-places_without-requires-clause-within c = omega (arith, c.requires.mask, c.requires.within)
+    ) in
+    record {
+      many = many;
+      within = omega (arith, c.requires.mask, c.requires.within);
+      numbered = c.requires.numbered;
+    }
 
 pub returns : goal.returns
 returns c =
     let f : Fields = fields c.self.inside in
-    ok_weaker c.places_without.result _ _
-    (λ found told. told ∙ plain_places f c.self.inside.columns.kinds c.self.inside.spare c.args.self.now.places c.bits.result.now c.self.inside.vacant
+    plain_places f c.self.inside.columns.kinds c.self.inside.spare c.args.self.now.places c.bits.result.now c.self.inside.vacant
     c.args.mask.now c.args.part.first c.args.part.end (ap (λ (h : Held). h.places) c.self.view_is) c.self.invariant.sound c.self.invariant.vacated
-    c.bits.ensures c.requires.within)
-    c.places_without.ensures
+    c.bits.ensures c.requires.within

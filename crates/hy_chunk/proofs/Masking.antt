@@ -1,6 +1,6 @@
 -- Masks of comparisons: where a bit is clear nothing is wanted of the row in place.
 use Rattle.std.proofs.Common.{◌≡◌, ℕ, ℤ, zero, suc, ◌<◌, ◌≤◌, Bool, true, false, List, [], ◌∷◌, ◌+◌, map, take, length, get_or, replicate, Option, None, Some, refl, sym, ap, ◌∙◌, arith, subst, cond}
-use Rattle.std.specs.Prelude.{Contains, IfOk, IfSome, Result, Ok, Err, not, ◌&&◌, ◌||◌}
+use Rattle.std.specs.Prelude.{Contains, IfOk, IfNone, IfSome, Result, Ok, Err, not, ◌&&◌, ◌||◌}
 use Rattle.std.specs.List.{list_all}
 use Rattle.std.proofs.lemmas.Bool.{and_from, and_parts, both_ways, false_from_ne_true}
 use Rattle.std.proofs.lemmas.List.{take_all, length-map, length-replicate, get_or-replicate, ext_get_or}
@@ -194,14 +194,7 @@ pub record Joins (conditions : List Condition) (count : ℕ) (places : List Plac
   pub admits : Admits conditions places mask
   pub confirms : is_exact ≡ true → Confirms (take count conditions) places mask
 
-pub joins_none : (conditions : List Condition) (places : List Place) (many : ℕ) (mask : List Bool) → many ≡ length places → mask ≡ replicate many true
-    → Joins conditions 0 places mask true
-joins_none conditions places many mask size is = record {
-  admits = full_admits conditions places many mask size is;
-  confirms = λ exact place l e. refl;
-}
-
-pub joins_more : (conditions : List Condition) (count : ℕ) (c : Condition) (places : List Place) (mask other now : List Bool) (is_exact : Bool)
+joins_more : (conditions : List Condition) (count : ℕ) (c : Condition) (places : List Place) (mask other now : List Bool) (is_exact : Bool)
     → count < length conditions → c ≡ get_or conditions count c → now ≡ zip2 (λ bit bits. bit && bits) mask other
     → Admits (c ∷ []) places other → Confirms (c ∷ []) places other → Joins conditions count places mask is_exact
     → Joins conditions (count + 1) places now is_exact
@@ -211,12 +204,50 @@ joins_more conditions count c places mask other now is_exact l is joined admits 
       confirms = λ exact. confirm_more conditions count c places mask other l is j.admits.many admits.many (j.confirms exact) confirms;
     })
 
--- of a condition of which no mask tells
-pub joins_inexact : (conditions : List Condition) (count : ℕ) (places : List Place) (mask : List Bool) (is_exact : Bool) → Joins conditions count places mask is_exact
-    → Joins conditions (count + 1) places mask false
-joins_inexact conditions count places mask is_exact j = record {
+-- the same of a mask that may be there: while there is none, no condition was confirmed
+abbrev pub JoinsSome : List Condition → ℕ → List Place → Option (List Bool) → Bool → Type 0
+JoinsSome conditions count places None is_exact = is_exact ≡ true → count ≡ 0
+JoinsSome conditions count places (Some mask) is_exact = Joins conditions count places mask is_exact
+
+-- as many bits as in the next mask
+pub as_long : (conditions : List Condition) (count : ℕ) (places : List Place) (found : Option (List Bool)) (is_exact : Bool) (mask : List Bool)
+    → length mask ≡ length places → JoinsSome conditions count places found is_exact → IfSome found (λ one. length mask ≡ length one)
+as_long conditions count places None is_exact mask many j = tt
+as_long conditions count places (Some one) is_exact mask many j = many ∙ sym j.admits.many
+
+-- with the mask of one condition more
+pub joins_next : (conditions : List Condition) (count : ℕ) (c : Condition) (places : List Place) (found : Option (List Bool)) (mask now : List Bool) (is_exact : Bool)
+    → count < length conditions → c ≡ get_or conditions count c → IfNone found (now ≡ mask) → IfSome found (λ one. now ≡ zip2 (λ bit bits. bit && bits) one mask)
+    → Admits (c ∷ []) places mask → Confirms (c ∷ []) places mask → JoinsSome conditions count places found is_exact
+    → Joins conditions (count + 1) places now is_exact
+joins_next conditions count c places None mask now is_exact l is first both admits confirms j =
+    subst (λ (bits : List Bool). Joins conditions (count + 1) places bits is_exact) (sym first) (record {
+      admits = admits_among c conditions places mask (count, l, sym is) admits;
+      confirms = λ exact place within e.
+          let holds : Condition → Bool = λ pred. truth_of pred (nth places place).version.row in
+          let here : holds c ≡ true = (and_parts (holds c) true (confirms place within e)).0 in
+          list_all_more holds conditions count c l
+          ∙ and_from (list_all holds (take count conditions)) (holds (get_or conditions count c)) (ap (λ (n : ℕ). list_all holds (take n conditions)) (j exact))
+          (ap holds (sym is) ∙ here);
+    })
+joins_next conditions count c places (Some one) mask now is_exact l is first both admits confirms j =
+    joins_more conditions count c places one mask now is_exact l is both admits confirms j
+
+-- with a condition of which no mask tells
+pub joins_inexact : (conditions : List Condition) (count : ℕ) (places : List Place) (found : Option (List Bool)) (is_exact : Bool)
+    → JoinsSome conditions count places found is_exact → JoinsSome conditions (count + 1) places found false
+joins_inexact conditions count places None is_exact j = λ exact. absurd (both_ways false refl exact)
+joins_inexact conditions count places (Some mask) is_exact j = record {
   admits = j.admits;
   confirms = λ exact. absurd (both_ways false refl exact);
+}
+
+-- where there is no mask all bits are set
+pub joins_full : (conditions : List Condition) (count : ℕ) (places : List Place) (is_exact : Bool) (many : ℕ) (mask : List Bool) → many ≡ length places
+    → mask ≡ replicate many true → JoinsSome conditions count places None is_exact → Joins conditions count places mask is_exact
+joins_full conditions count places is_exact many mask size is j = record {
+  admits = full_admits conditions places many mask size is;
+  confirms = λ exact. subst (λ (n : ℕ). Confirms (take n conditions) places mask) (sym (j exact)) (λ place l e. refl);
 }
 
 pub joins_all : (conditions : List Condition) (count : ℕ) (places : List Place) (mask : List Bool) (is_exact : Bool) → length conditions ≤ count

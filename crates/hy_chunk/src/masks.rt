@@ -2,7 +2,8 @@
 //! ranges: Neumann, Mühlbauer, Kemper, "Fast Serializable Multi-Version Concurrency Control for Main-Memory Database
 //! Systems", SIGMOD 2015).
 
-ghost use Rattle.std.specs.Prelude.{◌≡◌, ◌<◌, ◌∷◌, [], true, false, IfOk, IfSome, length, map, replicate};
+ghost use Rattle.std.specs.Prelude.{◌≡◌, ◌<◌, ◌&&◌, ◌∷◌, [], true, false, IfOk, IfSome, IfNone, length, map, replicate};
+ghost use lib.Lanes.{zip2};
 ghost use Rattle.hy_bound.specs.Condition.{Compare};
 ghost use Rattle.hy_bound.specs.Records.{conjuncts};
 ghost use Rattle.hy_bound.specs.declared.predicate.Side.{Side};
@@ -87,6 +88,21 @@ pub fn all_set(alloc: Global, bits: usize) -> Result<Mask, AllocError>
     Ok(mask)
 }
 
+/// A mask joined with the one before it, if there is one: set where both are.
+fn joined(before: Option<Mask>, mask: Mask) -> Mask
+    requires { IfSome before (λ one. length mask ≡ length one) }
+    ensures first { IfNone before (result ≡ mask) }
+    ensures both { IfSome before (λ one. result ≡ zip2 (λ bit bits. bit && bits) one mask) }
+{
+    match before {
+        Some(mut one) => {
+            one.and_with(&mask);
+            one
+        }
+        None => mask,
+    }
+}
+
 /// The positions at which all of some conditions may be true of the row in place, exactly where masks can tell of each
 /// of them. Err is for want of memory.
 fn admitted_by_all(
@@ -98,14 +114,18 @@ fn admitted_by_all(
     ensures confirms { IfOk result (λ found. found.is_exact ≡ true
         → Confirms (map (λ part. part.now) parts.now) positions.now.places found.mask) }
 {
-    let mut mask = all_set(alloc, positions.len())?;
+    let mut found = None;
     let mut is_exact = true;
     for part in parts {
         match admitted_by_one(alloc, positions, part)? {
-            Some(other) => mask.and_with(&other),
+            Some(mask) => found = Some(joined(found, mask)),
             None => is_exact = false,
         }
     }
+    let mask = match found {
+        Some(mask) => mask,
+        None => all_set(alloc, positions.len())?,
+    };
     Ok(Admission { mask, is_exact })
 }
 

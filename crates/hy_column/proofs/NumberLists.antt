@@ -1,6 +1,6 @@
 -- Numbers with a bit beside each.
 use Rattle.std.proofs.Common.{◌≡◌, ℕ, ℤ, pos, zero, suc, ◌<◌, Bool, true, false, List, [], ◌∷◌, length, map, replicate, get_or, Option, None, Some, refl, sym, ap, ◌∙◌, arith}
-use Rattle.std.specs.Prelude.{if◌then◌else◌, not, ◌&&◌, ◌||◌}
+use Rattle.std.specs.Prelude.{if◌then◌else◌, not, ◌&&◌}
 use Rattle.hy_value.specs.declared.Cmp.{Cmp}
 use Rattle.hy_kernel.specs.Bits.{compares}
 use Rattle.hy_column.specs.Compared.{compares_number}
@@ -66,7 +66,7 @@ value_there (n ∷ ns) (b ∷ bs) zero number e h = some_of b n number h
 value_there (n ∷ ns) (b ∷ bs) (suc k) number e h = value_there ns bs k number (omega (arith, e)) h
 
 -- the bits of a comparison, where NULL's are cleared
-known_bit : (op : Cmp) (right : ℤ) (b : Bool) (n : ℤ) → (compares op right n && not (false || b)) ≡ compares_number op right (if b then None else Some n)
+known_bit : (op : Cmp) (right : ℤ) (b : Bool) (n : ℤ) → (compares op right n && not b) ≡ compares_number op right (if b then None else Some n)
 known_bit op right true n = with_false (compares op right n)
   where
     with_false : (c : Bool) → (c && false) ≡ false
@@ -79,9 +79,7 @@ known_bit op right false n = with_true (compares op right n)
     with_true false = refl
 
 pub bits_compared : (op : Cmp) (right : ℤ) (values : List ℤ) (nulls : List Bool) → length nulls ≡ length values
-    → zip2 (λ bit other. bit && other) (map (compares op right) values)
-    (map not (zip2 (λ bit other. bit || other) (replicate (length values) false) nulls))
-    ≡ map (compares_number op right) (numbers values nulls)
+    → zip2 (λ bit other. bit && not other) (map (compares op right) values) nulls ≡ map (compares_number op right) (numbers values nulls)
 bits_compared op right [] [] e = refl
 bits_compared op right [] (b ∷ bs) e = absurd (omega (arith, e))
 bits_compared op right (n ∷ ns) [] e = absurd (omega (arith, e))
@@ -92,12 +90,6 @@ pub number_with : (op : Cmp) (right : ℤ) (all : List (Option ℤ)) (k : ℕ) �
 number_with op right [] k l = absurd (omega arith)
 number_with op right (n ∷ ns) zero l = refl
 number_with op right (n ∷ ns) (suc k) l = number_with op right ns k (omega arith)
-
-pub length_cleared : (n : ℕ) (nulls : List Bool) → length nulls ≡ n
-    → length (map not (zip2 (λ bit other. bit || other) (replicate n false) nulls)) ≡ n
-length_cleared zero nulls e = refl
-length_cleared (suc n) [] e = absurd (omega (arith, e))
-length_cleared (suc n) (b ∷ bs) e = let rest = length_cleared n bs (omega (arith, e)) in omega (arith, rest)
 
 -- where no bit is set all are known
 pub all_known : (values : List ℤ) (nulls : List Bool) → length nulls ≡ length values → ((k : ℕ) → k < length nulls → get_or nulls k false ≡ false)

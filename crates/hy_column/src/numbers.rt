@@ -113,12 +113,9 @@ impl IntColumn {
     pub fn compare(&self, alloc: Global, op: Cmp, right: i64) -> Result<Mask, AllocError>
         ensures { IfOk result (λ mask. mask ≡ map (compares_number op right) self.now) }
     {
-        let mut known = Mask::new(alloc, self.values.len())?;
-        known.or_with(&self.nulls);
-        known.invert();
         let mut mask = Mask::new(alloc, self.values.len())?;
         mask.compare(self.values.as_slice(), op, right);
-        mask.and_with(&known);
+        mask.and_without(&self.nulls);
         Ok(mask)
     }
 }

@@ -9,7 +9,7 @@ use Rattle.std.proofs.lemmas.List.{append-nil, append_assoc, map-append}
 use Rattle.std.proofs.lemmas.List.Elements.{All-drop, All-same, All-take, filter-append}
 use Rattle.std.proofs.lemmas.Nat.Bits.{bit_at_and, bit_at-lt, bit_at-zero, bit_at_not, bit_at_ones, bit_at_ones_above, bit_at-trailing_zeros}
 use Rattle.hy_kernel.specs.Bits.{is_bit, is_kept, bits_below, is_set_from, places_kept, places_of_word, places_without, values_at}
-use Rattle.hy_kernel.proofs.Joining.{both, turned}
+use Rattle.hy_kernel.proofs.Joining.{bit_without}
 use Rattle.hy_kernel.proofs.Listed.{bit_of}
 use Rattle.hy_kernel.proofs.Lowest.{bit_here, cleared_other, cleared_same}
 
@@ -173,17 +173,11 @@ kept_word words others first end k part i fits more less bits =
     same_lt j (first - 64 * k) i first (λ l. omega (arith, l, more)) (λ l. omega (arith, l, more)) in
     let high : nat_lt j (min (end - 64 * k) 64) ≡ nat_lt i end =
     same_lt j (min (end - 64 * k) 64) i end (λ l. omega (arith, l, more)) (λ l. omega (arith, l, more, within)) in
-    let joined : (bit_at (bit_and one (bit_not w64 two)) j == 1) ≡ ((bit_at one j == 1) && (bit_at (bit_not w64 two) j == 1)) =
-    ap (λ (x : ℕ). x == 1) (bit_at_and one (bit_not w64 two) j)
-    ∙ both (bit_at one j) (bit_at (bit_not w64 two) j) (bit_at-lt one j) (bit_at-lt (bit_not w64 two) j) in
-    let other : (bit_at (bit_not w64 two) j == 1) ≡ not (bit_at two j == 1) =
-    ap (λ (x : ℕ). x == 1) (bit_at_not w64 two j fits within) ∙ turned (bit_at two j) (bit_at-lt two j) in
     let here : is_bit words i ≡ (bit_at one j == 1) = ap (is_bit words) (sym place) ∙ bit_here words k j within in
     let there : is_bit others i ≡ (bit_at two j == 1) = ap (is_bit others) (sym place) ∙ bit_here others k j within in
     bits j within
-    ∙ ((λ t. (not (low t) && high t) && joined t)
-    ∙ ((λ t. (not (nat_lt i first) && nat_lt i end) && ((bit_at one j == 1) && other t))
-    ∙ (λ t. (not (nat_lt i first) && nat_lt i end) && (sym here t && not (sym there t)))))
+    ∙ ((λ t. (not (low t) && high t) && bit_without one two j fits within t)
+    ∙ (λ t. (not (nat_lt i first) && nat_lt i end) && (sym here t && not (sym there t))))
 
 module _ (words others : List ℕ) (first end : ℕ) where
   -- before the first word nothing is kept

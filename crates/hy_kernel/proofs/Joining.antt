@@ -53,6 +53,19 @@ past_bits words i l = ap (λ (w : ℕ). bit_at w (i % 64) == 1) (get_or_past wor
 pub turned : (x : ℕ) → x < 2 → (1 - x == 1) ≡ not (x == 1)
 turned x h = elim (two x h) [ inl e ↦ subst (λ (m : ℕ). (1 - m == 1) ≡ not (m == 1)) (sym e) refl | inr e ↦ subst (λ (m : ℕ). (1 - m == 1) ≡ not (m == 1)) (sym e) refl ]
 
+-- a bit of a word without those of another
+pub bit_without : (one two j : ℕ) → two < 2 ^ 64 → j < 64 → (bit_at (bit_and one (bit_not w64 two)) j == 1) ≡ ((bit_at one j == 1) && not (bit_at two j == 1))
+bit_without one two j fits within =
+    ap (λ (x : ℕ). x == 1) (bit_at_and one (bit_not w64 two) j)
+    ∙ (both (bit_at one j) (bit_at (bit_not w64 two) j) (bit_at-lt one j) (bit_at-lt (bit_not w64 two) j)
+    ∙ ap (λ (b : Bool). (bit_at one j == 1) && b) (ap (λ (x : ℕ). x == 1) (bit_at_not w64 two j fits within) ∙ turned (bit_at two j) (bit_at-lt two j)))
+
+-- each word is one of two, without the bits of the other
+pub without_bits : (old other new : List ℕ) (i : ℕ) → get_or other (i / 64) 0 < 2 ^ 64
+    → get_or new (i / 64) 0 ≡ bit_and (get_or old (i / 64) 0) (bit_not w64 (get_or other (i / 64) 0)) → is_bit new i ≡ (is_bit old i && not (is_bit other i))
+without_bits old other new i fits e =
+    ap (λ (w : ℕ). bit_at w (i % 64) == 1) e ∙ bit_without (get_or old (i / 64) 0) (get_or other (i / 64) 0) (i % 64) fits (omega arith)
+
 and_true : (b : Bool) → (b && true) ≡ b
 and_true true = refl
 and_true false = refl

@@ -153,6 +153,14 @@ impl Mask {
         words::and(self.words.as_mut_slice(), other.words.as_slice());
     }
 
+    /// Clears the bits that are set in another mask of as many.
+    pub fn and_without(&mut self, other: &Mask)
+        requires { length other.now ≡ length self.old }
+        ensures { self.new ≡ zip2 (λ bit other. bit && negated other) self.old other.now }
+    {
+        words::and_not(self.words.as_mut_slice(), other.words.as_slice());
+    }
+
     /// Sets the bits that are set in another mask of as many.
     pub fn or_with(&mut self, other: &Mask)
         requires { length other.now ≡ length self.old }

@@ -102,6 +102,16 @@ pub fn and(into: &mut [u64], other: &[u64])
     }
 }
 
+/// Clears the bits that are set in another mask.
+pub fn and_not(into: &mut [u64], other: &[u64])
+    requires { length other.now ≡ length into.old }
+    ensures { (i : ℕ) → is_bit into.new i ≡ (is_bit into.old i && negated (is_bit other.now i)) }
+{
+    for k in 0..into.len() {
+        into[k] &= !other[k];
+    }
+}
+
 /// Sets the bits that are set in another mask.
 pub fn or(into: &mut [u64], other: &[u64])
     requires { length other.now ≡ length into.old }
@@ -205,6 +215,15 @@ fn word_without(words: &[u64], others: &[u64], k: usize, first: usize, end: usiz
     between(words[k] & !others[k], from, (end - 64 * k).min(64))
 }
 
+/// How many words have so many bits, the last of them perhaps not whole.
+fn words_with(bits: usize) -> usize
+    requires { bits < 2 ^ 32 }
+    ensures all { bits ≤ 64 * result }
+    ensures few { 64 * result < bits + 64 }
+{
+    (bits + 63) / 64
+}
+
 /// The places from one up to, and without, another, whose bit is set in a mask and not in another one, ascending. Err is for
 /// want of memory.
 pub fn places_without(
@@ -220,7 +239,7 @@ pub fn places_without(
     ensures { IfOk result (λ found. found.items ≡ places_kept words.now others.now first end) }
 {
     let begin = first / 64;
-    let last = (end + 63) / 64;
+    let last = words_with(end);
     let mut found = Vec::with_capacity(alloc, 64 * last.saturating_sub(begin))?;
     for k in begin..last {
         let word = word_without(words, others, k, first, end);
@@ -246,7 +265,7 @@ pub fn pick_without(
     ensures { IfOk result (λ found. found.items ≡ values_at values.now (places_kept words.now others.now first end)) }
 {
     let begin = first / 64;
-    let last = (end + 63) / 64;
+    let last = words_with(end);
     let mut found = Vec::with_capacity(alloc, 64 * last.saturating_sub(begin))?;
     for k in begin..last {
         let word = word_without(words, others, k, first, end);

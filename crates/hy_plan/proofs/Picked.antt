@@ -1,7 +1,7 @@
 -- Rows that are taken from places of others, by column.
 use Rattle.std.proofs.Common.{◌≡◌, ℕ, suc, pos, ◌+◌, ◌<◌, ◌≤◌, List, [], ◌∷◌, ◌++◌, length, get_or, take, drop, refl, ap, sym, ◌∙◌, arith}
 use Rattle.std.specs.Prelude.{All, Bool, ℤ, map}
-use Rattle.std.proofs.lemmas.List.{length-map, length_push, get_or-map, take_all, map-append, map_more, take-append-drop, append_assoc}
+use Rattle.std.proofs.lemmas.List.{length-map, length_push, get_or-map, map-append, map_more, take-append-drop, append_assoc}
 use Rattle.std.proofs.lemmas.List.FromFn.{fill_by_all}
 use Rattle.hy_value.specs.declared.Value.{Value}
 use Rattle.hy_value.specs.declared.Value.TheVariants.{Int, Null}

@@ -1,17 +1,23 @@
 -- Statements as they are written, without where their parts lie in memory: each tree of the program and the tree of
 -- the same name that contracts see.
-use Rattle.std.specs.Prelude.{Bool, List, Option, map}
+use Rattle.std.specs.Prelude.{Bool, List, [], ◌∷◌, Option, None, Some, map}
 use Rattle.std.specs.Option.{option_map}
 use Rattle.hy_token.specs.declared.Span.{Span}
 use Rattle.hy_value.specs.declared.Cmp.{Cmp}
+use Rattle.hy_value.specs.declared.Cmp.TheVariants.{Eq}
 use Rattle.hy_ast.specs.declared.ColumnRef.{ColumnRef}
 use Rattle.hy_ast.specs.declared.ColumnDef.{ColumnDef}
 use Rattle.hy_ast.specs.declared.Literal.{Literal}
+use Rattle.hy_ast.specs.declared.Literal.TheVariants.{Integer}
 use Rattle.hy_ast.specs.declared.Operand.{Operand}
+use Rattle.hy_ast.specs.declared.Operand.TheVariants as operands
 use Rattle.hy_ast.specs.declared.Operator.{Operator}
 use Rattle.hy_ast.specs.declared.Join.{Join}
 use Rattle.hy_ast.specs.declared.Turn.{Turn}
 use Rattle.hy_ast.specs.declared.Total.{Total}
+use Rattle.hy_ast.specs.declared.Listed.TheVariants.{Columns}
+use Rattle.hy_ast.specs.declared.ShortSet.{ShortSet}
+use Rattle.hy_ast.specs.declared.ShortTest.{ShortTest}
 use Rattle.hy_ast.specs.declared.Listed.{Listed}
 use Rattle.hy_ast.specs.declared.Test as boxed_test
 use Rattle.hy_ast.specs.declared.Formula as boxed_formula
@@ -81,6 +87,23 @@ formula_of (boxed_formula.Bracket' p inner) = Bracket (formula_of inner)
 abbrev pub set_clause_of : boxed_set_clause.SetClause → SetClause
 set_clause_of set = record { column = set.column; value = formula_of set.value }
 
+-- a column that is written without its table, and an integer without a sign
+abbrev pub unqualified : Span → ColumnRef
+unqualified column = record { table = None; column = column }
+
+abbrev pub unsigned : Span → Literal
+unsigned digits = Integer None digits
+
+-- a short assignment and a short condition
+abbrev pub clause_of_short : ShortSet → SetClause
+clause_of_short set = record {
+  column = set.column;
+  value = Binary (Plain (operands.Column (unqualified set.left))) set.op set.at (Plain (operands.Literal (unsigned set.digits)));
+}
+
+abbrev pub test_of_short : ShortTest → Test
+test_of_short test = Compare (unqualified test.column) Eq test.at (operands.Literal (unsigned test.digits))
+
 abbrev pub selection_of : boxed_selection.Selection → Selection
 selection_of (selections.Rows listed table joins condition) = Rows listed table joins (option_map test_of condition)
 selection_of (selections.Count table condition) = Count table (option_map test_of condition)
@@ -98,6 +121,8 @@ statement_of (statements.RollbackTo name) = RollbackTo name
 statement_of (statements.Release name) = Release name
 statement_of (statements.Select query) = Select (selection_of query)
 statement_of (statements.Update table sets condition) = Update table (map set_clause_of sets) (option_map test_of condition)
+statement_of (statements.ShortUpdate table set test) = Update table (clause_of_short set ∷ []) (Some (test_of_short test))
+statement_of (statements.ShortSelect column table test) = Select (Rows (Columns (unqualified column ∷ [])) table [] (Some (test_of_short test)))
 statement_of (statements.Delete table condition) = Delete table (option_map test_of condition)
 statement_of (statements.Schedule turns) = Schedule turns
 statement_of statements.End = End

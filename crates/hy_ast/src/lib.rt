@@ -3,6 +3,9 @@
 //! span.
 #![tactic(auto)]
 
+ghost use Rattle.std.specs.Prelude.{◌≡◌};
+ghost use Rattle.hy_ast.specs.Trees.{clause_of_short, set_clause_of, test_of, test_of_short, unqualified, unsigned};
+
 use hy_token::Span;
 use hy_value::{Cmp, Kind, Seq};
 
@@ -167,6 +170,84 @@ pub struct SetClause {
     pub value: Formula,
 }
 
+/// A short assignment: to a column, of a column that is written without its table and an integer without a sign, with `+` or `-`
+/// between.
+#[derive(Clone, Copy)]
+pub struct ShortSet {
+    /// The column that is set.
+    pub column: Span,
+    /// The column on the left of the operator.
+    pub left: Span,
+    /// The operator.
+    pub op: Operator,
+    /// Where it stands.
+    pub at: Span,
+    /// The digits on its right.
+    pub digits: Span,
+}
+
+impl ShortSet {
+    /// The same as any assignment is held.
+    pub fn clause(&self) -> SetClause
+        ensures { set_clause_of result ≡ clause_of_short self.now }
+    {
+        SetClause {
+            column: self.column,
+            value: Formula::Pair {
+                left: Operand::Column(unqualified(self.left)),
+                op: self.op,
+                at: self.at,
+                right: Operand::Literal(unsigned(self.digits)),
+            },
+        }
+    }
+}
+
+/// A short condition: a column that is written without its table is equal to an integer without a sign.
+#[derive(Clone, Copy)]
+pub struct ShortTest {
+    /// The column.
+    pub column: Span,
+    /// Where `=` stands.
+    pub at: Span,
+    /// The digits.
+    pub digits: Span,
+}
+
+impl ShortTest {
+    /// The same as any condition is held.
+    pub fn test(&self) -> Test
+        ensures { test_of result ≡ test_of_short self.now }
+    {
+        Test::Compare {
+            left: unqualified(self.column),
+            op: Cmp::Eq,
+            at: self.at,
+            right: Operand::Literal(unsigned(self.digits)),
+        }
+    }
+}
+
+/// A column that is written without its table.
+pub fn unqualified(column: Span) -> ColumnRef
+    ensures { result ≡ unqualified column }
+{
+    ColumnRef {
+        table: None,
+        column,
+    }
+}
+
+/// An integer that is written without a sign.
+fn unsigned(digits: Span) -> Literal
+    ensures { result ≡ unsigned digits }
+{
+    Literal::Integer {
+        minus: None,
+        digits,
+    }
+}
+
 /// What a SELECT of rows lists.
 #[derive(Drop)]
 pub enum Listed {
@@ -288,6 +369,24 @@ pub enum Statement {
         sets: Seq<SetClause>,
         /// WHERE.
         condition: Option<Test>,
+    },
+    /// UPDATE with one short assignment and a short condition, which needs no list.
+    ShortUpdate {
+        /// The table.
+        table: Span,
+        /// The assignment.
+        set: ShortSet,
+        /// WHERE.
+        test: ShortTest,
+    },
+    /// SELECT of a column, written without its table, by a short condition on one table, which needs no list.
+    ShortSelect {
+        /// The column that is listed.
+        column: Span,
+        /// The table.
+        table: Span,
+        /// WHERE.
+        test: ShortTest,
     },
     /// DELETE FROM.
     Delete {

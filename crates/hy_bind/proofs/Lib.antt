@@ -1,5 +1,6 @@
 pub mod Alone
 pub mod Few
+pub mod BriefFits
 pub mod Ordinals
 pub mod Firsts
 pub mod Fitting

@@ -8,6 +8,7 @@ ghost use Rattle.hy_bind.specs.Statements.{Binds, HasNames, NamesTables, bind_fa
 ghost use Rattle.hy_value.specs.TextBytes.{text_of};
 ghost use Rattle.hy_bind.specs.Literals.{text_of_span};
 
+mod brief;
 mod conditions;
 mod expressions;
 mod joins;
@@ -20,6 +21,7 @@ mod scope;
 mod statements;
 mod tables;
 
+use brief::{short_select, short_update};
 use hy_ast::Statement;
 use hy_bound::{Bound, Name};
 use hy_schema::Catalog;
@@ -127,6 +129,12 @@ fn statement(alloc: Global, scope: &Scope, ast: &Statement) -> Result<Bound, Bin
             condition,
             ..
         } => statements::update(alloc, scope, sets.as_slice(), condition.as_ref()),
+        Statement::ShortUpdate { set, test, .. } => short_update(alloc, scope, set, test),
+        Statement::ShortSelect {
+            column,
+            table,
+            test,
+        } => short_select(alloc, scope, *column, *table, test),
         Statement::Delete { condition, .. } => statements::delete(alloc, scope, condition.as_ref()),
         Statement::Select(query) => queries::query(alloc, scope, query),
         _ => unreachable!(),

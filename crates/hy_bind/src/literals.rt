@@ -51,7 +51,7 @@ fn signed(minus: bool, number: u64) -> Option<i64>
 }
 
 /// The integer that digits write with a sign, if it lies within 64 bits.
-fn integer(minus: bool, digits: &[u8]) -> Option<i64>
+pub fn integer(minus: bool, digits: &[u8]) -> Option<i64>
     ensures { result ≡ integer_of minus (number_of digits.now) }
 {
     signed(minus, number(digits)?)

@@ -34,7 +34,7 @@ pub fn table(scope: &Scope) -> u32
 }
 
 /// The columns of that table.
-fn columns<'a>(scope: &Scope<'a>) -> &'a [Column]
+pub fn columns<'a>(scope: &Scope<'a>) -> &'a [Column]
     ensures { result.now ≡ columns_of (scope_of scope.now) }
 {
     match scope.catalog.table(table(scope)) {
@@ -44,7 +44,7 @@ fn columns<'a>(scope: &Scope<'a>) -> &'a [Column]
 }
 
 /// The number of its key, if it has one.
-fn key(scope: &Scope) -> Option<u32>
+pub fn key(scope: &Scope) -> Option<u32>
     ensures { result ≡ key_of (scope_of scope.now) }
 {
     scope.catalog.table(table(scope))?.key
@@ -230,7 +230,7 @@ fn kind_at(columns: &[Column], column: usize) -> Option<Kind>
 }
 
 /// Whether a column is the key.
-fn is_key(key: Option<u32>, column: usize) -> bool
+pub fn is_key(key: Option<u32>, column: usize) -> bool
     ensures { result ≡ is_key key column }
 {
     match key {

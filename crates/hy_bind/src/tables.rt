@@ -21,7 +21,9 @@ pub fn table_and_joins(ast: &Statement) -> (Span, &[Join])
     match ast {
         Statement::Insert { table, .. }
         | Statement::Update { table, .. }
-        | Statement::Delete { table, .. } => (*table, &[]),
+        | Statement::Delete { table, .. }
+        | Statement::ShortUpdate { table, .. }
+        | Statement::ShortSelect { table, .. } => (*table, &[]),
         Statement::Select(query) => from_clause(query),
         _ => unreachable!(),
     }

@@ -14,4 +14,5 @@ pub mod Closings
 pub mod Spans
 pub mod Scripts
 pub mod Short
+pub mod Shortest
 pub mod Single

@@ -452,14 +452,19 @@ select_at pieces = do
   selection ← selection_at begun.1
   Done (tree.Select selection.0) selection.1
 
+-- what follows SET of an UPDATE of this table
+abbrev pub changed_at : Span → List Piece → Read Statement
+changed_at table pieces = do
+  sets ← items_at [] set_clause_at pieces
+  test ← condition_at sets.1
+  Done (tree.Update table sets.0 test.0) test.1
+
 unfoldable pub update_at : List Piece → Read Statement
 update_at pieces = do
   begun ← after (word Update ∷ []) pieces
   table ← name_at begun.1
   set ← after (word Set ∷ []) table.1
-  sets ← items_at [] set_clause_at set.1
-  test ← condition_at sets.1
-  Done (tree.Update table.0 sets.0 test.0) test.1
+  changed_at table.0 set.1
 
 unfoldable pub delete_at : List Piece → Read Statement
 delete_at pieces = do

@@ -57,7 +57,7 @@ fn plain(pieces: &[Piece]) -> Result<(Formula, &[Piece]), Halt>
 }
 
 /// The next piece if it is `+` or `-`, and the pieces behind it.
-fn next_addition(pieces: &[Piece]) -> Option<(Operator, Span, &[Piece])>
+pub fn next_addition(pieces: &[Piece]) -> Option<(Operator, Span, &[Piece])>
     ensures { Sees (λ x. ((x.0, x.1), x.2.now)) result (seen addition pieces.now) }
 {
     let [piece, rest @ ..] = pieces else {

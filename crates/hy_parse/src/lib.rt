@@ -1,6 +1,7 @@
 //! Statements read from a script: the whole grammar, and the offset of the first token that does not fit.
 #![tactic(auto)]
 
+mod brief;
 mod conditions;
 mod cursor;
 mod expressions;

@@ -4,17 +4,18 @@ ghost use Rattle.std.specs.Prelude.{◌≡◌, [], ◌∷◌};
 ghost use Rattle.hy_ast.specs.Trees as tree;
 ghost use Rattle.hy_ast.specs.Trees.{statement_of};
 ghost use Rattle.hy_token.specs.declared.Keyword.TheVariants as words;
-ghost use Rattle.hy_parse.specs.Reading.{Gives, piece_at, kind_of, column_def_at, create_at, insert_at, session_at, begin_at, alone_at, select_at, release_at};
+ghost use Rattle.hy_parse.specs.Reading.{Gives, piece_at, kind_of, column_def_at, create_at, insert_at, session_at, begin_at, alone_at, changed_at, select_at, selected, selection_at, release_at};
 ghost use Rattle.hy_parse.specs.Reading.{savepoint_at, back_at, rollback_at, update_at, delete_at, turns_at, schedule_at, body_at, read_statement};
 
 use crate::Piece;
+use crate::brief::{short_change, short_selection};
 use crate::conditions::where_clause;
 use crate::cursor::{Halt, Rest, begins, expect, flag, name, next_span};
 use crate::expressions::assignments;
 use crate::lists::{Item, items};
 use crate::queries::{from_table, query};
 use hy_ast::{ColumnDef, Statement, Turn};
-use hy_token::{Keyword, Sign, Token};
+use hy_token::{Keyword, Sign, Span, Token};
 use hy_value::{Kind, Seq};
 use std::alloc::Global;
 
@@ -186,13 +187,46 @@ fn rollback<'a>(pieces: &'a [Piece], into: &mut Statement) -> Rest<'a>
     back(rest, into)
 }
 
+/// What follows SELECT. Most are short, and read without what lists ask for.
+fn selection<'a>(alloc: Global, pieces: &'a [Piece], into: &mut Statement) -> Rest<'a>
+    ensures { Gives (λ rest. (statement_of into.new, rest.now)) result (selected (selection_at pieces.now)) }
+{
+    if let Ok((column, table, test, rest)) = short_selection(pieces) {
+        *into = Statement::ShortSelect {
+            column,
+            table,
+            test,
+        };
+        return Ok(rest);
+    }
+    query(alloc, pieces, into)
+}
+
 /// SELECT.
 #[tactic(auto, unfolding(crate::specs::Reading::select_at))]
 fn select<'a>(alloc: Global, pieces: &'a [Piece], into: &mut Statement) -> Rest<'a>
     ensures { Gives (λ rest. (statement_of into.new, rest.now)) result (select_at pieces.now) }
 {
     let rest = expect(pieces, &[Token::Reserved(Keyword::Select)])?;
-    query(alloc, rest, into)
+    selection(alloc, rest, into)
+}
+
+/// What follows SET of an UPDATE of this table. Most are short, and read without what lists ask for.
+fn changed<'a>(alloc: Global, table: Span, pieces: &'a [Piece], into: &mut Statement) -> Rest<'a>
+    ensures { Gives (λ rest. (statement_of into.new, rest.now)) result (changed_at table pieces.now) }
+{
+    if let Ok((set, test, rest)) = short_change(pieces) {
+        *into = Statement::ShortUpdate { table, set, test };
+        return Ok(rest);
+    }
+    let (sets, rest) = assignments(alloc, pieces)?;
+    let (condition, rest) = where_clause(alloc, rest)?;
+    *into = Statement::Update {
+        table,
+        sets,
+        condition,
+    };
+    Ok(rest)
 }
 
 /// UPDATE.
@@ -203,14 +237,7 @@ fn update<'a>(alloc: Global, pieces: &'a [Piece], into: &mut Statement) -> Rest<
     let rest = expect(pieces, &[Token::Reserved(Keyword::Update)])?;
     let (table, rest) = name(rest)?;
     let rest = expect(rest, &[Token::Reserved(Keyword::Set)])?;
-    let (sets, rest) = assignments(alloc, rest)?;
-    let (condition, rest) = where_clause(alloc, rest)?;
-    *into = Statement::Update {
-        table,
-        sets,
-        condition,
-    };
-    Ok(rest)
+    changed(alloc, table, rest, into)
 }
 
 /// DELETE FROM.

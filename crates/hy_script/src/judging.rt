@@ -124,7 +124,10 @@ fn writes(ast: &Statement) -> bool
 {
     matches!(
         ast,
-        Statement::Insert { .. } | Statement::Update { .. } | Statement::Delete { .. }
+        Statement::Insert { .. }
+            | Statement::Update { .. }
+            | Statement::ShortUpdate { .. }
+            | Statement::Delete { .. }
     )
 }
 

@@ -49,6 +49,8 @@ impl Desk {
             Statement::Commit => Ok(self.close(name, true)),
             Statement::Rollback => Ok(self.close(name, false)),
             Statement::Select(_)
+            | Statement::ShortSelect { .. }
+            | Statement::ShortUpdate { .. }
             | Statement::Insert { .. }
             | Statement::Update { .. }
             | Statement::Delete { .. }

@@ -2,6 +2,7 @@
 use Rattle.std.proofs.Common.{◌≡◌, ℕ, zero, suc, ◌≤◌, List, [], ◌∷◌, Option, None, length, get_or, set, refl, ap, ◌∙◌, sym, subst, arith, Result, Ok, Err}
 use Rattle.std.specs.Prelude.{OnOk, OnErr}
 use Rattle.std.proofs.lemmas.List.{length-append}
+use Rattle.std.proofs.lemmas.Option.{none-some}
 use Rattle.hy_value.specs.declared.change.Change.{Change}
 use Rattle.hy_bound.specs.declared.Shape.{Shape}
 use Rattle.hy_bound.specs.declared.Txn.{Txn}
@@ -47,7 +48,7 @@ limited_after r chunks shapes program after ended spare levels prepared line lim
       few_ended = many r ok err;
       none_noted = limited.none_noted;
       none_saved = limited.none_saved;
-      kept = tt;
+      kept = record { runs = λ kept is. elim (none-some kept is) [ ] };
     }
   where
     few : {T E : Type 0} (r : Result T E) → OnOk r (after ≡ grown line program) → OnErr r (after ≡ program) → length after ≤ MOST_TXNS

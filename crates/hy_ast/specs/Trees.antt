@@ -16,6 +16,7 @@ use Rattle.hy_ast.specs.declared.Join.{Join}
 use Rattle.hy_ast.specs.declared.Turn.{Turn}
 use Rattle.hy_ast.specs.declared.Total.{Total}
 use Rattle.hy_ast.specs.declared.Listed.TheVariants.{Columns}
+use Rattle.hy_ast.specs.declared.ShortSelection.{ShortSelection}
 use Rattle.hy_ast.specs.declared.ShortSet.{ShortSet}
 use Rattle.hy_ast.specs.declared.ShortTest.{ShortTest}
 use Rattle.hy_ast.specs.declared.Listed.{Listed}
@@ -80,7 +81,6 @@ test_of (boxed_test.Nested' p inner) = Nested (test_of inner)
 
 abbrev pub formula_of : boxed_formula.Formula → Formula
 formula_of (boxed_formula.Plain operand) = Plain operand
-formula_of (boxed_formula.Pair left op at right) = Binary (Plain left) op at (Plain right)
 formula_of (boxed_formula.Binary' p left op at q right) = Binary (formula_of left) op at (formula_of right)
 formula_of (boxed_formula.Bracket' p inner) = Bracket (formula_of inner)
 
@@ -94,7 +94,7 @@ unqualified column = record { table = None; column = column }
 abbrev pub unsigned : Span → Literal
 unsigned digits = Integer None digits
 
--- a short assignment and a short condition
+-- a short assignment, a short condition and a short SELECT
 abbrev pub clause_of_short : ShortSet → SetClause
 clause_of_short set = record {
   column = set.column;
@@ -103,6 +103,9 @@ clause_of_short set = record {
 
 abbrev pub test_of_short : ShortTest → Test
 test_of_short test = Compare (unqualified test.column) Eq test.at (operands.Literal (unsigned test.digits))
+
+abbrev pub selection_of_short : ShortSelection → Selection
+selection_of_short short = Rows (Columns (unqualified short.column ∷ [])) short.table [] (Some (test_of_short short.test))
 
 abbrev pub selection_of : boxed_selection.Selection → Selection
 selection_of (selections.Rows listed table joins condition) = Rows listed table joins (option_map test_of condition)
@@ -122,7 +125,7 @@ statement_of (statements.Release name) = Release name
 statement_of (statements.Select query) = Select (selection_of query)
 statement_of (statements.Update table sets condition) = Update table (map set_clause_of sets) (option_map test_of condition)
 statement_of (statements.ShortUpdate table set test) = Update table (clause_of_short set ∷ []) (Some (test_of_short test))
-statement_of (statements.ShortSelect column table test) = Select (Rows (Columns (unqualified column ∷ [])) table [] (Some (test_of_short test)))
+statement_of (statements.ShortSelect short) = Select (selection_of_short short)
 statement_of (statements.Delete table condition) = Delete table (option_map test_of condition)
 statement_of (statements.Schedule turns) = Schedule turns
 statement_of statements.End = End

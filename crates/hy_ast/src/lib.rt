@@ -3,11 +3,13 @@
 //! span.
 #![tactic(auto)]
 
-ghost use Rattle.std.specs.Prelude.{◌≡◌};
-ghost use Rattle.hy_ast.specs.Trees.{clause_of_short, set_clause_of, test_of, test_of_short, unqualified, unsigned};
+ghost use Rattle.std.specs.Prelude.{◌≡◌, IfOk};
+ghost use Rattle.hy_ast.specs.Trees.{And, Binary, Or, clause_of_short, formula_of, selection_of, selection_of_short, set_clause_of, test_of, test_of_short};
+ghost use Rattle.hy_ast.specs.Trees.{unqualified, unsigned};
 
 use hy_token::Span;
 use hy_value::{Cmp, Kind, Seq};
+use std::alloc::{AllocError, Global};
 
 /// A column, `column` or `table.column`.
 #[derive(Clone, Copy)]
@@ -96,6 +98,26 @@ pub enum Test {
     Nested(Box<Test>),
 }
 
+impl Test {
+    /// Two conditions with AND between.
+    pub fn and(alloc: Global, left: Test, at: Span, right: Test) -> Result<Test, AllocError>
+        ensures { IfOk result (λ whole. test_of whole ≡ And (test_of left) at (test_of right)) }
+    {
+        let left = Box::new(alloc, left)?;
+        let right = Box::new(alloc, right)?;
+        Ok(Test::And { left, at, right })
+    }
+
+    /// Two conditions with OR between.
+    pub fn or(alloc: Global, left: Test, at: Span, right: Test) -> Result<Test, AllocError>
+        ensures { IfOk result (λ whole. test_of whole ≡ Or (test_of left) at (test_of right)) }
+    {
+        let left = Box::new(alloc, left)?;
+        let right = Box::new(alloc, right)?;
+        Ok(Test::Or { left, at, right })
+    }
+}
+
 /// An operator of an expression.
 #[derive(Clone, Copy, Debug, PartialEq, Eq)]
 pub enum Operator {
@@ -113,17 +135,6 @@ pub enum Operator {
 pub enum Formula {
     /// A column or a literal.
     Plain(Operand),
-    /// An operator between two of these, which takes no boxes.
-    Pair {
-        /// What stands on the left.
-        left: Operand,
-        /// The operator.
-        op: Operator,
-        /// Where it stands.
-        at: Span,
-        /// What stands on the right.
-        right: Operand,
-    },
     /// An operator between two expressions.
     Binary {
         /// What stands on the left.
@@ -137,6 +148,28 @@ pub enum Formula {
     },
     /// An expression in parentheses.
     Bracket(Box<Formula>),
+}
+
+impl Formula {
+    /// Two expressions with an operator between.
+    pub fn binary(
+        alloc: Global,
+        left: Formula,
+        op: Operator,
+        at: Span,
+        right: Formula,
+    ) -> Result<Formula, AllocError>
+        ensures { IfOk result (λ whole. formula_of whole ≡ Binary (formula_of left) op at (formula_of right)) }
+    {
+        let left = Box::new(alloc, left)?;
+        let right = Box::new(alloc, right)?;
+        Ok(Formula::Binary {
+            left,
+            op,
+            at,
+            right,
+        })
+    }
 }
 
 /// A column of a new table.
@@ -188,18 +221,15 @@ pub struct ShortSet {
 
 impl ShortSet {
     /// The same as any assignment is held.
-    pub fn clause(&self) -> SetClause
-        ensures { set_clause_of result ≡ clause_of_short self.now }
+    pub fn clause(&self, alloc: Global) -> Result<SetClause, AllocError>
+        ensures { IfOk result (λ clause. set_clause_of clause ≡ clause_of_short self.now) }
     {
-        SetClause {
+        let left = Formula::Plain(Operand::Column(unqualified(self.left)));
+        let right = Formula::Plain(Operand::Literal(unsigned(self.digits)));
+        Ok(SetClause {
             column: self.column,
-            value: Formula::Pair {
-                left: Operand::Column(unqualified(self.left)),
-                op: self.op,
-                at: self.at,
-                right: Operand::Literal(unsigned(self.digits)),
-            },
-        }
+            value: Formula::binary(alloc, left, self.op, self.at, right)?,
+        })
     }
 }
 
@@ -304,6 +334,31 @@ pub enum Selection {
     },
 }
 
+/// A short SELECT: of a column, written without its table, by a short condition on one table.
+#[derive(Clone, Copy)]
+pub struct ShortSelection {
+    /// The column that is listed.
+    pub column: Span,
+    /// The table.
+    pub table: Span,
+    /// WHERE.
+    pub test: ShortTest,
+}
+
+impl ShortSelection {
+    /// The same as any SELECT is held.
+    pub fn selection(&self, alloc: Global) -> Result<Selection, AllocError>
+        ensures { IfOk result (λ selection. selection_of selection ≡ selection_of_short self.now) }
+    {
+        Ok(Selection::Rows {
+            listed: Listed::Columns(Seq::from_slice(alloc, &[unqualified(self.column)])?),
+            table: self.table,
+            joins: Seq::new(alloc),
+            condition: Some(self.test.test()),
+        })
+    }
+}
+
 /// A turn of a schedule.
 #[derive(Clone, Copy)]
 pub struct Turn {
@@ -379,15 +434,8 @@ pub enum Statement {
         /// WHERE.
         test: ShortTest,
     },
-    /// SELECT of a column, written without its table, by a short condition on one table, which needs no list.
-    ShortSelect {
-        /// The column that is listed.
-        column: Span,
-        /// The table.
-        table: Span,
-        /// WHERE.
-        test: ShortTest,
-    },
+    /// A short SELECT, which needs no list.
+    ShortSelect(ShortSelection),
     /// DELETE FROM.
     Delete {
         /// The table.

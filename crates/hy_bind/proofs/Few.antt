@@ -1,5 +1,5 @@
 -- A name comes twice only among two or more.
-use Rattle.std.proofs.Common.{◌≡◌, ℕ, ◌<◌, false, List, [], ◌∷◌, None, length, refl, arith}
+use Rattle.std.proofs.Common.{◌≡◌, ℕ, ◌<◌, false, List, [], ◌∷◌, None, length, refl, ap, arith}
 use Rattle.std.specs.Prelude.{map}
 use Rattle.hy_token.specs.declared.Span.{Span}
 use Rattle.hy_ast.specs.declared.Join.{Join}
@@ -13,6 +13,11 @@ pub few : {A : Type 0} (name : A → List ℕ) (those : List A) → length those
 few name [] below = refl
 few name (one ∷ []) below = refl
 few {A = A} name (one ∷ other ∷ those) below = absurd (omega arith)
+
+-- the columns on the left of SET, whichever way the assignments are held
+pub set_columns : (sets : List SetClause) → map (λ set. set.column) (map set_clause_of sets) ≡ map (λ set. set.column) sets
+set_columns [] = refl
+set_columns (set ∷ sets) = ap (◌∷◌ set.column) (set_columns sets)
 
 -- so one assignment sets no column twice
 pub few_sets : (script : List ℕ) (sets : List SetClause) → length sets < 2

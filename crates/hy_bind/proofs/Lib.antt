@@ -1,6 +1,6 @@
 pub mod Alone
 pub mod Few
-pub mod BriefFits
+pub mod ShortForms
 pub mod Ordinals
 pub mod Firsts
 pub mod Fitting

@@ -4,6 +4,6 @@ pub mod Scope
 pub mod Conditions
 pub mod Expressions
 pub mod Statements
-pub mod Brief
+pub mod ShortForms
 pub mod Shapes
 pub mod Meaning

@@ -4,7 +4,6 @@ ghost use Rattle.std.specs.Prelude.{◌≡◌, not, is_none, IfOk};
 ghost use Rattle.std.specs.Option.{option_map, option_copied};
 ghost use Rattle.hy_ast.specs.Trees.{test_of};
 ghost use Rattle.hy_bound.specs.Condition.{Compare};
-ghost use Rattle.hy_bind.specs.Literals.{literal_value};
 ghost use Rattle.hy_bind.specs.Refusals.{first_of, fault_if, agree};
 ghost use Rattle.hy_bind.specs.Scope.{scope_of, column_of, column_fault, operand_side};
 ghost use Rattle.hy_bind.specs.Conditions.{compare_fault, test_fault, test_bound, where_fault, where_bound, null_bound};
@@ -12,10 +11,10 @@ ghost use Rattle.hy_bind.specs.Conditions.{compare_fault, test_fault, test_bound
 use crate::literals::{kind_of, plain, value};
 use crate::refusals::{BindFault, agree, fault_if, first_of};
 use crate::scope::{Found, Scope, kind_in, missing, number, resolve};
-use hy_ast::{ColumnRef, Literal, Operand, Test};
+use hy_ast::{ColumnRef, Operand, Test};
 use hy_bound::{Pred, Side, SideView};
 use hy_value::{Cmp, Kind};
-use std::alloc::{AllocError, Global};
+use std::alloc::AllocError;
 
 /// A condition as it is bound: why it is refused, and what the engine runs.
 #[derive(Drop)]
@@ -27,25 +26,12 @@ pub struct BoundTest {
 }
 
 /// WHERE with its names resolved, each once.
-pub fn tested(
-    alloc: Global,
-    scope: &Scope,
-    condition: Option<&Test>,
-) -> Result<BoundTest, AllocError>
+pub fn tested(scope: &Scope, condition: Option<&Test>) -> Result<BoundTest, AllocError>
     ensures fault { IfOk result (λ tested. tested.fault ≡ where_fault (scope_of scope.now) (option_map test_of (option_copied condition.entry))) }
     ensures pred { IfOk result (λ tested. tested.pred ≡ where_bound (scope_of scope.now) (option_map test_of (option_copied condition.entry))) }
 {
     match condition {
-        // Most conditions are one comparison.
-        Some(
-            Test::Compare {
-                left,
-                op,
-                right,
-                ..
-            },
-        ) => comparison(alloc, scope, left, *op, right),
-        Some(condition) => test(alloc, scope, condition),
+        Some(condition) => test(scope, condition),
         None => Ok(BoundTest {
             fault: None,
             pred: Pred::always(),
@@ -54,7 +40,7 @@ pub fn tested(
 }
 
 /// A condition with its names resolved.
-fn test(alloc: Global, scope: &Scope, condition: &Test) -> Result<BoundTest, AllocError>
+fn test(scope: &Scope, condition: &Test) -> Result<BoundTest, AllocError>
     ensures fault { IfOk result (λ tested. tested.fault ≡ test_fault (scope_of scope.now) (test_of condition.now)) }
     ensures pred { IfOk result (λ tested. tested.pred ≡ test_bound (scope_of scope.now) (test_of condition.now)) }
 {
@@ -64,32 +50,28 @@ fn test(alloc: Global, scope: &Scope, condition: &Test) -> Result<BoundTest, All
             op,
             right,
             ..
-        } => comparison(alloc, scope, left, *op, right),
+        } => comparison(scope, left, *op, right),
         Test::IsNull {
             column,
             negated,
             ..
-        } => null_test(alloc, scope, column, *negated),
+        } => null_test(scope, column, *negated),
         Test::Not { condition, .. } => {
-            let BoundTest { fault, pred } = test(alloc, scope, condition)?;
-            let pred = Pred::not(alloc, pred)?;
+            let BoundTest { fault, pred } = test(scope, condition)?;
+            let pred = Pred::not(scope.alloc, pred)?;
             Ok(BoundTest { fault, pred })
         }
-        Test::And { left, right, .. } => {
-            let left = test(alloc, scope, left)?;
-            let right = test(alloc, scope, right)?;
+        Test::And { left, right, .. } | Test::Or { left, right, .. } => {
+            let left = test(scope, left)?;
+            let right = test(scope, right)?;
             let fault = first_of(left.fault, right.fault);
-            let pred = Pred::and(alloc, left.pred, right.pred)?;
+            let pred = match condition {
+                Test::And { .. } => Pred::and(scope.alloc, left.pred, right.pred)?,
+                _ => Pred::or(scope.alloc, left.pred, right.pred)?,
+            };
             Ok(BoundTest { fault, pred })
         }
-        Test::Or { left, right, .. } => {
-            let left = test(alloc, scope, left)?;
-            let right = test(alloc, scope, right)?;
-            let fault = first_of(left.fault, right.fault);
-            let pred = Pred::or(alloc, left.pred, right.pred)?;
-            Ok(BoundTest { fault, pred })
-        }
-        Test::Nested(condition) => test(alloc, scope, condition),
+        Test::Nested(condition) => test(scope, condition),
     }
 }
 
@@ -97,7 +79,6 @@ fn test(alloc: Global, scope: &Scope, condition: &Test) -> Result<BoundTest, All
 /// each.
 #[inline(never)]
 fn comparison(
-    alloc: Global,
     scope: &Scope,
     left: &ColumnRef,
     op: Cmp,
@@ -114,15 +95,18 @@ fn comparison(
             let right = resolve(scope, reference);
             let fault = unequal(left, missing(right), kind_in(right));
             let side = SideView::Column(number(right)?);
-            let pred = Pred::compare_view(alloc, column, op, side)?;
+            let pred = Pred::compare_view(scope.alloc, column, op, side)?;
             Ok(BoundTest { fault, pred })
         }
         Operand::Literal(literal) => {
-            let right = plain(scope.script, literal);
-            let fault = unequal(left, right.fault, kind_of(literal));
-            let pred = match right.side {
-                Some(side) => Pred::compare_view(alloc, column, op, side)?,
-                None => compared_text(alloc, scope.script, column, op, literal)?,
+            let (unfit, side) = plain(scope.script, literal);
+            let fault = unequal(left, unfit, kind_of(literal));
+            let pred = match side {
+                Some(side) => Pred::compare_view(scope.alloc, column, op, side)?,
+                None => {
+                    let side = Side::Literal(value(scope.alloc, scope.script, literal)?);
+                    Pred::compare(scope.alloc, column, op, side)?
+                }
             };
             Ok(BoundTest { fault, pred })
         }
@@ -139,38 +123,12 @@ pub fn unequal(
         (fault_if (not (agree (option_map (λ column. column.kind) left) kind)) BindFault.WrongType) }
 {
     let same = agree(kind_in(left), kind);
-    first_of(
-        first_of(missing(left), right),
-        fault_if(!same, BindFault::WrongType),
-    )
-}
-
-/// A comparison with a text; one that is refused, as any.
-#[inline(never)]
-fn compared_text(
-    alloc: Global,
-    script: &[u8],
-    column: u32,
-    op: Cmp,
-    right: &Literal,
-) -> Result<Pred, AllocError>
-    ensures { IfOk result (λ p. p ≡ Compare column op (Side.Literal (literal_value script.now right.now))) }
-{
-    Pred::compare(
-        alloc,
-        column,
-        op,
-        Side::Literal(value(alloc, script, right)?),
-    )
+    let wrong_type = fault_if(!same, BindFault::WrongType);
+    first_of(first_of(missing(left), right), wrong_type)
 }
 
 /// IS NULL, or IS NOT NULL, with its column resolved.
-fn null_test(
-    alloc: Global,
-    scope: &Scope,
-    reference: &ColumnRef,
-    negated: bool,
-) -> Result<BoundTest, AllocError>
+fn null_test(scope: &Scope, reference: &ColumnRef, negated: bool) -> Result<BoundTest, AllocError>
     ensures fault { IfOk result (λ tested. tested.fault ≡ column_fault (scope_of scope.now) reference.now) }
     ensures pred { IfOk result (λ tested. tested.pred ≡ null_bound (column_of (scope_of scope.now) reference.now) negated) }
 {
@@ -179,7 +137,7 @@ fn null_test(
     Ok(BoundTest {
         fault: missing(column),
         pred: if negated {
-            Pred::not(alloc, is_null)?
+            Pred::not(scope.alloc, is_null)?
         } else {
             is_null
         },

@@ -1,19 +1,15 @@
 //! The right sides of assignments with their names resolved.
 
-ghost use Rattle.std.specs.Prelude.{◌≡◌, ◌&&◌, not, IfOk, is_none};
-ghost use Rattle.std.specs.Option.{option_map, option_map_or};
+ghost use Rattle.std.specs.Prelude.{◌≡◌, ◌&&◌, not, IfOk};
 ghost use Rattle.hy_ast.specs.Trees.{formula_of};
-ghost use Rattle.hy_bound.specs.Expression as expressed;
-ghost use Rattle.hy_bound.specs.Expression.{Column};
-ghost use Rattle.hy_bind.specs.Literals.{literal_value};
 ghost use Rattle.hy_bind.specs.Refusals.{fault_if, first_of};
-ghost use Rattle.hy_bind.specs.Scope.{scope_of, operand_fault, operand_kind};
-ghost use Rattle.hy_bind.specs.Expressions.{formula_kind, formula_fault, formula_bound, operand_bound, binary_bound, is_number};
+ghost use Rattle.hy_bind.specs.Scope.{operand_fault, operand_kind, scope_of};
+ghost use Rattle.hy_bind.specs.Expressions.{binary_bound, formula_bound, formula_fault, formula_kind, is_number, operand_bound};
 
 use crate::literals::{kind_of, plain, value};
 use crate::refusals::{BindFault, agree, fault_if, first_of};
-use crate::scope::{Found, Scope, kind_in, missing, number, resolve};
-use hy_ast::{Formula, Literal, Operand, Operator};
+use crate::scope::{Scope, kind_in, missing, number, resolve};
+use hy_ast::{Formula, Operand, Operator};
 use hy_bound::{SetExpr, SideView};
 use hy_value::Kind;
 use std::alloc::{AllocError, Global};
@@ -30,80 +26,54 @@ pub struct Judged {
 }
 
 /// An expression with its names resolved, each once.
-pub fn expression(alloc: Global, scope: &Scope, tree: &Formula) -> Result<Judged, AllocError>
+pub fn expression(scope: &Scope, tree: &Formula) -> Result<Judged, AllocError>
     ensures fault { IfOk result (λ judged. judged.fault ≡ formula_fault (scope_of scope.now) (formula_of tree.now)) }
     ensures kind { IfOk result (λ judged. judged.kind ≡ formula_kind (scope_of scope.now) (formula_of tree.now)) }
     ensures value { IfOk result (λ judged. judged.value ≡ formula_bound (scope_of scope.now) (formula_of tree.now)) }
 {
     match tree {
-        Formula::Plain(operand) => single(alloc, scope, operand),
-        Formula::Pair {
-            left,
-            op,
-            right,
-            ..
-        } => {
-            let left = single(alloc, scope, left)?;
-            let right = single(alloc, scope, right)?;
-            binary(alloc, *op, left, right)
-        }
+        Formula::Plain(operand) => single(scope, operand),
         Formula::Binary {
             left,
             op,
             right,
             ..
         } => {
-            let left = expression(alloc, scope, left)?;
-            let right = expression(alloc, scope, right)?;
-            binary(alloc, *op, left, right)
+            let left = expression(scope, left)?;
+            let right = expression(scope, right)?;
+            binary(scope.alloc, *op, left, right)
         }
-        Formula::Bracket(inner) => expression(alloc, scope, inner),
+        Formula::Bracket(inner) => expression(scope, inner),
     }
 }
 
 /// A column or a literal as an expression. It stands by itself, so that a chain of operators takes little
 /// room for each.
 #[inline(never)]
-fn single(alloc: Global, scope: &Scope, operand: &Operand) -> Result<Judged, AllocError>
+fn single(scope: &Scope, operand: &Operand) -> Result<Judged, AllocError>
     ensures fault { IfOk result (λ judged. judged.fault ≡ operand_fault (scope_of scope.now) operand.now) }
     ensures kind { IfOk result (λ judged. judged.kind ≡ operand_kind (scope_of scope.now) operand.now) }
     ensures value { IfOk result (λ judged. judged.value ≡ operand_bound (scope_of scope.now) operand.now) }
 {
     match operand {
-        Operand::Column(reference) => named(resolve(scope, reference)),
-        Operand::Literal(literal) => {
-            let seen = plain(scope.script, literal);
+        Operand::Column(reference) => {
+            let found = resolve(scope, reference);
             Ok(Judged {
-                fault: seen.fault,
-                kind: kind_of(literal),
-                value: match seen.side {
-                    Some(SideView::Int(number)) => SetExpr::number(number),
-                    _ => written(alloc, scope.script, literal)?,
-                },
+                fault: missing(found),
+                kind: kind_in(found),
+                value: SetExpr::column(number(found)?),
             })
         }
+        Operand::Literal(literal) => {
+            let (fault, side) = plain(scope.script, literal);
+            let value = match side {
+                Some(SideView::Int(number)) => SetExpr::number(number),
+                _ => SetExpr::literal(scope.alloc, value(scope.alloc, scope.script, literal)?)?,
+            };
+            let kind = kind_of(literal);
+            Ok(Judged { fault, kind, value })
+        }
     }
-}
-
-/// A literal that is no number as an expression. It stands by itself, since a value takes as much room as the longest text.
-#[inline(never)]
-fn written(alloc: Global, script: &[u8], literal: &Literal) -> Result<SetExpr, AllocError>
-    ensures { IfOk result (λ made. made ≡ expressed.Literal (literal_value script.now literal.now)) }
-{
-    SetExpr::literal(alloc, value(alloc, script, literal)?)
-}
-
-/// What a reference means as an expression, if it means a column.
-fn named(found: Option<Found>) -> Result<Judged, AllocError>
-    ensures fault { IfOk result (λ judged. judged.fault ≡ fault_if (is_none found) BindFault.UnknownColumn) }
-    ensures kind { IfOk result (λ judged. judged.kind ≡ option_map (λ column. column.kind) found) }
-    ensures value { IfOk result (λ judged. judged.value ≡ Column (option_map_or (λ column. column.column) found 0)) }
-{
-    Ok(Judged {
-        fault: missing(found),
-        kind: kind_in(found),
-        value: SetExpr::column(number(found)?),
-    })
 }
 
 /// Whether a type may be that of a number.
@@ -113,7 +83,8 @@ pub fn is_number(kind: Option<Kind>) -> bool
     agree(kind, Some(Kind::Int))
 }
 
-/// An operator between two expressions.
+/// An operator between two expressions. It stands by itself, as a column or a literal does.
+#[inline(never)]
 fn binary(alloc: Global, op: Operator, left: Judged, right: Judged) -> Result<Judged, AllocError>
     ensures fault { IfOk result (λ judged. judged.fault ≡ first_of (first_of left.fault right.fault)
         (fault_if (not (is_number left.kind && is_number right.kind)) BindFault.WrongType)) }
@@ -122,14 +93,26 @@ fn binary(alloc: Global, op: Operator, left: Judged, right: Judged) -> Result<Ju
 {
     let numbers = is_number(left.kind) && is_number(right.kind);
     let sides = first_of(left.fault, right.fault);
-    let value = match op {
-        Operator::Plus => SetExpr::add(alloc, left.value, right.value)?,
-        Operator::Minus => SetExpr::sub(alloc, left.value, right.value)?,
-        Operator::Times => SetExpr::mul(alloc, left.value, right.value)?,
-    };
     Ok(Judged {
         fault: first_of(sides, fault_if(!numbers, BindFault::WrongType)),
         kind: Some(Kind::Int),
-        value,
+        value: combined(alloc, op, left.value, right.value)?,
     })
+}
+
+/// What the engine runs for an operator between two expressions.
+#[inline(always)]
+pub fn combined(
+    alloc: Global,
+    op: Operator,
+    left: SetExpr,
+    right: SetExpr,
+) -> Result<SetExpr, AllocError>
+    ensures { IfOk result (λ value. value ≡ binary_bound op left right) }
+{
+    match op {
+        Operator::Plus => SetExpr::add(alloc, left, right),
+        Operator::Minus => SetExpr::sub(alloc, left, right),
+        Operator::Times => SetExpr::mul(alloc, left, right),
+    }
 }

@@ -10,7 +10,7 @@ use crate::scope::{Scope, kind_in, missing, number, resolve};
 use hy_ast::Join;
 use hy_bound::{On, Ons};
 use hy_value::Seq;
-use std::alloc::{AllocError, Global};
+use std::alloc::AllocError;
 
 /// The first so many tables.
 fn visible<'a>(scope: &Scope<'a>, count: usize) -> Scope<'a>
@@ -18,23 +18,18 @@ fn visible<'a>(scope: &Scope<'a>, count: usize) -> Scope<'a>
 {
     let count = count.min(scope.tables.len());
     Scope {
-        script: scope.script,
-        catalog: scope.catalog,
         tables: &scope.tables[..count],
+        ..*scope
     }
 }
 
 /// Why the ONs are refused, and these as the engine runs them. In each the tables up to the one just joined are visible.
-pub fn ons(
-    alloc: Global,
-    scope: &Scope,
-    joins: &[Join],
-) -> Result<(Option<BindFault>, Ons), AllocError>
+pub fn ons(scope: &Scope, joins: &[Join]) -> Result<(Option<BindFault>, Ons), AllocError>
     ensures fault { IfOk result (λ found. found.0 ≡ joins_fault (scope_of scope.now) 2 joins.now) }
     ensures ons { IfOk result (λ found. found.1 ≡ ons_bound (scope_of scope.now) 2 joins.now) }
 {
     let mut fault = None;
-    let mut all = Vec::with_capacity(alloc, joins.len())?;
+    let mut all = Vec::with_capacity(scope.alloc, joins.len())?;
     for (i, join) in joins.iter().enumerate() {
         let (unfit, equal) = on(&visible(scope, i + 2), join)?;
         fault = first_of(fault, unfit);

@@ -8,7 +8,6 @@ ghost use Rattle.hy_bind.specs.Statements.{Binds, HasNames, NamesTables, bind_fa
 ghost use Rattle.hy_value.specs.TextBytes.{text_of};
 ghost use Rattle.hy_bind.specs.Literals.{text_of_span};
 
-mod brief;
 mod conditions;
 mod expressions;
 mod joins;
@@ -18,10 +17,10 @@ mod literals;
 mod queries;
 mod refusals;
 mod scope;
+mod short;
 mod statements;
 mod tables;
 
-use brief::{short_select, short_update};
 use hy_ast::Statement;
 use hy_bound::{Bound, Name};
 use hy_schema::Catalog;
@@ -30,6 +29,7 @@ pub use laws::{bound_statements_fit, names_mean_one_column};
 pub use literals::{text, text_in};
 pub use refusals::{BindError, BindFault};
 use scope::Scope;
+use short::{short_select, short_update};
 use std::alloc::{AllocError, Global};
 pub use tables::repeats;
 
@@ -84,11 +84,12 @@ fn over_tables(
         return Err(BindError::Refused(BindFault::UnknownTable));
     };
     let scope = Scope {
+        alloc,
         script,
         catalog,
         tables: &[number],
     };
-    statement(alloc, &scope, ast)
+    statement(&scope, ast)
 }
 
 /// A statement of any number of tables.
@@ -103,40 +104,34 @@ fn joined(
 {
     let (table, joins) = tables::table_and_joins(ast);
     let tables = tables::joined_tables(alloc, table, joins)?;
-    match tables::numbers(alloc, script, catalog, tables.as_slice())? {
-        Some(numbers) => {
-            let scope = Scope {
-                script,
-                catalog,
-                tables: numbers.as_slice(),
-            };
-            statement(alloc, &scope, ast)
-        }
-        None => Err(BindError::Refused(BindFault::UnknownTable)),
-    }
+    let numbers = tables::numbers(alloc, script, catalog, tables.as_slice())?;
+    let numbers = numbers.ok_or(BindError::Refused(BindFault::UnknownTable))?;
+    let scope = Scope {
+        alloc,
+        script,
+        catalog,
+        tables: numbers.as_slice(),
+    };
+    statement(&scope, ast)
 }
 
 /// A statement whose tables are there.
 #[inline(always)]
-fn statement(alloc: Global, scope: &Scope, ast: &Statement) -> Result<Bound, BindError>
+fn statement(scope: &Scope, ast: &Statement) -> Result<Bound, BindError>
     requires { NamesTables (statement_of ast.now) }
     ensures { Binds result (fault_in (scope_of scope.now) (statement_of ast.now)) (bound_in (scope_of scope.now) (statement_of ast.now)) }
 {
     match ast {
-        Statement::Insert { values, .. } => statements::insert(alloc, scope, values.as_slice()),
+        Statement::Insert { values, .. } => statements::insert(scope, values.as_slice()),
         Statement::Update {
             sets,
             condition,
             ..
-        } => statements::update(alloc, scope, sets.as_slice(), condition.as_ref()),
-        Statement::ShortUpdate { set, test, .. } => short_update(alloc, scope, set, test),
-        Statement::ShortSelect {
-            column,
-            table,
-            test,
-        } => short_select(alloc, scope, *column, *table, test),
-        Statement::Delete { condition, .. } => statements::delete(alloc, scope, condition.as_ref()),
-        Statement::Select(query) => queries::query(alloc, scope, query),
+        } => statements::update(scope, sets.as_slice(), condition.as_ref()),
+        Statement::ShortUpdate { set, test, .. } => short_update(scope, set, test),
+        Statement::ShortSelect(short) => short_select(scope, short),
+        Statement::Delete { condition, .. } => statements::delete(scope, condition.as_ref()),
+        Statement::Select(query) => queries::query(scope, query),
         _ => unreachable!(),
     }
 }

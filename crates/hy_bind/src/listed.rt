@@ -11,7 +11,7 @@ use crate::scope::{Scope, kind_in, missing, number, resolve, width};
 use hy_ast::{ColumnRef, Listed, Total};
 use hy_bound::{Aggregate, Items, Numbers};
 use hy_value::Seq;
-use std::alloc::{AllocError, Global};
+use std::alloc::AllocError;
 
 /// What a SELECT shows, as it is bound: why it is refused, and what the engine shows.
 #[derive(Drop)]
@@ -23,30 +23,22 @@ pub struct Shown {
 }
 
 /// What is listed, each name resolved once.
-pub fn items(alloc: Global, scope: &Scope, listed: &Listed) -> Result<Shown, AllocError>
+pub fn items(scope: &Scope, listed: &Listed) -> Result<Shown, AllocError>
     ensures fault { IfOk result (λ shown. shown.fault ≡ listed_fault (scope_of scope.now) listed.now) }
     ensures items { IfOk result (λ shown. shown.items ≡ items_bound (scope_of scope.now) listed.now) }
 {
-    match listed {
-        Listed::All => Ok(Shown {
-            fault: None,
-            items: Items::Columns(all_columns(alloc, scope)?),
-        }),
+    let (fault, items) = match listed {
+        Listed::All => (None, Items::Columns(all_columns(scope)?)),
         Listed::Sum(reference) => {
             let (fault, column) = summed(scope, reference)?;
-            Ok(Shown {
-                fault,
-                items: Items::Sum(column),
-            })
+            (fault, Items::Sum(column))
         }
         Listed::Columns(references) => {
-            let (fault, numbers) = columns(alloc, scope, references.as_slice())?;
-            Ok(Shown {
-                fault,
-                items: Items::Columns(numbers),
-            })
+            let (fault, numbers) = columns(scope, references.as_slice())?;
+            (fault, Items::Columns(numbers))
         }
-    }
+    };
+    Ok(Shown { fault, items })
 }
 
 /// Why the total of a group is refused, and how the engine makes it.
@@ -74,15 +66,11 @@ fn summed(scope: &Scope, reference: &ColumnRef) -> Result<(Option<BindFault>, u3
 }
 
 /// The numbers of all columns of the joined row.
-fn all_columns(alloc: Global, scope: &Scope) -> Result<Numbers, AllocError>
+fn all_columns(scope: &Scope) -> Result<Numbers, AllocError>
     ensures { IfOk result (λ numbers. numbers ≡ range_with_len 0 (total_width scope.now.catalog.now scope.now.tables.now)) }
 {
     let width = u32::try_from(joined_width(scope)).map_err(|_| AllocError)?;
-    let mut numbers = Vec::with_capacity(alloc, width as usize)?;
-    for number in 0..width {
-        numbers.push(number)?;
-    }
-    Ok(Seq::from_vec(numbers))
+    Ok(Seq::from_vec((0..width).collect(scope.alloc)?))
 }
 
 /// How many columns the joined row has, wide enough for any sum of widths.
@@ -98,7 +86,6 @@ fn joined_width(scope: &Scope) -> u128
 
 /// Why columns are refused, and their numbers.
 fn columns(
-    alloc: Global,
     scope: &Scope,
     references: &[ColumnRef],
 ) -> Result<(Option<BindFault>, Numbers), AllocError>
@@ -106,7 +93,7 @@ fn columns(
     ensures numbers { IfOk result (λ found. found.1 ≡ map (column_of (scope_of scope.now)) references.now) }
 {
     let mut fault = None;
-    let mut numbers = Vec::with_capacity(alloc, references.len())?;
+    let mut numbers = Vec::with_capacity(scope.alloc, references.len())?;
     for reference in references {
         let found = resolve(scope, reference);
         fault = first_of(fault, missing(found));

@@ -1,9 +1,9 @@
 //! What the words of a script say.
 
-ghost use Rattle.std.specs.Prelude.{◌≡◌, ◌<◌, ◌≤◌, ◌∷◌, [], is_some, length, drop, IfOk, IfSome, IfNone};
+ghost use Rattle.std.specs.Prelude.{◌≡◌, ◌<◌, ◌≤◌, ◌∷◌, [], length, drop, IfOk, IfSome, IfNone};
 ghost use Rattle.hy_value.specs.TextBytes.{text_of};
 ghost use Rattle.hy_bind.specs.Literals.{text_of_span, number_of, in_reach, integer_of, unquoted, unquoted_rest, literal_kind, literal_fault};
-ghost use Rattle.hy_bind.specs.Literals.{literal_value, integer_value};
+ghost use Rattle.hy_bind.specs.Literals.{literal_value};
 ghost use Rattle.hy_bound.specs.PredView.{viewed_side};
 ghost use Rattle.hy_bound.specs.declared.predicate.Side.{Side};
 
@@ -39,22 +39,16 @@ fn number(digits: &[u8]) -> Option<u64>
     Some(number)
 }
 
-/// A number with its sign, if it lies within 64 bits.
-fn signed(minus: bool, number: u64) -> Option<i64>
-    ensures { result ≡ integer_of minus number }
+/// The integer that digits write with a sign, if it lies within 64 bits.
+pub fn integer(minus: bool, digits: &[u8]) -> Option<i64>
+    ensures { result ≡ integer_of minus (number_of digits.now) }
 {
+    let number = number(digits)?;
     if minus {
         0i64.checked_sub_unsigned(number)
     } else {
         0i64.checked_add_unsigned(number)
     }
-}
-
-/// The integer that digits write with a sign, if it lies within 64 bits.
-pub fn integer(minus: bool, digits: &[u8]) -> Option<i64>
-    ensures { result ≡ integer_of minus (number_of digits.now) }
-{
-    signed(minus, number(digits)?)
 }
 
 /// What a text says first, from an offset on, and the offset of what it says next; nothing where it is
@@ -112,24 +106,11 @@ pub fn kind_of(literal: &Literal) -> Option<Kind>
     }
 }
 
-/// The value of an integer; of one that is outside 64 bits, any.
-fn integer_value(integer: Option<i64>) -> Value
-    ensures { result ≡ integer_value integer }
-{
-    match integer {
-        Some(integer) => Value::Int(integer),
-        None => Value::Null,
-    }
-}
-
 /// The text that bytes are; for bytes that are none, the empty text.
 pub fn text(alloc: Global, bytes: &[u8]) -> Text
     ensures { result ≡ text_of bytes.now }
 {
-    match Text::from_bytes(alloc, bytes) {
-        Ok(text) => text,
-        Err(_) => Text::empty(alloc),
-    }
+    Text::from_bytes(alloc, bytes).unwrap_or_else(|_| Text::empty(alloc))
 }
 
 /// The value of a literal; of one that is refused, any.
@@ -139,8 +120,8 @@ pub fn value(alloc: Global, script: &[u8], literal: &Literal) -> Result<Value, A
     match literal {
         Literal::Null(_) => Ok(Value::Null),
         Literal::Integer { minus, digits } => {
-            let digits = text_in(script, *digits);
-            Ok(integer_value(integer(minus.is_some(), digits)))
+            let integer = integer(minus.is_some(), text_in(script, *digits));
+            Ok(integer.map_or(Value::Null, Value::Int))
         }
         Literal::Text(span) => {
             let bytes = unquote(alloc, text_in(script, *span))?;
@@ -149,49 +130,24 @@ pub fn value(alloc: Global, script: &[u8], literal: &Literal) -> Result<Value, A
     }
 }
 
-/// A literal as it is looked at once: why it is refused, and the side of a comparison that it is, where it is no text.
-#[derive(Clone, Copy)]
-pub struct PlainLiteral {
-    /// Why it is refused, if it is.
-    pub fault: Option<BindFault>,
-    /// What it is, unless it is a text; of one that is refused, any.
-    pub side: Option<SideView<'static>>,
-}
-
-/// A literal, its digits read once.
+/// Why a literal is refused, and the side of a comparison that it is, unless it is a text; of one that is refused, any.
+/// Its digits are read once.
 #[inline(always)]
-pub fn plain(script: &[u8], literal: &Literal) -> PlainLiteral
-    ensures fault { result.fault ≡ literal_fault script.now literal.now }
-    ensures side { IfSome result.side (λ side. viewed_side side ≡ Side.Literal (literal_value script.now literal.now)) }
+pub fn plain(script: &[u8], literal: &Literal) -> (Option<BindFault>, Option<SideView<'static>>)
+    ensures fault { result.0 ≡ literal_fault script.now literal.now }
+    ensures side { IfSome result.1 (λ side. viewed_side side ≡ Side.Literal (literal_value script.now literal.now)) }
 {
     match literal {
-        Literal::Null(_) => PlainLiteral {
-            fault: None,
-            side: Some(SideView::Null),
-        },
+        Literal::Null(_) => (None, Some(SideView::Null)),
         Literal::Integer { minus, digits } => {
-            let integer = integer(minus.is_some(), text_in(script, *digits));
-            PlainLiteral {
-                fault: fault_if(integer.is_none(), BindFault::TooBig),
-                side: Some(integer_side(integer)),
+            match integer(minus.is_some(), text_in(script, *digits)) {
+                Some(integer) => (None, Some(SideView::Int(integer))),
+                None => (Some(BindFault::TooBig), Some(SideView::Null)),
             }
         }
         Literal::Text(span) => {
             let length = unquoted_len(text_in(script, *span));
-            PlainLiteral {
-                fault: fault_if(length > 255, BindFault::Limit),
-                side: None,
-            }
+            (fault_if(length > 255, BindFault::Limit), None)
         }
-    }
-}
-
-/// An integer as a side of a comparison; one that is outside 64 bits, as any.
-fn integer_side(integer: Option<i64>) -> SideView<'static>
-    ensures { viewed_side result ≡ Side.Literal (integer_value integer) }
-{
-    match integer {
-        Some(integer) => SideView::Int(integer),
-        None => SideView::Null,
     }
 }

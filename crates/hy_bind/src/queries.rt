@@ -11,7 +11,7 @@ use crate::conditions::tested;
 use crate::joins::ons;
 use crate::listed::{aggregate, items};
 use crate::refusals::{BindError, BindFault, fault_if, first_of, refuse};
-use crate::scope::{Found, Scope, missing, number, resolve};
+use crate::scope::{Found, Scope, missing, number, resolve, wide_number};
 use crate::statements::table;
 use crate::tables::{joined_tables, repeats};
 use hy_ast::{Join, Selection};
@@ -19,10 +19,10 @@ use hy_bound::{Bound, Items};
 use hy_limits::MOST_JOINED;
 use hy_token::Span;
 use hy_value::Seq;
-use std::alloc::{AllocError, Global};
+use std::alloc::AllocError;
 
 /// A SELECT.
-pub fn query(alloc: Global, scope: &Scope, tree: &Selection) -> Result<Bound, BindError>
+pub fn query(scope: &Scope, tree: &Selection) -> Result<Bound, BindError>
     ensures { Binds result (selection_fault (scope_of scope.now) (selection_of tree.now)) (selection_bound (scope_of scope.now) (selection_of tree.now)) }
 {
     match tree {
@@ -32,25 +32,25 @@ pub fn query(alloc: Global, scope: &Scope, tree: &Selection) -> Result<Bound, Bi
             joins,
             condition,
         } => {
-            let from = from_fault(alloc, scope, *table, joins.as_slice())?;
-            let (unfit, ons) = ons(alloc, scope, joins.as_slice())?;
-            let tested = tested(alloc, scope, condition.as_ref())?;
-            let shown = items(alloc, scope, listed)?;
+            let from = from_fault(scope, *table, joins.as_slice())?;
+            let (unfit, ons) = ons(scope, joins.as_slice())?;
+            let tested = tested(scope, condition.as_ref())?;
+            let shown = items(scope, listed)?;
             let rest = first_of(shown.fault, tested.fault);
             refuse(first_of(first_of(from, unfit), rest))?;
             Ok(Bound::Select {
-                tables: Seq::from_slice(alloc, scope.tables)?,
+                tables: Seq::from_slice(scope.alloc, scope.tables)?,
                 ons,
                 pred: tested.pred,
                 items: shown.items,
             })
         }
         Selection::Count { condition, .. } => {
-            let tested = tested(alloc, scope, condition.as_ref())?;
+            let tested = tested(scope, condition.as_ref())?;
             refuse(tested.fault)?;
             Ok(Bound::Select {
-                tables: Seq::from_slice(alloc, scope.tables)?,
-                ons: Seq::new(alloc),
+                tables: Seq::from_slice(scope.alloc, scope.tables)?,
+                ons: Seq::new(scope.alloc),
                 pred: tested.pred,
                 items: Items::Count,
             })
@@ -62,7 +62,7 @@ pub fn query(alloc: Global, scope: &Scope, tree: &Selection) -> Result<Bound, Bi
             key,
             ..
         } => {
-            let tested = tested(alloc, scope, condition.as_ref())?;
+            let tested = tested(scope, condition.as_ref())?;
             let (fault, aggregate) = aggregate(scope, total)?;
             let key = resolve(scope, key);
             let columns = group_column_fault(resolve(scope, column), key);
@@ -79,19 +79,14 @@ pub fn query(alloc: Global, scope: &Scope, tree: &Selection) -> Result<Bound, Bi
 
 /// Why FROM is refused: a table comes twice, or there are too many.
 #[tactic(auto, using(crate::proofs::Few::one_table))]
-fn from_fault(
-    alloc: Global,
-    scope: &Scope,
-    table: Span,
-    joins: &[Join],
-) -> Result<Option<BindFault>, AllocError>
+fn from_fault(scope: &Scope, table: Span, joins: &[Join]) -> Result<Option<BindFault>, AllocError>
     ensures { IfOk result (λ fault. fault ≡ from_fault (scope_of scope.now) (table ∷ map (λ join. join.table) joins.now)) }
 {
     if joins.is_empty() {
         return Ok(None);
     }
-    let tables = joined_tables(alloc, table, joins)?;
-    let again = repeats(alloc, scope.script, tables.as_slice())?;
+    let tables = joined_tables(scope.alloc, table, joins)?;
+    let again = repeats(scope.alloc, scope.script, tables.as_slice())?;
     let twice = fault_if(again, BindFault::Twice);
     let limit = fault_if(tables.len() > MOST_JOINED, BindFault::Limit);
     Ok(first_of(twice, limit))
@@ -105,14 +100,4 @@ fn group_column_fault(listed: Option<Found>, key: Option<Found>) -> Option<BindF
     let unknown = first_of(missing(listed), missing(key));
     let other = wide_number(listed) != wide_number(key);
     first_of(unknown, fault_if(other, BindFault::GroupColumn))
-}
-
-/// The number of a column that was found, wide enough for any.
-fn wide_number(found: Option<Found>) -> u128
-    ensures { result ≡ option_map_or (λ found. found.column) found 0 }
-{
-    match found {
-        Some(found) => found.column,
-        None => 0,
-    }
 }

@@ -1,7 +1,7 @@
 //! Why a statement is refused.
 
 ghost use Rattle.std.specs.Prelude.{◌≡◌, None, IfErr, OnOk};
-ghost use Rattle.hy_bind.specs.Refusals.{rank, first_of, fault_if, same_kind, agree};
+ghost use Rattle.hy_bind.specs.Refusals.{first_of, fault_if, agree};
 ghost use Rattle.hy_bind.specs.declared.refusals.BindError.TheVariants.{OutOfMemory};
 ghost use Rattle.hy_bind.specs.Statements.{Fails};
 
@@ -48,21 +48,13 @@ impl From<AllocError> for BindError {
     }
 }
 
-/// The rank of a refusal in the order in which they are tested.
-fn rank(fault: BindFault) -> u8
-    ensures { result ≡ rank fault }
-{
-    fault as u8
-}
-
 /// Of two refusals the one that is tested first.
 pub fn first_of(left: Option<BindFault>, right: Option<BindFault>) -> Option<BindFault>
     ensures { result ≡ first_of left right }
 {
     match (left, right) {
-        (None, right) => right,
-        (Some(left), Some(right)) if rank(right) < rank(left) => Some(right),
-        (left, _) => left,
+        (Some(left), Some(right)) if (right as u8) < left as u8 => Some(right),
+        (left, right) => left.or(right),
     }
 }
 
@@ -89,14 +81,7 @@ pub fn agree(left: Option<Kind>, right: Option<Kind>) -> bool
     ensures { result ≡ agree left right }
 {
     match (left, right) {
-        (Some(left), Some(right)) => same_kind(left, right),
+        (Some(left), Some(right)) => left == right,
         _ => true,
     }
-}
-
-/// Whether two types are equal.
-fn same_kind(left: Kind, right: Kind) -> bool
-    ensures { result ≡ same_kind left right }
-{
-    left == right
 }

@@ -4,19 +4,21 @@ ghost use Rattle.std.specs.Prelude.{◌≡◌, ◌<◌, ◌^◌, is_none, IfOk};
 ghost use Rattle.std.specs.Option.{option_and_then, option_map, option_map_or};
 ghost use Rattle.hy_schema.specs.Names.{column_number, table_at};
 ghost use Rattle.hy_bind.specs.Refusals.{fault_if};
-ghost use Rattle.hy_bind.specs.Scope.{scope_of, width_at, may_mean, found_in, and_found, only, resolved};
+ghost use Rattle.hy_bind.specs.Scope.{scope_of, width_at, may_mean, and_found, found_in, resolved};
 
 use crate::literals::text_in;
 use crate::refusals::{BindFault, fault_if};
 use hy_ast::ColumnRef;
-use hy_schema::{Catalog, Column, TableDef};
+use hy_schema::{Catalog, Column};
 use hy_token::Span;
 use hy_value::Kind;
-use std::alloc::AllocError;
+use std::alloc::{AllocError, Global};
 
-/// A script and its tables, and the tables of a statement in FROM order, by number.
+/// Memory, a script and its tables, and the tables of a statement in FROM order, by number.
 #[derive(Clone, Copy)]
 pub struct Scope<'a> {
+    /// Where memory comes from.
+    pub alloc: Global,
     /// The bytes of the script.
     pub script: &'a [u8],
     /// Its tables.
@@ -71,13 +73,6 @@ fn resolve_among(scope: &Scope, reference: &ColumnRef) -> Option<Found>
         so_far = and_found(so_far, found_in_table(scope, reference, *table, from));
         from += width(scope.catalog, *table) as u128;
     }
-    only(so_far)
-}
-
-/// The only column that was found.
-fn only(so_far: Search) -> Option<Found>
-    ensures { result ≡ only so_far }
-{
     match so_far {
         Search::In(found) => Some(found),
         Search::Nowhere | Search::Several => None,
@@ -100,10 +95,7 @@ fn and_found(before: Search, found: Option<Found>) -> Search
 pub fn width(catalog: &Catalog, table: u32) -> usize
     ensures { result ≡ width_at catalog.now table }
 {
-    match catalog.table(table) {
-        Some(def) => def.columns.len(),
-        None => 0,
-    }
+    catalog.table(table).map_or(0, |def| def.columns.len())
 }
 
 /// The column of a table that a reference means, the table's columns having numbers from `from` on.
@@ -113,26 +105,11 @@ fn found_in_table(scope: &Scope, reference: &ColumnRef, table: u32, from: u128) 
     ensures { result ≡ option_and_then (found_in scope.now.script.now reference.now table from) (table_at scope.now.catalog.now table) }
 {
     let def = scope.catalog.table(table)?;
-    found_in(scope.script, reference, table, from, def)
-}
-
-/// The column of a table that a reference means.
-#[inline(always)]
-fn found_in(
-    script: &[u8],
-    reference: &ColumnRef,
-    table: u32,
-    from: u128,
-    def: &TableDef,
-) -> Option<Found>
-    requires { from < 2 ^ 127 }
-    ensures { result ≡ found_in script.now reference.now table from def.now }
-{
-    if !may_mean(script, reference.table, def.name.as_bytes()) {
+    if !may_mean(scope.script, reference.table, def.name.as_bytes()) {
         return None;
     }
     let columns = def.columns.as_slice();
-    let ordinal = column_ordinal(columns, text_in(script, reference.column))?;
+    let ordinal = column_ordinal(columns, text_in(scope.script, reference.column))?;
     let column = columns.get(ordinal)?;
     Some(Found {
         table,
@@ -145,10 +122,7 @@ fn found_in(
 fn may_mean(script: &[u8], table: Option<Span>, name: &[u8]) -> bool
     ensures { result ≡ may_mean script.now table name.now }
 {
-    match table {
-        None => true,
-        Some(table) => text_in(script, table) == name,
-    }
+    table.is_none_or(|table| text_in(script, table) == name)
 }
 
 /// The number of a column in its table.
@@ -171,18 +145,19 @@ pub fn missing(found: Option<Found>) -> Option<BindFault>
 pub fn kind_in(found: Option<Found>) -> Option<Kind>
     ensures { result ≡ option_map (λ column. column.kind) found }
 {
-    match found {
-        Some(found) => Some(found.kind),
-        None => None,
-    }
+    found.map(|column| column.kind)
 }
 
 /// The number of a column that was found. One beyond 32 bits would need more memory than there is.
 pub fn number(found: Option<Found>) -> Result<u32, AllocError>
     ensures { IfOk result (λ number. number ≡ option_map_or (λ found. found.column) found 0) }
 {
-    match found {
-        Some(found) => u32::try_from(found.column).map_err(|_| AllocError),
-        None => Ok(0),
-    }
+    u32::try_from(wide_number(found)).map_err(|_| AllocError)
+}
+
+/// The same, wide enough for any column.
+pub fn wide_number(found: Option<Found>) -> u128
+    ensures { result ≡ option_map_or (λ found. found.column) found 0 }
+{
+    found.map_or(0, |found| found.column)
 }

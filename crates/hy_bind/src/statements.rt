@@ -1,13 +1,13 @@
 //! INSERT, UPDATE and DELETE with their names resolved.
 
-ghost use Rattle.std.specs.Prelude.{◌≡◌, ◌∷◌, IfOk, None, Some, map, length};
-ghost use Rattle.std.specs.Option.{option_map, option_map_or, option_copied};
+ghost use Rattle.std.specs.Prelude.{◌≡◌, IfOk, map};
+ghost use Rattle.std.specs.Option.{option_map, option_copied};
 ghost use Rattle.hy_ast.specs.Trees.{set_clause_of, test_of};
 ghost use Rattle.hy_bound.specs.declared.Bound.TheVariants as bound;
 ghost use Rattle.hy_bind.specs.Conditions.{where_bound, where_fault};
 ghost use Rattle.hy_bind.specs.Literals.{literal_value, text_of_span};
 ghost use Rattle.hy_bind.specs.Scope.{scope_of};
-ghost use Rattle.hy_bind.specs.Statements.{table_of, columns_of, key_of, value_fault, values_fault, is_null, key_fault, insert_fault, is_key};
+ghost use Rattle.hy_bind.specs.Statements.{table_of, columns_of, key_of, value_fault, values_fault, key_fault, insert_fault, is_key};
 ghost use Rattle.hy_bind.specs.Statements.{Binds, fault_of_set, kind_at, set_fault, set_column, sets_fault, update_fault, set_bound, repeats};
 
 use crate::conditions::tested;
@@ -27,10 +27,7 @@ use std::alloc::{AllocError, Global};
 pub fn table(scope: &Scope) -> u32
     ensures { result ≡ table_of (scope_of scope.now) }
 {
-    match scope.tables.first() {
-        Some(table) => *table,
-        None => 0,
-    }
+    scope.tables.first().copied().unwrap_or(0)
 }
 
 /// The columns of that table.
@@ -51,23 +48,16 @@ pub fn key(scope: &Scope) -> Option<u32>
 }
 
 /// An INSERT.
-pub fn insert(alloc: Global, scope: &Scope, values: &[Literal]) -> Result<Bound, BindError>
+pub fn insert(scope: &Scope, values: &[Literal]) -> Result<Bound, BindError>
     ensures { Binds result (insert_fault (scope_of scope.now) values.now)
         (bound.Insert (table_of (scope_of scope.now)) (map (literal_value scope.now.script.now) values.now)) }
 {
-    refuse(insert_fault(scope, values))?;
+    let unfit = values_fault(scope.script, columns(scope), values);
+    refuse(first_of(unfit, key_fault(key(scope), values)))?;
     Ok(Bound::Insert {
         table: table(scope),
-        row: row(alloc, scope.script, values)?,
+        row: row(scope, values)?,
     })
-}
-
-/// Why an INSERT is refused.
-fn insert_fault(scope: &Scope, values: &[Literal]) -> Option<BindFault>
-    ensures { result ≡ insert_fault (scope_of scope.now) values.now }
-{
-    let unfit = values_fault(scope.script, columns(scope), values);
-    first_of(unfit, key_fault(key(scope), values))
 }
 
 /// Why the values of an INSERT don't fit these columns.
@@ -90,63 +80,48 @@ fn value_fault(script: &[u8], column: &Column, value: &Literal) -> Option<BindFa
     ensures { result ≡ value_fault script.now column.now value.now }
 {
     let fits = agree(kind_of(value), Some(column.kind));
-    first_of(
-        plain(script, value).fault,
-        fault_if(!fits, BindFault::WrongType),
-    )
+    let wrong_type = fault_if(!fits, BindFault::WrongType);
+    first_of(plain(script, value).0, wrong_type)
 }
 
 /// Why the value of the key is refused: it is NULL.
 fn key_fault(key: Option<u32>, values: &[Literal]) -> Option<BindFault>
     ensures { result ≡ key_fault key values.now }
 {
-    match key {
-        Some(key) => fault_if(is_null(values.get(key as usize)), BindFault::KeyNull),
-        None => None,
-    }
-}
-
-/// Whether a literal is NULL.
-fn is_null(literal: Option<&Literal>) -> bool
-    ensures { result ≡ is_null (option_copied literal.entry) }
-{
-    matches!(literal, Some(Literal::Null(_)))
+    let value = values.get(key? as usize);
+    let is_null = matches!(value, Some(Literal::Null(_)));
+    fault_if(is_null, BindFault::KeyNull)
 }
 
 /// The row of an INSERT.
-fn row(alloc: Global, script: &[u8], literals: &[Literal]) -> Result<StoredRow, AllocError>
-    ensures { IfOk result (λ row. row ≡ map (literal_value script.now) literals.now) }
+fn row(scope: &Scope, literals: &[Literal]) -> Result<StoredRow, AllocError>
+    ensures { IfOk result (λ row. row ≡ map (literal_value scope.now.script.now) literals.now) }
 {
-    let mut row = RowBuffer::new(alloc);
+    let mut row = RowBuffer::new(scope.alloc);
     row.make_room(literals.len(), 0)?;
     for literal in literals {
-        match plain(script, literal).side {
+        match plain(scope.script, literal).1 {
             Some(SideView::Int(number)) => row.push_number_reserved(number),
             Some(SideView::Null) => row.push_null_reserved(),
-            _ => return row_with_texts(alloc, script, literals),
+            _ => return row_with_texts(scope, literals),
         }
     }
     Ok(StoredRow::from_buffer(row))
 }
 
 /// The row of an INSERT that has texts.
-fn row_with_texts(
-    alloc: Global,
-    script: &[u8],
-    literals: &[Literal],
-) -> Result<StoredRow, AllocError>
-    ensures { IfOk result (λ row. row ≡ map (literal_value script.now) literals.now) }
+fn row_with_texts(scope: &Scope, literals: &[Literal]) -> Result<StoredRow, AllocError>
+    ensures { IfOk result (λ row. row ≡ map (literal_value scope.now.script.now) literals.now) }
 {
-    let mut values = Vec::with_capacity(alloc, literals.len())?;
+    let mut values = Vec::with_capacity(scope.alloc, literals.len())?;
     for literal in literals {
-        values.push(value(alloc, script, literal)?)?;
+        values.push(value(scope.alloc, scope.script, literal)?)?;
     }
-    StoredRow::from_values(alloc, values.as_slice())
+    StoredRow::from_values(scope.alloc, values.as_slice())
 }
 
 /// An UPDATE.
 pub fn update(
-    alloc: Global,
     scope: &Scope,
     sets: &[SetClause],
     condition: Option<&Test>,
@@ -155,9 +130,9 @@ pub fn update(
         (bound.Update (table_of (scope_of scope.now)) (map (set_bound (scope_of scope.now)) (map set_clause_of sets.now))
         (where_bound (scope_of scope.now) (option_map test_of (option_copied condition.entry)))) }
 {
-    let twice = fault_if(sets_twice(alloc, scope, sets)?, BindFault::Twice);
-    let tested = tested(alloc, scope, condition)?;
-    let (unfit, sets) = assignments(alloc, scope, sets)?;
+    let twice = fault_if(sets_twice(scope, sets)?, BindFault::Twice);
+    let tested = tested(scope, condition)?;
+    let (unfit, sets) = assignments(scope, sets)?;
     refuse(first_of(unfit, first_of(twice, tested.fault)))?;
     Ok(Bound::Update {
         table: table(scope),
@@ -167,11 +142,11 @@ pub fn update(
 }
 
 /// A DELETE.
-pub fn delete(alloc: Global, scope: &Scope, condition: Option<&Test>) -> Result<Bound, BindError>
+pub fn delete(scope: &Scope, condition: Option<&Test>) -> Result<Bound, BindError>
     ensures { Binds result (where_fault (scope_of scope.now) (option_map test_of (option_copied condition.entry)))
         (bound.Delete (table_of (scope_of scope.now)) (where_bound (scope_of scope.now) (option_map test_of (option_copied condition.entry)))) }
 {
-    let tested = tested(alloc, scope, condition)?;
+    let tested = tested(scope, condition)?;
     refuse(tested.fault)?;
     Ok(Bound::Delete {
         table: table(scope),
@@ -180,33 +155,22 @@ pub fn delete(alloc: Global, scope: &Scope, condition: Option<&Test>) -> Result<
 }
 
 /// Whether a column comes twice on the left of SET.
-#[tactic(auto, using(crate::proofs::Few::few_sets))]
-fn sets_twice(alloc: Global, scope: &Scope, sets: &[SetClause]) -> Result<bool, AllocError>
+#[tactic(auto, using(crate::proofs::Few::few_sets, crate::proofs::Few::set_columns))]
+fn sets_twice(scope: &Scope, sets: &[SetClause]) -> Result<bool, AllocError>
     ensures { IfOk result (λ twice. twice ≡ repeats (map (text_of_span scope.now.script.now) (map (λ set. set.column) (map set_clause_of sets.now)))) }
 {
     if sets.len() < 2 {
         return Ok(false);
     }
-    let columns = columns_set(alloc, sets)?;
-    repeats(alloc, scope.script, columns.as_slice())
+    let columns = columns_set(scope.alloc, sets)?;
+    repeats(scope.alloc, scope.script, columns.as_slice())
 }
 
 /// The spans of the columns on the left of SET.
 fn columns_set(alloc: Global, sets: &[SetClause]) -> Result<Vec<Span>, AllocError>
-    ensures { IfOk result (λ spans. spans.items ≡ map (λ set. set.column) (map set_clause_of sets.now)) }
+    ensures { IfOk result (λ spans. spans.items ≡ map (λ set. set.column) sets.now) }
 {
-    let mut spans = Vec::with_capacity(alloc, sets.len())?;
-    for set in sets {
-        spans.push(set.column)?;
-    }
-    Ok(spans)
-}
-
-/// The number of the column on the left.
-fn set_column(scope: &Scope, set: &SetClause) -> Option<usize>
-    ensures { result ≡ set_column (scope_of scope.now) (set_clause_of set.now) }
-{
-    column_ordinal(columns(scope), text_in(scope.script, set.column))
+    sets.iter().map(|set| set.column).collect(alloc)
 }
 
 /// Why an assignment to a column of this number, if there is one, is refused, with a value that was judged.
@@ -233,25 +197,18 @@ fn kind_at(columns: &[Column], column: usize) -> Option<Kind>
 pub fn is_key(key: Option<u32>, column: usize) -> bool
     ensures { result ≡ is_key key column }
 {
-    match key {
-        Some(key) => key as usize == column,
-        None => false,
-    }
+    key.is_some_and(|key| key as usize == column)
 }
 
 /// Why assignments are refused, and these as the engine runs them.
-fn assignments(
-    alloc: Global,
-    scope: &Scope,
-    sets: &[SetClause],
-) -> Result<(Option<BindFault>, Sets), AllocError>
+fn assignments(scope: &Scope, sets: &[SetClause]) -> Result<(Option<BindFault>, Sets), AllocError>
     ensures fault { IfOk result (λ found. found.0 ≡ sets_fault (scope_of scope.now) (map set_clause_of sets.now)) }
     ensures sets { IfOk result (λ found. found.1 ≡ map (set_bound (scope_of scope.now)) (map set_clause_of sets.now)) }
 {
     let mut fault = None;
-    let mut all = Vec::with_capacity(alloc, sets.len())?;
+    let mut all = Vec::with_capacity(scope.alloc, sets.len())?;
     for set in sets {
-        let (unfit, assign) = assignment(alloc, scope, set)?;
+        let (unfit, assign) = assignment(scope, set)?;
         fault = first_of(fault, unfit);
         all.push(assign)?;
     }
@@ -259,17 +216,13 @@ fn assignments(
 }
 
 /// Why an assignment is refused, and what the engine runs.
-fn assignment(
-    alloc: Global,
-    scope: &Scope,
-    set: &SetClause,
-) -> Result<(Option<BindFault>, Assign), AllocError>
+fn assignment(scope: &Scope, set: &SetClause) -> Result<(Option<BindFault>, Assign), AllocError>
     ensures fault { IfOk result (λ found. found.0 ≡ set_fault (scope_of scope.now) (set_clause_of set.now)
         (set_column (scope_of scope.now) (set_clause_of set.now))) }
     ensures assign { IfOk result (λ found. found.1 ≡ set_bound (scope_of scope.now) (set_clause_of set.now)) }
 {
-    let column = set_column(scope, set);
-    let value = expression(alloc, scope, &set.value)?;
+    let column = column_ordinal(columns(scope), text_in(scope.script, set.column));
+    let value = expression(scope, &set.value)?;
     let fault = set_fault(scope, column, &value);
     let assign = Assign {
         column: u32::try_from(column.unwrap_or(0)).map_err(|_| AllocError)?,

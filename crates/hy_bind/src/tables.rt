@@ -1,17 +1,17 @@
 //! The tables that a statement names.
 
-ghost use Rattle.std.specs.Prelude.{◌≡◌, ◌∷◌, Some, None, map, IfOk};
+ghost use Rattle.std.specs.Prelude.{◌≡◌, ◌∷◌, map, IfOk};
 ghost use Rattle.std.specs.Option.{option_map};
-ghost use Rattle.hy_ast.specs.Trees.{statement_of, selection_of};
+ghost use Rattle.hy_ast.specs.Trees.{statement_of};
 ghost use Rattle.hy_bind.specs.Literals.{text_of_span};
 ghost use Rattle.hy_bind.specs.Statements.{NamesTables, repeats, numbers_of, tables_of};
-ghost use Rattle.hy_ast.specs.Trees as tree;
 
 use crate::literals::text_in;
-use hy_ast::{Join, Selection, Statement};
+use hy_ast::{Join, Selection, ShortSelection, Statement};
 use hy_schema::{Catalog, Names};
 use hy_token::Span;
 use std::alloc::{AllocError, Global};
+use std::iter;
 
 /// The span of the first table that a statement names, and the joins of others to it.
 pub fn table_and_joins(ast: &Statement) -> (Span, &[Join])
@@ -23,19 +23,12 @@ pub fn table_and_joins(ast: &Statement) -> (Span, &[Join])
         | Statement::Update { table, .. }
         | Statement::Delete { table, .. }
         | Statement::ShortUpdate { table, .. }
-        | Statement::ShortSelect { table, .. } => (*table, &[]),
-        Statement::Select(query) => from_clause(query),
+        | Statement::ShortSelect(ShortSelection { table, .. })
+        | Statement::Select(Selection::Count { table, .. } | Selection::Groups { table, .. }) => {
+            (*table, &[])
+        }
+        Statement::Select(Selection::Rows { table, joins, .. }) => (*table, joins.as_slice()),
         _ => unreachable!(),
-    }
-}
-
-/// The span of the first table of a SELECT, and the joins of others to it.
-fn from_clause(query: &Selection) -> (Span, &[Join])
-    ensures { tables_of (tree.Select (selection_of query.now)) ≡ result.0 ∷ map (λ join. join.table) result.1.now }
-{
-    match query {
-        Selection::Rows { table, joins, .. } => (*table, joins.as_slice()),
-        Selection::Count { table, .. } | Selection::Groups { table, .. } => (*table, &[]),
     }
 }
 
@@ -43,12 +36,8 @@ fn from_clause(query: &Selection) -> (Span, &[Join])
 pub fn joined_tables(alloc: Global, table: Span, joins: &[Join]) -> Result<Vec<Span>, AllocError>
     ensures { IfOk result (λ tables. tables.items ≡ table ∷ map (λ join. join.table) joins.now) }
 {
-    let mut tables = Vec::new(alloc);
-    tables.push(table)?;
-    for join in joins {
-        tables.push(join.table)?;
-    }
-    Ok(tables)
+    let joined = joins.iter().map(|join| join.table);
+    iter::once(table).chain(joined).collect(alloc)
 }
 
 /// The numbers of tables, if they are all there.

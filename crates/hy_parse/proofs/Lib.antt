@@ -13,6 +13,6 @@ pub mod Sentences
 pub mod Closings
 pub mod Spans
 pub mod Scripts
-pub mod Short
-pub mod Shortest
+pub mod Pairs
+pub mod ShortForms
 pub mod Single

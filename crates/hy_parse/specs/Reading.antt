@@ -1,6 +1,6 @@
 -- Reading from left to right, as functions on lists of pieces. A reader gives what it read and the pieces
 -- behind it, or the pieces from the first one on that does not fit.
-use Rattle.std.specs.Prelude.{◌≡◌, ℕ, Result, Ok, Err, zero, suc, Bool, true, false, ◌||◌, if◌then◌else◌, Option, Some, None, is_some, List, [], ◌∷◌, ◌++◌, length}
+use Rattle.std.specs.Prelude.{◌≡◌, ℕ, Result, Ok, Err, zero, suc, Bool, true, false, if◌then◌else◌, Option, Some, None, List, [], ◌∷◌, ◌++◌, length}
 use Rattle.std.specs.Option.{option_map, option_map_or}
 use Rattle.std.specs.Str.{bytes_eq}
 use Rattle.hy_token.specs.Keyword.{word_spelling}
@@ -269,10 +269,6 @@ factor_at (suc levels) pieces =
 
 abbrev pub formula_at : ℕ → List Piece → Read Formula
 formula_at levels pieces = formula_by (factor_at levels) pieces
-
--- whether an operator goes on with an expression
-abbrev pub formula_goes_on : List Piece → Bool
-formula_goes_on pieces = begins (sign Star) pieces || is_some (seen addition pieces)
 
 unfoldable pub set_clause_at : List Piece → Read SetClause
 set_clause_at pieces = do

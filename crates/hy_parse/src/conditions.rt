@@ -1,19 +1,20 @@
 // Conditions. Each function gives what it read and the pieces behind it.
 // Each turn of a loop takes a piece, so that there are no more turns than pieces.
 
-ghost use Rattle.std.specs.Prelude.{◌≡◌, IfOk};
+ghost use Rattle.std.specs.Prelude.{◌≡◌};
 ghost use Rattle.std.specs.Option.{option_map};
-ghost use Rattle.hy_ast.specs.Trees.{test_of, And, Or};
+ghost use Rattle.hy_ast.specs.Trees.{test_of};
 ghost use Rattle.hy_parse.specs.Reading.{Gives, cmp_of, comparison_of, is_null_at, compared_at, comparison_at, unit_at, conjunction_by, test_at, condition_at};
 
 use crate::Piece;
 use crate::cursor::{Halt, begins, expect, flag, next_span, spanned};
-use crate::operands::{column, operand};
+use crate::lists::Item;
+use crate::operands::operand;
 use hy_ast::{ColumnRef, Test};
 use hy_limits::MOST_LEVELS;
-use hy_token::{Keyword, Sign, Span, Token};
+use hy_token::{Keyword, Sign, Token};
 use hy_value::Cmp;
-use std::alloc::{AllocError, Global};
+use std::alloc::Global;
 
 const AND: Token = Token::Reserved(Keyword::And);
 
@@ -80,29 +81,11 @@ fn compared<'a>(left: ColumnRef, pieces: &'a [Piece]) -> Result<(Test, &'a [Piec
 fn comparison(pieces: &[Piece]) -> Result<(Test, &[Piece]), Halt>
     ensures { Gives (λ x. (test_of x.0, x.1.now)) result (comparison_at pieces.now) }
 {
-    let (column, rest) = column(pieces)?;
+    let (column, rest) = ColumnRef::read(pieces)?;
     if begins(rest, Token::Reserved(Keyword::Is)) {
         return is_null(column, rest);
     }
     compared(column, rest)
-}
-
-/// Two conditions with AND between.
-fn and(alloc: Global, left: Test, at: Span, right: Test) -> Result<Test, AllocError>
-    ensures { IfOk result (λ whole. test_of whole ≡ And (test_of left) at (test_of right)) }
-{
-    let left = Box::new(alloc, left)?;
-    let right = Box::new(alloc, right)?;
-    Ok(Test::And { left, at, right })
-}
-
-/// Two conditions with OR between.
-fn or(alloc: Global, left: Test, at: Span, right: Test) -> Result<Test, AllocError>
-    ensures { IfOk result (λ whole. test_of whole ≡ Or (test_of left) at (test_of right)) }
-{
-    let left = Box::new(alloc, left)?;
-    let right = Box::new(alloc, right)?;
-    Ok(Test::Or { left, at, right })
 }
 
 /// A chain of AND.
@@ -117,7 +100,7 @@ fn conjunction(alloc: Global, levels: u32, pieces: &[Piece]) -> Result<(Test, &[
             return Ok((left, rest));
         };
         let (right, behind) = unit(alloc, levels, behind)?;
-        left = and(alloc, left, at, right)?;
+        left = Test::and(alloc, left, at, right)?;
         rest = behind;
     }
     Ok((left, rest))
@@ -135,7 +118,7 @@ fn condition(alloc: Global, levels: u32, pieces: &[Piece]) -> Result<(Test, &[Pi
             return Ok((left, rest));
         };
         let (right, behind) = conjunction(alloc, levels, behind)?;
-        left = or(alloc, left, at, right)?;
+        left = Test::or(alloc, left, at, right)?;
         rest = behind;
     }
     Ok((left, rest))
@@ -165,8 +148,8 @@ fn unit(alloc: Global, levels: u32, pieces: &[Piece]) -> Result<(Test, &[Piece])
     comparison(pieces)
 }
 
-/// WHERE and its condition, if it comes first. Most are one comparison, which is read without what a chain asks for.
-#[tactic(auto, unfolding(crate::specs::Reading::condition_at), using(crate::proofs::Single::single))]
+/// WHERE and its condition, if it comes first.
+#[tactic(auto, unfolding(crate::specs::Reading::condition_at))]
 pub fn where_clause(alloc: Global, pieces: &[Piece]) -> Result<(Option<Test>, &[Piece]), Halt>
     ensures { Gives (λ x. (option_map test_of x.0, x.1.now)) result (condition_at pieces.now) }
 {
@@ -174,9 +157,6 @@ pub fn where_clause(alloc: Global, pieces: &[Piece]) -> Result<(Option<Test>, &[
         return Ok((None, pieces));
     }
     let rest = expect(pieces, &[Token::Reserved(Keyword::Where)])?;
-    let (condition, rest) = match comparison(rest) {
-        Ok((only, behind)) if !begins(behind, AND) && !begins(behind, OR) => (only, behind),
-        _chain => condition(alloc, MOST_LEVELS, rest)?,
-    };
+    let (condition, rest) = condition(alloc, MOST_LEVELS, rest)?;
     Ok((Some(condition), rest))
 }

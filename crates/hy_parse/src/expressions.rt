@@ -1,10 +1,9 @@
 // Expressions and assignments. Each function gives what it read and the pieces behind it.
 // Each turn of a loop takes a piece, so that there are no more turns than pieces.
 
-ghost use Rattle.std.specs.Prelude.{◌≡◌, [], IfOk, false, map};
-ghost use Rattle.hy_ast.specs.Trees.{formula_of, Binary, set_clause_of};
-ghost use Rattle.hy_parse.specs.Reading.{Done, Gives, Sees, seen, addition_of, addition, plain_at, factor_at, term_by, formula_at, formula_goes_on, set_clause_at, items_at};
-ghost use Rattle.hy_limits.specs.declared.TheConstants.{MOST_LEVELS as LEVELS};
+ghost use Rattle.std.specs.Prelude.{◌≡◌, [], map};
+ghost use Rattle.hy_ast.specs.Trees.{formula_of, set_clause_of};
+ghost use Rattle.hy_parse.specs.Reading.{Gives, Sees, seen, addition_of, addition, plain_at, factor_at, term_by, formula_at, set_clause_at, items_at};
 
 use crate::Piece;
 use crate::cursor::{Halt, begins, expect, name, next_span};
@@ -13,7 +12,7 @@ use hy_ast::{Formula, Operator, SetClause};
 use hy_limits::MOST_LEVELS;
 use hy_token::{Sign, Span, Token};
 use hy_value::Seq;
-use std::alloc::{AllocError, Global};
+use std::alloc::Global;
 
 /// `+` or `-`.
 fn addition_of(token: Token) -> Option<Operator>
@@ -24,26 +23,6 @@ fn addition_of(token: Token) -> Option<Operator>
         Token::Sign(Sign::Minus) => Some(Operator::Minus),
         _ => None,
     }
-}
-
-/// Two expressions with an operator between.
-fn binary(
-    alloc: Global,
-    left: Formula,
-    op: Operator,
-    at: Span,
-    right: Formula,
-) -> Result<Formula, AllocError>
-    ensures { IfOk result (λ whole. formula_of whole ≡ Binary (formula_of left) op at (formula_of right)) }
-{
-    let left = Box::new(alloc, left)?;
-    let right = Box::new(alloc, right)?;
-    Ok(Formula::Binary {
-        left,
-        op,
-        at,
-        right,
-    })
 }
 
 /// A column or a literal.
@@ -80,7 +59,7 @@ fn term(alloc: Global, levels: u32, pieces: &[Piece]) -> Result<(Formula, &[Piec
             return Ok((left, rest));
         };
         let (right, behind) = factor(alloc, levels, behind)?;
-        left = binary(alloc, left, Operator::Times, at, right)?;
+        left = Formula::binary(alloc, left, Operator::Times, at, right)?;
         rest = behind;
     }
     Ok((left, rest))
@@ -98,7 +77,7 @@ fn expression(alloc: Global, levels: u32, pieces: &[Piece]) -> Result<(Formula, 
             return Ok((left, rest));
         };
         let (right, behind) = term(alloc, levels, behind)?;
-        left = binary(alloc, left, op, at, right)?;
+        left = Formula::binary(alloc, left, op, at, right)?;
         rest = behind;
     }
     Ok((left, rest))
@@ -120,34 +99,7 @@ fn factor(alloc: Global, levels: u32, pieces: &[Piece]) -> Result<(Formula, &[Pi
     Ok((Formula::Bracket(Box::new(alloc, inner)?), rest))
 }
 
-/// A column or a literal, or `+` or `-` between two: the whole expression, unless it goes on behind.
-#[inline(always)]
-#[tactic(auto, using(crate::proofs::Short::short_one, crate::proofs::Short::short_two))]
-fn short(pieces: &[Piece]) -> Result<(Formula, &[Piece]), Halt>
-    ensures { IfOk result (λ x. formula_goes_on x.1.now ≡ false → formula_at LEVELS pieces.now ≡ Done (formula_of x.0) x.1.now) }
-{
-    let (left, rest) = operand(pieces)?;
-    let Some((op, at, behind)) = next_addition(rest) else {
-        return Ok((Formula::Plain(left), rest));
-    };
-    let (right, rest) = operand(behind)?;
-    let pair = Formula::Pair {
-        left,
-        op,
-        at,
-        right,
-    };
-    Ok((pair, rest))
-}
-
-/// Whether an expression goes on with these pieces.
-fn goes_on(pieces: &[Piece]) -> bool
-    ensures { result ≡ formula_goes_on pieces.now }
-{
-    begins(pieces, Token::Sign(Sign::Star)) || next_addition(pieces).is_some()
-}
-
-/// An assignment. Most have a short right side, which is read without what a chain asks for.
+/// An assignment.
 #[inline(always)]
 #[tactic(auto, unfolding(crate::specs::Reading::set_clause_at))]
 fn assignment(alloc: Global, pieces: &[Piece]) -> Result<(SetClause, &[Piece]), Halt>
@@ -155,10 +107,7 @@ fn assignment(alloc: Global, pieces: &[Piece]) -> Result<(SetClause, &[Piece]), 
 {
     let (column, rest) = name(pieces)?;
     let rest = expect(rest, &[Token::Sign(Sign::Equal)])?;
-    let (value, rest) = match short(rest) {
-        Ok((value, behind)) if !goes_on(behind) => (value, behind),
-        _chain => expression(alloc, MOST_LEVELS, rest)?,
-    };
+    let (value, rest) = expression(alloc, MOST_LEVELS, rest)?;
     Ok((SetClause { column, value }, rest))
 }
 

@@ -1,7 +1,6 @@
 //! Statements read from a script: the whole grammar, and the offset of the first token that does not fit.
 #![tactic(auto)]
 
-mod brief;
 mod conditions;
 mod cursor;
 mod expressions;
@@ -10,6 +9,7 @@ mod lists;
 mod operands;
 mod pieces;
 mod queries;
+mod short;
 mod statements;
 
 ghost use Rattle.std.specs.Prelude.{◌≡◌, ◌≤◌, length};

@@ -6,29 +6,26 @@ ghost use Rattle.hy_parse.specs.Reading.{Gives, column_at, literal_at, negative_
 use crate::Piece;
 use crate::cursor::{Halt, begins, expect, name, spanned};
 use crate::lists::Item;
-use hy_ast::{ColumnRef, Literal, Operand};
+use hy_ast::{ColumnRef, Literal, Operand, unqualified};
 use hy_token::{Keyword, Sign, Token};
 
+const DOT: Token = Token::Sign(Sign::Dot);
+
 /// A column, with its table or without.
-#[tactic(auto, unfolding(crate::specs::Reading::column_at))]
-pub fn column(pieces: &[Piece]) -> Result<(ColumnRef, &[Piece]), Halt>
-    ensures { Gives (λ x. (x.0, x.1.now)) result (column_at pieces.now) }
-{
-    let (first, rest) = name(pieces)?;
-    if !begins(rest, Token::Sign(Sign::Dot)) {
-        let column = ColumnRef {
-            table: None,
-            column: first,
-        };
-        return Ok((column, rest));
+impl Item for ColumnRef {
+    ghost read_at = { column_at };
+
+    #[tactic(auto, unfolding(crate::specs::Reading::column_at))]
+    fn read(pieces: &[Piece]) -> Result<(ColumnRef, &[Piece]), Halt> {
+        let (first, rest) = name(pieces)?;
+        if !begins(rest, DOT) {
+            return Ok((unqualified(first), rest));
+        }
+        let rest = expect(rest, &[DOT])?;
+        let (column, rest) = name(rest)?;
+        let table = Some(first);
+        Ok((ColumnRef { table, column }, rest))
     }
-    let rest = expect(rest, &[Token::Sign(Sign::Dot)])?;
-    let (second, rest) = name(rest)?;
-    let column = ColumnRef {
-        table: Some(first),
-        column: second,
-    };
-    Ok((column, rest))
 }
 
 /// An integer behind a minus.
@@ -61,20 +58,22 @@ fn literal_of(piece: Piece) -> Option<Literal>
 }
 
 /// A literal.
-#[inline(always)]
-#[tactic(auto, unfolding(crate::specs::Reading::literal_at, crate::specs::Reading::piece_at))]
-pub fn literal(pieces: &[Piece]) -> Result<(Literal, &[Piece]), Halt>
-    ensures { Gives (λ x. (x.0, x.1.now)) result (literal_at pieces.now) }
-{
-    if begins(pieces, Token::Sign(Sign::Minus)) {
-        return negative(pieces);
-    }
-    let [piece, rest @ ..] = pieces else {
-        return Err(Halt::Stuck(pieces));
-    };
-    match literal_of(*piece) {
-        Some(literal) => Ok((literal, rest)),
-        None => Err(Halt::Stuck(pieces)),
+impl Item for Literal {
+    ghost read_at = { literal_at };
+
+    #[inline(always)]
+    #[tactic(auto, unfolding(crate::specs::Reading::literal_at, crate::specs::Reading::piece_at))]
+    fn read(pieces: &[Piece]) -> Result<(Literal, &[Piece]), Halt> {
+        if begins(pieces, Token::Sign(Sign::Minus)) {
+            return negative(pieces);
+        }
+        let [piece, rest @ ..] = pieces else {
+            return Err(Halt::Stuck(pieces));
+        };
+        match literal_of(*piece) {
+            Some(literal) => Ok((literal, rest)),
+            None => Err(Halt::Stuck(pieces)),
+        }
     }
 }
 
@@ -85,25 +84,9 @@ pub fn operand(pieces: &[Piece]) -> Result<(Operand, &[Piece]), Halt>
     ensures { Gives (λ x. (x.0, x.1.now)) result (operand_at pieces.now) }
 {
     if begins(pieces, Token::Name) {
-        let (column, rest) = column(pieces)?;
+        let (column, rest) = ColumnRef::read(pieces)?;
         return Ok((Operand::Column(column), rest));
     }
-    let (literal, rest) = literal(pieces)?;
+    let (literal, rest) = Literal::read(pieces)?;
     Ok((Operand::Literal(literal), rest))
-}
-
-impl Item for ColumnRef {
-    ghost read_at = { column_at };
-
-    fn read(pieces: &[Piece]) -> Result<(ColumnRef, &[Piece]), Halt> {
-        column(pieces)
-    }
-}
-
-impl Item for Literal {
-    ghost read_at = { literal_at };
-
-    fn read(pieces: &[Piece]) -> Result<(Literal, &[Piece]), Halt> {
-        literal(pieces)
-    }
 }

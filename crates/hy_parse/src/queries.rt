@@ -1,14 +1,13 @@
 // SELECT. Each function gives what it read and the pieces behind it.
 
-ghost use Rattle.std.specs.Prelude.{◌≡◌, [], ◌∷◌};
+ghost use Rattle.std.specs.Prelude.{◌≡◌};
 ghost use Rattle.hy_ast.specs.Trees.{statement_of};
 ghost use Rattle.hy_parse.specs.Reading.{Gives, sum_at, from_at, joined_at, joins_at, rows_at, count_at, groups_at, second_at, columns_at, selection_at, selected};
 
 use crate::Piece;
 use crate::conditions::where_clause;
-use crate::cursor::{Halt, Rest, begins, expect, name, next_span};
-use crate::lists::items;
-use crate::operands::column;
+use crate::cursor::{Halt, Rest, begins, expect, name};
+use crate::lists::{Item, items, others};
 use hy_ast::{ColumnRef, Join, Listed, Selection, Statement, Total};
 use hy_token::{Keyword, Sign, Span, Token};
 use hy_value::Seq;
@@ -34,7 +33,7 @@ fn sum(pieces: &[Piece]) -> Result<(ColumnRef, &[Piece]), Halt>
     ensures { Gives (λ x. (x.0, x.1.now)) result (sum_at pieces.now) }
 {
     let rest = expect(pieces, &[SUM, Token::Sign(Sign::LeftParen)])?;
-    let (column, rest) = column(rest)?;
+    let (column, rest) = ColumnRef::read(rest)?;
     let rest = expect(rest, &[Token::Sign(Sign::RightParen)])?;
     Ok((column, rest))
 }
@@ -49,34 +48,25 @@ pub fn from_table(pieces: &[Piece]) -> Result<(Span, &[Piece]), Halt>
 }
 
 /// What follows JOIN.
-#[tactic(auto, unfolding(crate::specs::Reading::joined_at))]
-fn joined(pieces: &[Piece]) -> Result<(Join, &[Piece]), Halt>
-    ensures { Gives (λ x. (x.0, x.1.now)) result (joined_at pieces.now) }
-{
-    let (table, rest) = name(pieces)?;
-    let rest = expect(rest, &[Token::Reserved(Keyword::On)])?;
-    let (left, rest) = column(rest)?;
-    let rest = expect(rest, &[Token::Sign(Sign::Equal)])?;
-    let (right, rest) = column(rest)?;
-    Ok((Join { table, left, right }, rest))
+impl Item for Join {
+    ghost read_at = { joined_at };
+
+    #[tactic(auto, unfolding(crate::specs::Reading::joined_at))]
+    fn read(pieces: &[Piece]) -> Result<(Join, &[Piece]), Halt> {
+        let (table, rest) = name(pieces)?;
+        let rest = expect(rest, &[Token::Reserved(Keyword::On)])?;
+        let (left, rest) = ColumnRef::read(rest)?;
+        let rest = expect(rest, &[Token::Sign(Sign::Equal)])?;
+        let (right, rest) = ColumnRef::read(rest)?;
+        Ok((Join { table, left, right }, rest))
+    }
 }
 
 /// The tables that are joined.
 fn joins(alloc: Global, pieces: &[Piece]) -> Result<(Seq<Join>, &[Piece]), Halt>
     ensures { Gives (λ x. (x.0, x.1.now)) result (joins_at pieces.now) }
 {
-    let mut joins = Seq::new(alloc);
-    let mut rest = pieces;
-    // Each turn takes a piece.
-    for _ in 0..pieces.len() {
-        let Some((_, behind)) = next_span(rest, Token::Reserved(Keyword::Join)) else {
-            return Ok((joins, rest));
-        };
-        let (join, behind) = joined(behind)?;
-        joins.push(join)?;
-        rest = behind;
-    }
-    Ok((joins, rest))
+    others(Token::Reserved(Keyword::Join), Seq::new(alloc), pieces)
 }
 
 /// What follows the items of a SELECT of rows.
@@ -122,7 +112,7 @@ fn groups<'a>(
     let (table, rest) = from_table(pieces)?;
     let (condition, rest) = where_clause(alloc, rest)?;
     let rest = expect(rest, &[GROUP, Token::Reserved(Keyword::By)])?;
-    let (key, rest) = column(rest)?;
+    let (key, rest) = ColumnRef::read(rest)?;
     *into = Statement::Select(Selection::Groups {
         column: listed,
         total,
@@ -161,7 +151,7 @@ fn second<'a>(
 fn columns<'a>(alloc: Global, pieces: &'a [Piece], into: &mut Statement) -> Rest<'a>
     ensures { Gives (λ rest. (statement_of into.new, rest.now)) result (selected (columns_at pieces.now)) }
 {
-    let (column, rest) = column(pieces)?;
+    let (column, rest) = ColumnRef::read(pieces)?;
     if begins(rest, Token::Sign(Sign::Comma)) {
         let rest = expect(rest, &[Token::Sign(Sign::Comma)])?;
         return second(alloc, column, rest, into);

@@ -8,12 +8,12 @@ ghost use Rattle.hy_parse.specs.Reading.{Gives, piece_at, kind_of, column_def_at
 ghost use Rattle.hy_parse.specs.Reading.{savepoint_at, back_at, rollback_at, update_at, delete_at, turns_at, schedule_at, body_at, read_statement};
 
 use crate::Piece;
-use crate::brief::{short_change, short_selection};
 use crate::conditions::where_clause;
 use crate::cursor::{Halt, Rest, begins, expect, flag, name, next_span};
 use crate::expressions::assignments;
 use crate::lists::{Item, items};
 use crate::queries::{from_table, query};
+use crate::short::{short_change, short_selection};
 use hy_ast::{ColumnDef, Statement, Turn};
 use hy_token::{Keyword, Sign, Span, Token};
 use hy_value::{Kind, Seq};
@@ -57,21 +57,15 @@ fn kind(pieces: &[Piece]) -> Result<(Kind, &[Piece]), Halt>
 }
 
 /// A column of a new table.
-#[tactic(auto, unfolding(crate::specs::Reading::column_def_at))]
-fn column_def(pieces: &[Piece]) -> Result<(ColumnDef, &[Piece]), Halt>
-    ensures { Gives (λ x. (x.0, x.1.now)) result (column_def_at pieces.now) }
-{
-    let (name, rest) = name(pieces)?;
-    let (kind, rest) = kind(rest)?;
-    let (key, rest) = flag(rest, Token::Reserved(Keyword::Primary), &[KEY])?;
-    Ok((ColumnDef { name, kind, key }, rest))
-}
-
 impl Item for ColumnDef {
     ghost read_at = { column_def_at };
 
+    #[tactic(auto, unfolding(crate::specs::Reading::column_def_at))]
     fn read(pieces: &[Piece]) -> Result<(ColumnDef, &[Piece]), Halt> {
-        column_def(pieces)
+        let (name, rest) = name(pieces)?;
+        let (kind, rest) = kind(rest)?;
+        let (key, rest) = flag(rest, Token::Reserved(Keyword::Primary), &[KEY])?;
+        Ok((ColumnDef { name, kind, key }, rest))
     }
 }
 
@@ -191,12 +185,8 @@ fn rollback<'a>(pieces: &'a [Piece], into: &mut Statement) -> Rest<'a>
 fn selection<'a>(alloc: Global, pieces: &'a [Piece], into: &mut Statement) -> Rest<'a>
     ensures { Gives (λ rest. (statement_of into.new, rest.now)) result (selected (selection_at pieces.now)) }
 {
-    if let Ok((column, table, test, rest)) = short_selection(pieces) {
-        *into = Statement::ShortSelect {
-            column,
-            table,
-            test,
-        };
+    if let Ok((short, rest)) = short_selection(pieces) {
+        *into = Statement::ShortSelect(short);
         return Ok(rest);
     }
     query(alloc, pieces, into)

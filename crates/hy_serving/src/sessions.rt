@@ -49,7 +49,7 @@ impl Desk {
             Statement::Commit => Ok(self.close(name, true)),
             Statement::Rollback => Ok(self.close(name, false)),
             Statement::Select(_)
-            | Statement::ShortSelect { .. }
+            | Statement::ShortSelect(_)
             | Statement::ShortUpdate { .. }
             | Statement::Insert { .. }
             | Statement::Update { .. }

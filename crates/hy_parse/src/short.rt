@@ -2,21 +2,20 @@
 
 ghost use Rattle.std.specs.Prelude.{◌≡◌, ◌∷◌, [], Some, IfOk};
 ghost use Rattle.hy_token.specs.declared.Span.{Span};
-ghost use Rattle.hy_ast.specs.Trees.{Rows, Update, clause_of_short, test_of_short, unqualified};
-ghost use Rattle.hy_ast.specs.declared.Listed.TheVariants.{Columns};
+ghost use Rattle.hy_ast.specs.Trees.{Update, clause_of_short, selection_of_short, test_of_short};
 ghost use Rattle.hy_parse.specs.Reading.{Done, changed_at, condition_at, items_at, selection_at, set_clause_at};
 
 use crate::Piece;
 use crate::cursor::{Halt, begins, name, spanned};
 use crate::expressions::next_addition;
-use hy_ast::{ShortSet, ShortTest};
+use hy_ast::{ShortSelection, ShortSet, ShortTest};
 use hy_token::{Keyword, Sign, Span, Token};
 
 const WHERE: Token = Token::Reserved(Keyword::Where);
 
 /// WHERE with a short condition, which `;` follows.
 #[inline(always)]
-#[tactic(auto, using(crate::proofs::Shortest::short_test))]
+#[tactic(auto, using(crate::proofs::ShortForms::short_test))]
 pub fn short_test(pieces: &[Piece]) -> Result<(ShortTest, &[Piece]), Halt>
     ensures { IfOk result (λ x. condition_at pieces.now ≡ Done (Some (test_of_short x.0)) x.1.now) }
 {
@@ -32,7 +31,7 @@ pub fn short_test(pieces: &[Piece]) -> Result<(ShortTest, &[Piece]), Halt>
 
 /// A short assignment, which WHERE follows.
 #[inline(always)]
-#[tactic(auto, using(crate::proofs::Shortest::short_set))]
+#[tactic(auto, using(crate::proofs::ShortForms::short_set))]
 pub fn short_set(pieces: &[Piece]) -> Result<(ShortSet, &[Piece]), Halt>
     ensures { IfOk result (λ x. items_at [] set_clause_at pieces.now ≡ Done (clause_of_short x.0 ∷ []) x.1.now) }
 {
@@ -67,12 +66,11 @@ pub fn short_change(pieces: &[Piece]) -> Result<(ShortSet, ShortTest, &[Piece]),
     Ok((set, test, rest))
 }
 
-/// A column and the table that it is listed of, by a short condition.
+/// A SELECT of a column by a short condition on one table.
 #[inline(always)]
-#[tactic(auto, using(crate::proofs::Shortest::short_selection))]
-pub fn short_selection(pieces: &[Piece]) -> Result<(Span, Span, ShortTest, &[Piece]), Halt>
-    ensures { IfOk result (λ x. selection_at pieces.now
-        ≡ Done (Rows (Columns (unqualified x.0 ∷ [])) x.1 [] (Some (test_of_short x.2))) x.3.now) }
+#[tactic(auto, using(crate::proofs::ShortForms::short_selection))]
+pub fn short_selection(pieces: &[Piece]) -> Result<(ShortSelection, &[Piece]), Halt>
+    ensures { IfOk result (λ x. selection_at pieces.now ≡ Done (selection_of_short x.0) x.1.now) }
 {
     let (column, rest) = name(pieces)?;
     let (_, rest) = spanned(rest, Token::Reserved(Keyword::From))?;
@@ -81,5 +79,10 @@ pub fn short_selection(pieces: &[Piece]) -> Result<(Span, Span, ShortTest, &[Pie
         return Err(Halt::Stuck(rest));
     }
     let (test, rest) = short_test(rest)?;
-    Ok((column, table, test, rest))
+    let short = ShortSelection {
+        column,
+        table,
+        test,
+    };
+    Ok((short, rest))
 }

@@ -1,6 +1,5 @@
--- Right sides of assignments that are an operand, or an addition of two.
-use Rattle.std.proofs.Common.{◌≡◌, ℕ, zero, suc, Bool, true, false, List, [], ◌∷◌, length, Option, Some, None, refl, sym, ◌∙◌}
-use Rattle.std.specs.Prelude.{is_some, ◌||◌}
+-- Right sides of assignments that are an addition of two operands.
+use Rattle.std.proofs.Common.{◌≡◌, ℕ, zero, suc, Bool, true, false, List, [], ◌∷◌, length, Option, Some, None, refl, sym}
 use Rattle.hy_token.specs.declared.Sign.{Sign}
 use Rattle.hy_token.specs.declared.Sign.TheVariants.{LeftParen, Star}
 use Rattle.hy_token.specs.declared.Span.{Span}
@@ -10,7 +9,7 @@ use Rattle.hy_ast.specs.declared.Operand.{Operand}
 use Rattle.hy_ast.specs.declared.Operator.{Operator}
 use Rattle.hy_ast.specs.Trees.{Plain, Binary}
 use Rattle.hy_parse.specs.declared.Piece.{Piece}
-use Rattle.hy_parse.specs.Reading.{Done, Stuck, addition, begins, factor_at, formula_at, formula_by, formula_goes_on, links_within, literal_at, operand_at, piece_at, plain_at, same, seen, sign, span_of, term_by}
+use Rattle.hy_parse.specs.Reading.{Done, Stuck, addition, begins, factor_at, formula_at, formula_by, links_within, literal_at, operand_at, piece_at, plain_at, same, seen, sign, span_of, term_by}
 use Rattle.hy_parse.proofs.Loops.{none}
 use Rattle.hy_parse.proofs.Single.{unseen}
 
@@ -43,27 +42,6 @@ unfolding term_by
 term_alone levels pieces rest o read no_star =
     rw (factor_alone levels pieces rest o read) (none (span_of (sign Star)) _ (factor_at levels) (length rest) (Plain o) rest (unseen (sign Star) rest no_star))
 
--- what goes on neither by `*` nor by an addition
-record Ends (pieces : List Piece) : Type 0 where
-  no_star : begins (sign Star) pieces ≡ false
-  no_more : seen addition pieces ≡ None
-
-ends_by : (pieces : List Piece) (star : Bool) (more : Option ((Operator × Span) × List Piece)) → begins (sign Star) pieces ≡ star → seen addition pieces ≡ more
-    → star || is_some more ≡ false → Ends pieces
-ends_by pieces false None is none_more ends = record { no_star = is; no_more = none_more }
-ends_by pieces false (Some found) is some_more ends = absurd cc
-ends_by pieces true more is some_more ends = absurd cc
-
-ends_of : (pieces : List Piece) → formula_goes_on pieces ≡ false → Ends pieces
-ends_of pieces ends = ends_by pieces (begins (sign Star) pieces) (seen addition pieces) refl refl ends
-
-pub short_one : (levels : ℕ) (pieces rest : List Piece) (o : Operand) → operand_at pieces ≡ Done o rest → formula_goes_on rest ≡ false
-    → formula_at levels pieces ≡ Done (Plain o) rest
-unfolding formula_by
-short_one levels pieces rest o read ends =
-    let e = ends_of rest ends in
-    rw (term_alone levels pieces rest o read e.no_star) (none addition _ (term_by (factor_at levels)) (length rest) (Plain o) rest e.no_more)
-
 -- an addition is no `*`
 added : (t : Token) (span : Span) (op : Operator × Span) (pieces behind : List Piece) → seen addition (record { token = t; span = span } ∷ pieces) ≡ Some (op, behind)
     → same (sign Star) t ≡ false
@@ -83,12 +61,11 @@ unfolding links_within
 next_one levels most pieces behind last left right op plus second ends =
     rw (plus, second) (none addition (λ left op right. Binary left op.0 op.1 right) (term_by (factor_at levels)) most (Binary (Plain left) op.0 op.1 (Plain right)) last ends)
 
-pub short_two : (levels : ℕ) (pieces rest behind last : List Piece) (left right : Operand) (op : Operator × Span) → operand_at pieces ≡ Done left rest
-    → seen addition rest ≡ Some (op, behind) → operand_at behind ≡ Done right last → formula_goes_on last ≡ false
+pub pair : (levels : ℕ) (pieces rest behind last : List Piece) (left right : Operand) (op : Operator × Span) → operand_at pieces ≡ Done left rest
+    → seen addition rest ≡ Some (op, behind) → operand_at behind ≡ Done right last → begins (sign Star) last ≡ false → seen addition last ≡ None
     → formula_at levels pieces ≡ Done (Binary (Plain left) op.0 op.1 (Plain right)) last
 unfolding formula_by
-short_two levels pieces [] behind last left right op first plus second ends = absurd cc
-short_two levels pieces (piece ∷ rest) behind last left right op first plus second ends =
-    let e = ends_of last ends in
+pair levels pieces [] behind last left right op first plus second ends_product ends_sum = absurd cc
+pair levels pieces (piece ∷ rest) behind last left right op first plus second ends_product ends_sum =
     rw (term_alone levels pieces (piece ∷ rest) left first (no_star (piece ∷ rest) behind op plus))
-    (next_one levels (length rest) (piece ∷ rest) behind last left right op plus (term_alone levels behind last right second e.no_star) e.no_more)
+    (next_one levels (length rest) (piece ∷ rest) behind last left right op plus (term_alone levels behind last right second ends_product) ends_sum)

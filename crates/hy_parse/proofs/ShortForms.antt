@@ -17,7 +17,7 @@ use Rattle.hy_parse.specs.Reading.{Read, Done, Stuck, ◌>>=◌, addition, addit
 use Rattle.std.proofs.lemmas.Option.{same_Some}
 use Rattle.hy_parse.proofs.Choices.{same_is}
 use Rattle.hy_parse.proofs.Loops.{none}
-use Rattle.hy_parse.proofs.Short.{short_two}
+use Rattle.hy_parse.proofs.Pairs.{pair}
 use Rattle.hy_parse.proofs.Single.{single}
 use Rattle.hy_limits.specs.declared.TheConstants.{MOST_LEVELS}
 
@@ -128,7 +128,7 @@ set_read : (column equal left between digits with : Span) (t : Token) (op : Oper
 set_read column equal left between digits with t op pieces is =
     behind_equal column equal _
     ∙ ap (λ (r : Read Formula). r >>= λ value. Done (record { column = column; value = value.0 }) value.1)
-    (short_two MOST_LEVELS _ _ _ _ _ _ (op, between) (plain left _ t between op is) (seen_addition t between op _ is) (digits_read digits _) refl)
+    (pair MOST_LEVELS _ _ _ _ _ _ (op, between) (plain left _ t between op is) (seen_addition t between op _ is) (digits_read digits _) refl refl)
 
 -- where WHERE follows
 set_ends : (column equal left between digits : Span) (t : Token) (op : Operator) (pieces : List Piece) → addition_of t ≡ Some op

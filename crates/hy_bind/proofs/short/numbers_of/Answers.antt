@@ -1,8 +1,8 @@
-use Rattle.std.proofs.Common.{◌≡◌, ap, sym, ◌∙◌}
+use Rattle.std.proofs.Common.{ap, sym, ◌∙◌}
 use Rattle.hy_ast.specs.declared.ColumnRef.{ColumnRef}
 use Rattle.hy_bind.specs.Scope.{scope_of, resolved}
-use Rattle.hy_bind.proofs.BriefFits.{means}
-use Rattle.hy_bind.proofs.brief.numbers_of.Goals as goal
+use Rattle.hy_bind.proofs.ShortForms.{means}
+use Rattle.hy_bind.proofs.short.numbers_of.Goals as goal
 
 pub returns-in-Int-Ok : goal.returns-in-Int-Ok
 returns-in-Int-Ok c =

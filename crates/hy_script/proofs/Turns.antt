@@ -1,7 +1,7 @@
 -- The turns of a schedule.
-use Rattle.std.specs.List.{All}
+use Rattle.std.specs.List.{All, list_any}
 use Rattle.std.specs.Option.{option_map_or}
-use Rattle.std.proofs.Common.{◌≡◌, ℕ, ◌<◌, ◌≤◌, false, not, is_some, List, [], ◌∷◌, Option, Some, None, length, map, refl, arith}
+use Rattle.std.proofs.Common.{◌≡◌, ℕ, ◌<◌, ◌≤◌, Bool, ◌||◌, ap, false, not, is_some, List, [], ◌∷◌, Option, Some, None, length, map, refl, arith}
 use Rattle.std.proofs.lemmas.Bool.{or_parts}
 use Rattle.std.proofs.lemmas.List.{length-map}
 use Rattle.std.proofs.lemmas.List.Elements.{All-nil, All-cons, All-weaker}
@@ -29,6 +29,11 @@ turns_known script names [] h = All-nil (λ (item : Item). item.session < length
 turns_known script names (turn ∷ turns) h =
     let parts = or_parts (is_unknown_in script names turn) (any_unknown_in script names turns) h in
     All-cons (λ (item : Item). item.session < length names) (item_at script names turn) (map (item_at script names) turns) (turn_known script names turn parts.0) (turns_known script names turns parts.1)
+
+-- whether one of the turns names no session, as a list is searched
+pub unknown_listed : (script : List ℕ) (names : List (List ℕ)) (turns : List Turn) → any_unknown_in script names turns ≡ list_any (is_unknown_in script names) turns
+unknown_listed script names [] = refl
+unknown_listed script names (turn ∷ turns) = ap (λ (rest : Bool). is_unknown_in script names turn || rest) (unknown_listed script names turns)
 
 -- a schedule that is taken
 pub schedule_fits : (script : List ℕ) (names : List (List ℕ)) (turns : List Turn) → any_unknown_in script names turns ≡ false → length turns ≤ MOST_ITEMS → FitsSchedule (length names) (map (item_at script names) turns)

@@ -2,8 +2,7 @@
 
 ghost use Rattle.std.specs.Prelude.{◌≡◌, ◌*◌, None, map, nat_le, length, IfOk, IfSome, OnOk, slice_set, slice_index_or};
 ghost use Rattle.hy_ast.specs.Trees.{statement_of, Insert};
-ghost use Rattle.hy_bind.specs.Literals.{text_of_span};
-ghost use Rattle.hy_schema.specs.Names.{table_number};
+ghost use Rattle.std.specs.Option.{option_copied, unwrap_or};
 ghost use Rattle.hy_script.specs.Stocks.{key_there, no_rows, with_row};
 ghost use Rattle.hy_script.specs.Refusals.{first_row_code, stock_at};
 ghost use Rattle.hy_script.specs.Growing.{with_first_row, Takes};
@@ -20,42 +19,27 @@ use hy_value::{Seq, StoredRow};
 use std::alloc::{AllocError, Global};
 
 impl SoFar {
-    /// The first rows of the table of this name.
-    fn stock_number(&self, script: &[u8], table: Span) -> Option<usize>
-        ensures { result ≡ table_number self.now.catalog (text_of_span script.now table) }
+    /// The first rows of the table of this number.
+    fn stock(&self, number: Option<u32>) -> Option<&Stock>
+        ensures { unwrap_or (option_copied result) (no_rows None) ≡ stock_at number self.now.stocks }
     {
-        match self.catalog.find(text_in(script, table)) {
-            Some(number) => Some(number as usize),
-            None => None,
-        }
+        self.stocks.as_slice().get(number? as usize)
     }
 
     /// Whether the table of this number has as many rows as it has room for.
-    fn is_full(&self, options: &Options, number: Option<usize>) -> bool
+    fn is_full(&self, options: &Options, number: Option<u32>) -> bool
         ensures { result ≡ nat_le (options.now.chunks * options.now.rows) (length (stock_at number self.now.stocks).rows) }
     {
         let room = u64::from(options.chunks) * u64::from(options.rows);
-        let rows = match number {
-            Some(number) => match self.stocks.as_slice().get(number) {
-                Some(stock) => stock.rows.len(),
-                None => 0,
-            },
-            None => 0,
-        };
+        let rows = self.stock(number).map_or(0, |stock| stock.rows.len());
         rows as u64 >= room
     }
 
     /// Whether a row of the table of this number has the key of this row.
-    fn has_key(&self, number: Option<usize>, row: &StoredRow) -> bool
+    fn has_key(&self, number: Option<u32>, row: &StoredRow) -> bool
         ensures { result ≡ key_there (stock_at number self.now.stocks) row.now }
     {
-        match number {
-            Some(number) => match self.stocks.as_slice().get(number) {
-                Some(stock) => stock.has_key(row),
-                None => false,
-            },
-            None => false,
-        }
+        self.stock(number).is_some_and(|stock| stock.has_key(row))
     }
 
     /// Adds a first row to the table of this number. Where there is none nothing changes.
@@ -65,12 +49,11 @@ impl SoFar {
               (with_row (slice_index_or self.old.stocks number (no_rows None)) row);
         }) }
     {
-        if number >= self.stocks.len() {
-            return Ok(());
+        if number < self.stocks.len() {
+            let mut stock = self.stocks.replace(number, Stock::new(alloc, None));
+            stock.add(row)?;
+            self.stocks.replace(number, stock);
         }
-        let mut stock = self.stocks.replace(number, Stock::new(alloc, None));
-        stock.add(row)?;
-        leave(self.stocks.replace(number, stock));
         Ok(())
     }
 
@@ -89,14 +72,14 @@ impl SoFar {
             values.now) self.new (with_first_row input.now.script.now self.old table values.now)) }
         ensures refused { IfOk result (λ code. IfSome code (λ _. self.new ≡ self.old)) }
     {
-        let number = self.stock_number(input.script, table);
+        let number = self.catalog.find(text_in(input.script, table));
         let full = code_if(self.is_full(input.options, number), Code::Limit);
         match bind(alloc, input.script, &self.catalog, ast) {
-            Ok(Bound::Insert { table: _, row }) => {
+            Ok(Bound::Insert { row, .. }) => {
                 let twice = code_if(self.has_key(number, &row), Code::KeyTwice);
                 let code = first_of(full, twice);
                 if code.is_none() {
-                    self.add_row(alloc, number.unwrap_or(0), row)?;
+                    self.add_row(alloc, number.unwrap_or(0) as usize, row)?;
                 }
                 Ok(code)
             }
@@ -107,18 +90,14 @@ impl SoFar {
     }
 }
 
-/// Lets a value go.
-fn leave(_: Stock) {}
-
 /// The rows of all tables.
 pub fn rows_of(alloc: Global, stocks: Seq<Stock>) -> Result<Seq<StoredRows>, AllocError>
     ensures { IfOk result (λ all. all ≡ map (λ stock. stock.rows) stocks) }
 {
-    let mut all = Seq::new(alloc);
-    let mut rest = stocks.into_vec();
-    while !rest.is_empty() {
-        let Stock { rows, .. } = rest.remove(0);
-        all.push(rows)?;
-    }
-    Ok(all)
+    let rows: Vec<StoredRows> = stocks
+        .into_vec()
+        .into_iter()
+        .map(|stock| stock.rows)
+        .collect(alloc)?;
+    Ok(Seq::from_vec(rows))
 }

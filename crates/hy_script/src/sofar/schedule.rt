@@ -52,12 +52,7 @@ fn is_unknown(script: &[u8], names: &Names, turn: &Turn) -> bool
 fn any_unknown(script: &[u8], names: &Names, turns: &[Turn]) -> bool
     ensures { result ≡ any_unknown_in script.now names.now turns.now }
 {
-    for turn in turns {
-        if is_unknown(script, names, turn) {
-            return true;
-        }
-    }
-    false
+    turns.iter().any(|turn| is_unknown(script, names, turn))
 }
 
 /// A turn of a schedule, with its session's number.

@@ -1,6 +1,7 @@
 //! Tables and their columns.
 
-ghost use Rattle.std.specs.Prelude.{◌≡◌, None, is_some, map, nat_lt, count_by, IfOk, IfSome, OnOk};
+ghost use Rattle.std.specs.Prelude.{◌≡◌, ◌≤◌, None, is_some, length, map, nat_lt, count_by, IfOk, IfSome, OnOk};
+ghost use Rattle.hy_limits.specs.declared.TheConstants.{MOST_COLUMNS};
 ghost use Rattle.hy_schema.specs.Names.{table_number, refusal_of};
 ghost use Rattle.hy_script.specs.Refusals.{create_code, is_key, name_in};
 ghost use Rattle.hy_script.specs.Growing.{column_def, key_from, table_def, with_table, Takes};
@@ -11,7 +12,7 @@ use crate::stocks::Stock;
 use hy_ast::ColumnDef;
 use hy_bind::{repeats, text, text_in};
 use hy_limits::{MOST_COLUMNS, MOST_TABLES};
-use hy_schema::{Column, Columns, TableDef};
+use hy_schema::{Column, TableDef};
 use hy_token::Span;
 use hy_value::Seq;
 use std::alloc::{AllocError, Global};
@@ -46,7 +47,7 @@ impl SoFar {
     }
 
     /// CREATE TABLE. One that is refused changes nothing.
-    #[tactic(auto, using(crate::proofs::Tables::is_free))]
+    #[tactic(auto, using(crate::proofs::Tables::is_free, crate::proofs::Accepted::table_taken))]
     pub fn create(
         &mut self,
         alloc: Global,
@@ -71,13 +72,9 @@ impl SoFar {
         ensures { OnOk result (self.new ≡ with_table self.old def) }
     {
         let key = def.key;
-        match self.catalog.add(alloc, def) {
-            Ok(_) => {
-                self.stocks.push(Stock::new(alloc, key))?;
-                Ok(())
-            }
-            Err(_) => Err(AllocError),
-        }
+        self.catalog.add(alloc, def).map_err(|_| AllocError)?;
+        self.stocks.push(Stock::new(alloc, key))?;
+        Ok(())
     }
 }
 
@@ -99,14 +96,17 @@ fn column_of(alloc: Global, script: &[u8], column: &ColumnDef) -> Column
 }
 
 /// The columns of a new table.
-fn columns_of(alloc: Global, script: &[u8], columns: &[ColumnDef]) -> Result<Columns, AllocError>
-    ensures { IfOk result (λ all. all ≡ map (column_def script.now) columns.now) }
+fn columns_of(
+    alloc: Global,
+    script: &[u8],
+    columns: &[ColumnDef],
+) -> Result<Vec<Column>, AllocError>
+    ensures { IfOk result (λ all. all.items ≡ map (column_def script.now) columns.now) }
 {
-    let mut all = Seq::new(alloc);
-    for column in columns {
-        all.push(column_of(alloc, script, column))?;
-    }
-    Ok(all)
+    columns
+        .iter()
+        .map(|column| column_of(alloc, script, column))
+        .collect(alloc)
 }
 
 /// Whether more than one column is a key.
@@ -117,15 +117,12 @@ fn has_two_keys(columns: &[ColumnDef]) -> bool
 }
 
 /// The number of the first column that is a key.
-fn key_of(columns: &[ColumnDef]) -> Result<Option<u32>, AllocError>
-    ensures { IfOk result (λ key. key ≡ key_from 0 columns.now) }
+fn key_of(columns: &[ColumnDef]) -> Option<u32>
+    requires { length columns.now ≤ MOST_COLUMNS }
+    ensures { result ≡ key_from 0 columns.now }
 {
-    for (ordinal, column) in columns.iter().enumerate() {
-        if column.key {
-            return Ok(Some(u32::try_from(ordinal).map_err(|_| AllocError)?));
-        }
-    }
-    Ok(None)
+    let ordinal = columns.iter().position(|column| column.key)?;
+    Some(ordinal as u32)
 }
 
 /// A new table as it is written.
@@ -135,11 +132,12 @@ fn table_of(
     table: Span,
     columns: &[ColumnDef],
 ) -> Result<TableDef, AllocError>
+    requires { length columns.now ≤ MOST_COLUMNS }
     ensures { IfOk result (λ def. def ≡ table_def script.now table columns.now) }
 {
     Ok(TableDef {
         name: text(alloc, text_in(script, table)),
-        columns: columns_of(alloc, script, columns)?,
-        key: key_of(columns)?,
+        columns: Seq::from_vec(columns_of(alloc, script, columns)?),
+        key: key_of(columns),
     })
 }

@@ -14,6 +14,7 @@
 
 mod ahead;
 mod gate;
+mod group;
 mod known;
 mod parted;
 mod parts;

@@ -18,6 +18,7 @@ use std::hint;
 use std::marker::{Brand, Model};
 use std::snapshot::Snapshot;
 use std::sync::Wait;
+use std::sync::atomic::{AtomicU64, Ordering};
 
 type Slot<P> = Option<CachePadded<<P as Parted>::Part>>;
 
@@ -125,6 +126,8 @@ pub struct Parts<P: Parted> {
     spare: Vec<P::Part>,
     // Who waits at each part. It is no part of the rule: it only says when to wake.
     waiting: Vec<CachePadded<Waiting>>,
+    // How many workers run. It is no part of the rule either.
+    crowd: CachePadded<AtomicU64>,
 }
 
 impl<P: Parted> Model for Parts<P> {
@@ -203,6 +206,7 @@ impl<P: Parted> Parts<P> {
                         table,
                         spare,
                         waiting,
+                        crowd: CachePadded::new(AtomicU64::new(0)),
                     },
                     Seat {
                         at_table,
@@ -227,6 +231,7 @@ impl<P: Parted> Parts<P> {
             table,
             spare,
             waiting: _,
+            crowd: _,
         } = self;
         let Seat {
             at_table,
@@ -323,7 +328,7 @@ impl<P: Parted> Parts<P> {
         ensures taken { (o : Visitor P.Session P.Part) → seat.old.knows ≡ Seated o
             → (n : ℕ) × (seat.new.knows ≡ Seated (holding (refused o k n) k result)) × P.near k o.session result }
     {
-        // This call and `next_turn` wait: every other one takes a number of steps that is known when it begins. Who waits in
+        // This call, `next_turn` and `join_group` wait: every other one takes a number of steps that is known when it begins. Who waits in
         // either has no part, so whoever has one doesn't wait here.
         for _ in rt.forever() {
             if let Some(part) = self.try_take(seat, k) {
@@ -368,42 +373,65 @@ impl<P: Parted> Parts<P> {
 
     /// Notes that the caller is blocked at the part k, and gives the count of the turn that it waits for. Who visits the part after
     /// this, and finds that it is blocked still, may wait for another count and misses nothing that is announced.
-    pub(crate) fn begin_blocked(&self, k: usize, is_long: bool) -> u32
+    pub(crate) fn begin_blocked(&self, k: usize) -> u32
         requires { k < self.now.slots }
     {
-        let turn = self.waiting[k].turn(is_long);
+        let turn = &self.waiting[k].change;
         turn.begin_blocked();
         turn.count()
     }
 
-    /// Waits until the turn's count at the part k is another one, and gives that; it sleeps at once where that is long. It may
-    /// return earlier.
-    pub(crate) fn next_turn<T: Wait>(&self, rt: &T, k: usize, count: u32, is_long: bool) -> u32
+    /// Waits until the turn's count at the part k is another one, and gives that. It may return earlier.
+    pub(crate) fn next_turn<T: Wait>(&self, rt: &T, k: usize, count: u32) -> u32
         requires { k < self.now.slots }
     {
-        let turn = self.waiting[k].turn(is_long);
-        if is_long || !turn.look(count) {
+        let turn = &self.waiting[k].change;
+        if !turn.look(count) {
             turn.sleep(rt, count);
         }
         turn.count()
     }
 
     /// Notes that the caller is not blocked at the part k any more.
-    pub(crate) fn end_blocked(&self, k: usize, is_long: bool)
+    pub(crate) fn end_blocked(&self, k: usize)
         requires { k < self.now.slots }
     {
-        self.waiting[k].turn(is_long).end_blocked();
+        self.waiting[k].change.end_blocked();
     }
 
-    /// Announces that the part k was changed, once it was given back: all who are blocked look again, and those whose wait is long
-    /// where that may have ended.
-    pub(crate) fn announce(&self, k: usize, ends_long: bool)
+    /// Announces that the part k was changed, once it was given back: all who are blocked look again.
+    pub(crate) fn announce(&self, k: usize)
         requires { k < self.now.slots }
     {
-        self.waiting[k].turn(false).announce();
-        if ends_long {
-            self.waiting[k].turn(true).announce();
+        self.waiting[k].change.announce();
+    }
+
+    /// Waits until the part k has come as far as is awaited, if something is, or the caller leads those who wait there, and tells
+    /// whether it does.
+    pub(crate) fn join_group<T: Wait>(&self, rt: &T, k: usize, awaited: Option<u64>) -> bool
+        requires { k < self.now.slots }
+    {
+        match awaited {
+            Some(awaited) => self.waiting[k].group.join(rt, awaited, &self.crowd),
+            None => false,
         }
+    }
+
+    /// Who led those who wait at the part k has done, and the part has come so far, where that is known.
+    pub(crate) fn end_lead(&self, k: usize, reached: Option<u64>)
+        requires { k < self.now.slots }
+    {
+        self.waiting[k].group.end_lead(reached);
+    }
+
+    /// A worker begins to run.
+    pub(crate) fn enter(&self) {
+        self.crowd.fetch_add(1, Ordering::SeqCst);
+    }
+
+    /// A worker runs no more.
+    pub(crate) fn leave(&self) {
+        self.crowd.fetch_sub(1, Ordering::SeqCst);
     }
 
     /// The next session's seat. Who has it has to have that session.

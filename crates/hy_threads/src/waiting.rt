@@ -6,6 +6,7 @@
 //! Nothing here is part of the rule: a thread that wakes for no reason looks again, and one that is never woken only
 //! waits. So these are plain atomics, of which no clause knows what they contain.
 
+use crate::group::Group;
 use std::hint;
 use std::sync::Wait;
 use std::sync::atomic::{AtomicU64, Ordering};
@@ -26,7 +27,7 @@ pub(crate) struct Turn {
 
 impl Turn {
     /// Nobody waits.
-    fn new() -> Turn {
+    pub(crate) fn new() -> Turn {
         Turn {
             blocked: AtomicU64::new(0),
             dozers: AtomicU64::new(0),
@@ -79,13 +80,13 @@ impl Turn {
     }
 }
 
-/// Who waits at a part: for its word, for a change of it, or for the end of what takes long.
+/// Who waits at a part: for its word, for a change of it, or in a group.
 #[derive(Drop)]
 pub(crate) struct Waiting {
     // How many threads may sleep on the part's word.
     sleepers: AtomicU64,
-    change: Turn,
-    long: Turn,
+    pub(crate) change: Turn,
+    pub(crate) group: Group,
 }
 
 impl Waiting {
@@ -94,7 +95,7 @@ impl Waiting {
         Waiting {
             sleepers: AtomicU64::new(0),
             change: Turn::new(),
-            long: Turn::new(),
+            group: Group::new(),
         }
     }
 
@@ -111,10 +112,5 @@ impl Waiting {
     /// Whether a thread may sleep on the word. Who gives the part asks after the word was stored.
     pub(crate) fn has_sleepers(&self) -> bool {
         self.sleepers.load(Ordering::SeqCst) != 0
-    }
-
-    /// What is waited for by those whose wait is long, or by the others.
-    pub(crate) fn turn(&self, is_long: bool) -> &Turn {
-        if is_long { &self.long } else { &self.change }
     }
 }

@@ -57,12 +57,16 @@ pub trait Worked: Parted {
         requires { AreShares is_share session.old shares.items }
         ensures { session.new ≡ session.old };
 
-    /// Whether what a blocked session waits for takes long, as a sync does: then its worker sleeps at once, and leaves the
-    /// processor to others.
-    fn is_long_wait(session: &Self::Session) -> bool;
+    /// Where a session waits for what takes long, as a sync does, and what one session does for all who wait: how far the part that
+    /// it needs has to have come. Its worker visits the part once that has come so far, or leads the others and does it. None where
+    /// it waits for nothing like that.
+    fn awaited(session: &Self::Session) -> Option<u64>;
 
-    /// Whether a session's next visit may end such waits, as that does which tells of a sync: no other visit wakes who waits so.
-    fn ends_long_waits(session: &Self::Session) -> bool;
+    /// How far a part has come at which sessions wait so. None of any other.
+    fn reached(part: &Self::Part) -> Option<u64>;
+
+    /// Whether a session is about to do what the others wait for: as long as it is, its worker leads them.
+    fn is_leading(session: &Self::Session) -> bool;
 
     /// The next visit. None at the end.
     fn need(session: &Self::Session) -> Option<Point>

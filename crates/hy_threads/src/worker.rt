@@ -19,15 +19,10 @@ pub struct Worker<P: Worked> {
     seat: Seat<P>,
     session: P::Session,
     starved: bool,
-    // What it waits behind, where its session is blocked at the part that the session needs.
-    blocked: Option<Blocked>,
-}
-
-// What a worker waits behind: the count of a turn, of the long waits or of the others.
-#[derive(Clone, Copy)]
-struct Blocked {
-    is_long: bool,
-    count: u32,
+    // The count of the turn that it waits behind, where its session is blocked at the part that the session needs.
+    blocked: Option<u32>,
+    // Whether it leads those who wait long.
+    leads: bool,
 }
 
 impl<P: Worked> Model for Worker<P> {
@@ -53,6 +48,7 @@ impl<P: Worked> Worker<P> {
             session,
             starved: false,
             blocked: None,
+            leads: false,
         }
     }
 
@@ -81,6 +77,7 @@ impl<P: Worked> Worker<P> {
             session,
             starved: _,
             blocked: _,
+            leads: _,
         } = self;
         (seat, session)
     }
@@ -102,18 +99,20 @@ impl<P: Worked> Worker<P> {
             return false;
         };
         gate.pass(&point);
-        let ends_long = P::ends_long_waits(&self.session);
+        self.leads |= parts.join_group(rt, point.part, P::awaited(&self.session));
         let mut part = parts.take(rt, &mut self.seat, point.part);
         gate.pass(&Point {
             moment: Moment::Held,
             ..point
         });
         let visited = P::visit(alloc, point.part, &mut self.session, &mut part);
+        let reached = P::reached(&part);
         parts.give(&mut self.seat, &self.session, point.part, part);
         let is_blocked = matches!(visited, Ok(Visited::Blocked));
         if !is_blocked {
-            self.tell_change(parts, point.part, ends_long);
+            self.tell_change(parts, point.part);
         }
+        self.end_lead(parts, point.part, reached);
         gate.pass(&Point {
             moment: Moment::After,
             answered: matches!(visited, Ok(Visited::Answered)),
@@ -127,15 +126,26 @@ impl<P: Worked> Worker<P> {
     }
 
     // The session is blocked no longer, and may have changed this part: the others who are blocked there look again.
-    fn tell_change(&mut self, parts: &Parts<P>, part: usize, ends_long: bool)
+    fn tell_change(&mut self, parts: &Parts<P>, part: usize)
         requires { part < parts.now.slots }
         ensures { self.new ≡ self.old }
     {
-        if let Some(blocked) = self.blocked {
+        if self.blocked.is_some() {
             self.blocked = None;
-            parts.end_blocked(part, blocked.is_long);
+            parts.end_blocked(part);
         }
-        parts.announce(part, ends_long);
+        parts.announce(part);
+    }
+
+    // Where it leads those who wait at this part and has done what they wait for, or can't, it leads no more.
+    fn end_lead(&mut self, parts: &Parts<P>, part: usize, reached: Option<u64>)
+        requires { part < parts.now.slots }
+        ensures { self.new ≡ self.old }
+    {
+        if self.leads && !P::is_leading(&self.session) {
+            self.leads = false;
+            parts.end_lead(part, reached);
+        }
     }
 
     // The session is blocked at this part. It visits the part once more after its worker was noted as blocked, and before the
@@ -144,12 +154,11 @@ impl<P: Worked> Worker<P> {
         requires { part < parts.now.slots }
         ensures { self.new ≡ self.old }
     {
-        let is_long = P::is_long_wait(&self.session);
         let count = match self.blocked {
-            Some(blocked) => parts.next_turn(rt, part, blocked.count, is_long),
-            None => parts.begin_blocked(part, is_long),
+            Some(count) => parts.next_turn(rt, part, count),
+            None => parts.begin_blocked(part),
         };
-        self.blocked = Some(Blocked { is_long, count });
+        self.blocked = Some(count);
     }
 }
 
@@ -174,9 +183,11 @@ impl<P: Worked + Send + Sync> Worker<P> {
         ensures stopped { HasStopped P.point_of self.new }
     {
         self.starved = false;
+        parts.enter();
         for _ in rt.forever() {
             self.prepare(rt, alloc, gate);
             if !self.visit_once(rt, alloc, parts, gate) {
+                parts.leave();
                 return;
             }
         }

@@ -92,11 +92,15 @@ impl Worked for Counting {
         let _ = (session.offers, shares.len());
     }
 
-    fn is_long_wait(_session: &Adder) -> bool {
-        false
+    fn awaited(_session: &Adder) -> Option<u64> {
+        None
     }
 
-    fn ends_long_waits(_session: &Adder) -> bool {
+    fn reached(_counter: &Counter) -> Option<u64> {
+        None
+    }
+
+    fn is_leading(_session: &Adder) -> bool {
         false
     }
 

@@ -1,7 +1,8 @@
 //! A run with each session on a thread of its own that keeps a log: each session is told how a transaction ended once what that
 //! stands on is in the log, and several share an append.
 
-ghost use Rattle.std.specs.Prelude.{◌≡◌, ◌+◌, ◌++◌, ◌∷◌, ◌<◌, ◌≤◌, ℕ, suc, List, None, Ok, [], false, All, IfOk, IfErr, IsErrOf, map, length, vec_len, vec_capacity};
+ghost use Rattle.std.specs.Prelude.{◌≡◌, ◌+◌, ◌++◌, ◌∷◌, ◌<◌, ◌≤◌, ℕ, suc, List, [], length, map, All};
+ghost use Rattle.std.specs.Prelude.{None, Ok, IfOk, IfErr, IsErrOf, false, vec_len, vec_capacity};
 ghost use Rattle.std.specs.List.{AllByRecursion};
 ghost use Rattle.hy_machine.specs.States.{State};
 ghost use Rattle.hy_outside.specs.Faults.{Rose};
@@ -114,13 +115,27 @@ impl<K: Case, D: Disk + Send + Sync> Worked for ShownLogged<K, D> {
         session.session.take_shares(alloc, shares.as_slice());
     }
 
-    fn is_long_wait(session: &LoggedSession) -> bool {
-        // It waits for an append, unless it is held up as it is without a log.
-        session.awaits()
+    fn awaited(session: &LoggedSession) -> Option<u64> {
+        match session.stage {
+            Stage::Running if session.awaits() => Some(session.owed as u64),
+            _ => None,
+        }
     }
 
-    fn ends_long_waits(session: &LoggedSession) -> bool {
-        matches!(session.stage, Stage::Reporting(_))
+    fn reached(part: &LoggedPart<D>) -> Option<u64> {
+        let LoggedPart::Core(_, durability) = part else {
+            return None;
+        };
+        // Where the log is broken all are to come, and stop.
+        Some(if durability.is_broken {
+            u64::MAX
+        } else {
+            durability.durable as u64
+        })
+    }
+
+    fn is_leading(session: &LoggedSession) -> bool {
+        matches!(session.stage, Stage::Appending { .. } | Stage::Reporting(_))
     }
 
     fn need(session: &LoggedSession) -> Option<Point> {

@@ -126,11 +126,15 @@ impl<K: Case> Worked for Shown<K> {
         session.take_shares(alloc, shares.as_slice());
     }
 
-    fn is_long_wait(_session: &Session) -> bool {
-        false
+    fn awaited(_session: &Session) -> Option<u64> {
+        None
     }
 
-    fn ends_long_waits(_session: &Session) -> bool {
+    fn reached(_part: &SharedPart) -> Option<u64> {
+        None
+    }
+
+    fn is_leading(_session: &Session) -> bool {
         false
     }
 

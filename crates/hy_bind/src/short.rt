@@ -13,23 +13,28 @@ use crate::literals::{integer, text_in};
 use crate::queries::query;
 use crate::refusals::BindError;
 use crate::scope::{Scope, column_ordinal, resolve};
-use crate::statements::{columns, is_key, key, table, update};
+use crate::statements::{is_key, key, table, update};
 use hy_ast::{ShortSelection, ShortSet, ShortTest, unqualified};
 use hy_bound::{Assign, Bound, Items, Pred, SetExpr, SideView};
 use hy_token::Span;
 use hy_value::{Cmp, Kind, Seq};
 use std::alloc::AllocError;
 
-/// The column of numbers that a name means, if it means one.
-#[inline(always)]
+/// The number of the column of numbers of the one table that a name means, if it means one. It stands by itself, since an
+/// UPDATE asks it three times.
+#[inline(never)]
 #[tactic(auto, using(crate::proofs::ShortForms::means))]
 fn numbers_of(scope: &Scope, name: Span) -> Option<u32>
     ensures { IfSome result (λ column. MeansNumbers (scope_of scope.now) name column) }
 {
-    let found = resolve(scope, &unqualified(name))?;
-    match (found.kind, u32::try_from(found.column)) {
-        (Kind::Int, Ok(column)) => Some(column),
-        _ => None,
+    let [table] = scope.tables else {
+        return None;
+    };
+    let columns = scope.catalog.table(*table)?.columns.as_slice();
+    let ordinal = column_ordinal(columns, text_in(scope.script, name))?;
+    match columns.get(ordinal)?.kind {
+        Kind::Int => u32::try_from(ordinal).ok(),
+        Kind::Str => None,
     }
 }
 
@@ -53,11 +58,11 @@ fn key_of(scope: &Scope, test: &ShortTest) -> Result<Option<Pred>, AllocError>
 fn set_numbers(scope: &Scope, name: Span) -> Option<u32>
     ensures { IfSome result (λ column. MayBeSet (scope_of scope.now) name column) }
 {
-    let columns = columns(scope);
-    let ordinal = column_ordinal(columns, text_in(scope.script, name))?;
-    match columns.get(ordinal)?.kind {
-        Kind::Int if !is_key(key(scope), ordinal) => u32::try_from(ordinal).ok(),
-        _ => None,
+    let column = numbers_of(scope, name)?;
+    if is_key(key(scope), column as usize) {
+        None
+    } else {
+        Some(column)
     }
 }
 

@@ -1,6 +1,6 @@
 //! Sessions, their transactions and the statements of these.
 
-ghost use Rattle.std.specs.Prelude.{◌≡◌, IfOk, OnOk};
+ghost use Rattle.std.specs.Prelude.{◌≡◌, ◌++◌, ◌∷◌, [], IfOk, OnOk};
 ghost use Rattle.hy_ast.specs.Trees.{statement_of};
 ghost use Rattle.hy_bind.specs.Statements.{HasNames};
 ghost use Rattle.hy_script.specs.declared.sofar.Section.TheVariants as Section;
@@ -13,7 +13,7 @@ use crate::judging::judge;
 use crate::sofar::{OpenTxn, Section, SoFar};
 use hy_ast::Statement;
 use hy_bind::{text, text_in};
-use hy_bound::{Name, SavedName, Statements, Txn, Txns, keep_open};
+use hy_bound::{Bound, Name, SavedName, Statements, Txn, Txns, keep_open};
 use hy_limits::{MOST_SESSIONS, MOST_TXNS};
 use hy_token::Span;
 use hy_value::Seq;
@@ -23,6 +23,33 @@ use std::mem;
 /// The types inside a session. A function that moves sessions names them once, since the checker looks for
 /// the types inside another type only among those that the function names.
 type Met = Option<(Txn, OpenTxn, Statements, Txns, SavedName)>;
+
+/// For how many statements there is room at first: most transactions have few.
+const FIRST_ROOM: usize = 2;
+
+/// A statement more. There is room for it before it is moved, since it is large.
+fn add_statement(alloc: Global, statements: &mut Statements, bound: Bound) -> Result<(), AllocError>
+    ensures { OnOk result (statements.new ≡ statements.old ++ bound ∷ []) }
+{
+    let mut list = mem::replace(statements, Seq::new(alloc)).into_vec();
+    if list.is_empty() {
+        list.reserve_exact(FIRST_ROOM)?;
+    } else {
+        list.reserve(1)?;
+    }
+    list.push_reserved(bound);
+    *statements = Seq::from_vec(list);
+    Ok(())
+}
+
+/// The statements of a transaction that is read whole, without room for more: a script has many that are short.
+fn fitted(statements: Statements) -> Statements
+    ensures { result ≡ statements }
+{
+    let mut list = statements.into_vec();
+    list.shrink_to_fit();
+    Seq::from_vec(list)
+}
 
 impl SoFar {
     /// BEGIN.
@@ -55,7 +82,7 @@ impl SoFar {
             Section::Within(mut session, txn) => {
                 session.txns.push(Txn {
                     read_only: txn.read_only,
-                    statements: txn.statements,
+                    statements: fitted(txn.statements),
                     commits,
                 })?;
                 self.section = Section::Between(session);
@@ -123,7 +150,7 @@ impl SoFar {
                 match judge(alloc, script, &self.catalog, txn.standing(), ast)? {
                     Ok(bound) => {
                         keep_open(&mut txn.savepoints, &bound)?;
-                        txn.statements.push(bound)?;
+                        add_statement(alloc, &mut txn.statements, bound)?;
                         Ok(None)
                     }
                     Err(code) => Ok(Some(code)),

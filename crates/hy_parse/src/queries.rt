@@ -2,7 +2,8 @@
 
 ghost use Rattle.std.specs.Prelude.{◌≡◌};
 ghost use Rattle.hy_ast.specs.Trees.{statement_of};
-ghost use Rattle.hy_parse.specs.Reading.{Gives, sum_at, from_at, joined_at, joins_at, rows_at, count_at, groups_at, second_at, columns_at, selection_at, selected};
+ghost use Rattle.hy_parse.specs.Reading.{Gives, sum_at, from_at, joined_at, joins_at, rows_at, count_at};
+ghost use Rattle.hy_parse.specs.Reading.{groups_at, second_at, columns_at, selection_at, selected};
 
 use crate::Piece;
 use crate::conditions::where_clause;

@@ -4,7 +4,8 @@ ghost use Rattle.std.specs.Prelude.{◌≡◌, [], ◌∷◌};
 ghost use Rattle.hy_ast.specs.Trees as tree;
 ghost use Rattle.hy_ast.specs.Trees.{statement_of};
 ghost use Rattle.hy_token.specs.declared.Keyword.TheVariants as words;
-ghost use Rattle.hy_parse.specs.Reading.{Gives, piece_at, kind_of, column_def_at, create_at, insert_at, session_at, begin_at, alone_at, changed_at, select_at, selected, selection_at, release_at};
+ghost use Rattle.hy_parse.specs.Reading.{Gives, piece_at, kind_of, column_def_at, create_at, insert_at, session_at, begin_at};
+ghost use Rattle.hy_parse.specs.Reading.{alone_at, changed_at, select_at, selected, selection_at, release_at};
 ghost use Rattle.hy_parse.specs.Reading.{savepoint_at, back_at, rollback_at, update_at, delete_at, turns_at, schedule_at, body_at, read_statement};
 
 use crate::Piece;

@@ -14,7 +14,8 @@ ghost use Rattle.hy_redo.specs.Crashes.{AreClosedAt};
 ghost use Rattle.hy_redo.specs.Logs.{IsBatchOf};
 ghost use Rattle.hy_threads.specs.Visits.{Visits};
 ghost use Rattle.hy_world.specs.Grouped.{awaits, is_over, entries_in, fresh_session, logged_number, reported};
-ghost use Rattle.hy_world.specs.Grouped.{AppendsEntries, CoreComesTo, HasToWaitLogged, HoldsCore, IsAppended, IsLoggedVisit, MayAppend, MayVisitCore, MayVisitLogged};
+ghost use Rattle.hy_world.specs.Grouped.{AppendsEntries, CoreComesTo, HasToWaitLogged, HoldsCore, IsAppended, IsLoggedVisit};
+ghost use Rattle.hy_world.specs.Grouped.{MayAppend, MayVisitCore, MayVisitLogged};
 ghost use Rattle.hy_world.specs.Shared.{MayVisit};
 
 use crate::shared::{PartKind, SharedPart, visit_part};

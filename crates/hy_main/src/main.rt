@@ -172,7 +172,7 @@ fn exit_code_of<T: Threads + Wait + Sync, R: Source, W: Sink, D: Disk + Send + S
 {
     let report = hy_top::run(rt, alloc, words, source, sink, &OpenGate, disk);
     let status = report.status;
-    // The process ends here, and with it the outcome's memory: no need to give it back row by row.
+    // The process ends here, and with it the memory of what was read and told: no need to give it back row by row.
     mem::forget(report);
     ExitCode::from(status)
 }

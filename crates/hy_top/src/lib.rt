@@ -14,7 +14,8 @@ ghost use Rattle.hy_gen.specs.Made.{made};
 ghost use Rattle.hy_script.specs.Reading.{Reads};
 ghost use Rattle.hy_script.specs.declared.Script.{Script};
 ghost use Rattle.hy_top.specs.Lines.{usage_line, refusal_line_of, checked_line};
-ghost use Rattle.hy_top.specs.Program.{MayCome, bytes_left, does_serve, keeps_log, options_by, made_by, names_at, reads_script, runs_threads, served_by, uses_disk};
+ghost use Rattle.hy_top.specs.Program.{MayCome, bytes_left, does_serve, keeps_log, options_by, made_by};
+ghost use Rattle.hy_top.specs.Program.{names_at, reads_script, runs_threads, served_by, uses_disk};
 ghost use Rattle.hy_top.specs.Served.{IsServed, LeavesServed};
 ghost use Rattle.hy_top.specs.Settings.{CanRun, IsUtf8Script};
 ghost use Rattle.hy_top.specs.Reports.{Writes, Answers, IsAnswered, Leaves, LeavesLogOf, Runs, Checks, Summarizes, GaveUp, Does, Makes};
@@ -58,6 +59,8 @@ pub struct Report {
     pub status: u8,
     /// What the run of the script came to, if there was one.
     pub outcome: Option<Outcome>,
+    // The script that was checked, kept as long as the report: a process that ends with both need not let it go piece by piece.
+    checked: Option<Script>,
 }
 
 /// How a script is run.
@@ -201,6 +204,7 @@ pub fn run<T: Threads + Wait + Sync, R: Source, W: Sink, G: Gate, D: Disk + Send
         Err(WordsError::OutOfMemory) => Report {
             status: NO_MEMORY,
             outcome: None,
+            checked: None,
         },
     }
 }
@@ -257,6 +261,7 @@ fn without_outcome(status: u8) -> Report
     Report {
         status,
         outcome: None,
+        checked: None,
     }
 }
 
@@ -491,6 +496,7 @@ fn tell<W: Sink>(outcome: Outcome, written: &[u8], sink: &mut W) -> Report
     Report {
         status: write(sink, written, 0),
         outcome: Some(outcome),
+        checked: None,
     }
 }
 
@@ -501,9 +507,14 @@ fn check_script<W: Sink>(alloc: Global, script: Script, sink: &mut W) -> Report
     ensures write_fault { result.status ≡ 4 → Rose (W.faults sink.old) (W.faults sink.new) }
     ensures sink_steady { result.status ≢ 4 → W.faults sink.new ≡ W.faults sink.old }
 {
-    match check_line(alloc, &script) {
-        Ok(line) => without_outcome(write(sink, line.as_slice(), 0)),
-        Err(_) => without_outcome(NO_MEMORY),
+    let status = match check_line(alloc, &script) {
+        Ok(line) => write(sink, line.as_slice(), 0),
+        Err(_) => NO_MEMORY,
+    };
+    Report {
+        status,
+        outcome: None,
+        checked: Some(script),
     }
 }
 

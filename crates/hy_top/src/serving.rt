@@ -77,6 +77,7 @@ fn serve_unlogged<R: Source, W: Sink>(
     Report {
         status: without_disk(status),
         outcome,
+        checked: None,
     }
 }
 
@@ -116,5 +117,9 @@ fn serve_on_log<R: Source, W: Sink, D: Disk>(
 {
     let server = Server::new(alloc, options, true, Some(log));
     let Served { status, outcome } = serve(alloc, server, source, sink, disk);
-    Report { status, outcome }
+    Report {
+        status,
+        outcome,
+        checked: None,
+    }
 }

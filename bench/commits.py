@@ -19,7 +19,7 @@ import tempfile
 import time
 
 TABLES = 16
-COUNTS = {1: 400, 4: 200, 8: 200, 20: 100, 64: 50}
+COUNTS = {1: 2000, 4: 1000, 8: 1000, 20: 500, 64: 250}
 FEWER = 4
 SYNCS = 200
 
@@ -113,7 +113,7 @@ def sync_alone(folder):
 
 def measure(program, folder, count, turns):
     """Measures so many sessions, and tells it in a line."""
-    each = COUNTS.get(count, 50)
+    each = COUNTS.get(count, 250)
     fewer = max(1, each // FEWER)
     by_schedule = [program, "run", "--chunks", str(chunks_of(count)), "--rows", "1"]
     on_threads = [*by_schedule, "--threads"]

@@ -221,6 +221,26 @@ module _ {D : Type 0} where
   pub length_chains : (nodes : Slab (Node D)) (heads : List Head) → length (chains_of nodes heads) ≡ length heads
   length_chains nodes heads = length-map heads (chain_at nodes)
 
+  -- what lies there, by the first node
+  pub opened : (nodes : Slab (Node D)) (len key : ℕ) (node : Node D) → 0 < len → get nodes key ≡ Some node
+      → walk nodes len key ≡ undo_of node ∷ walk nodes (len - 1) node.older
+  opened nodes zero key node some at = absurd (omega arith)
+  opened nodes (suc len) key node some at =
+      let less : len ≡ suc len - 1 = omega arith in
+      walk_node nodes len key key node refl at ∙ ap (λ (n : ℕ). undo_of node ∷ walk nodes n node.older) less
+
+  pub opened_twice : (nodes : Slab (Node D)) (len key : ℕ) (newest second : Node D) → 1 < len → get nodes key ≡ Some newest
+      → get nodes newest.older ≡ Some second → walk nodes len key ≡ undo_of newest ∷ undo_of second ∷ walk nodes (len - 2) second.older
+  opened_twice nodes len key newest second two at next =
+      let less : len - 1 - 1 ≡ len - 2 = omega arith in
+      opened nodes len key newest (omega (arith, two)) at
+      ∙ ap (λ (rest : List (Undo D)). undo_of newest ∷ rest)
+      (opened nodes (len - 1) newest.older second (omega (arith, two)) next ∙ ap (λ (n : ℕ). undo_of second ∷ walk nodes n second.older) less)
+
+  pub ended : (nodes : Slab (Node D)) (len key : ℕ) → get nodes key ≡ None → walk nodes len key ≡ []
+  ended nodes zero key none = refl
+  ended nodes (suc len) key none = ap (in_front (walk nodes len)) none
+
   -- the newest record of a chain that has one, and the keys of the others
   pub record Parted (nodes : Slab (Node D)) (len key : ℕ) (keys : List ℕ) (node : Node D) : Type 0 where
     pub rest : List ℕ
@@ -243,7 +263,7 @@ module _ {D : Type 0} where
         rest = keys;
         keys_are = ap (λ (j : ℕ). j ∷ keys) (sym lies.0);
         lies = subst (λ (n : ℕ). Lies nodes n node.older keys) less (subst (λ (m : Node D). Lies nodes len m.older keys) same lies.1.2);
-        walks = walk_node nodes len key key node refl at ∙ ap (λ (n : ℕ). undo_of node ∷ walk nodes n node.older) less;
+        walks = opened nodes (suc len) key node some at;
       }
 
   -- a chain has as many records as its head says

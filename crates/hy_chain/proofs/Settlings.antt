@@ -7,11 +7,11 @@ use Rattle.hy_prune.specs.declared.Fate.TheVariants.{Keep, Merge, Drop}
 use Rattle.hy_prune.specs.Fates.{fate_of}
 use Rattle.hy_chain.specs.Chains.{Undo}
 use Rattle.hy_chain.specs.declared.lists.Node.{Node}
-use Rattle.hy_chain.specs.Links.{walk, Lies}
-use Rattle.hy_chain.specs.Pruning.{alone, joined_to, mark_of, by_fate, pruned_behind}
-use Rattle.hy_chain.specs.Settling.{hand_after, aside_after, put_back, stays_whole}
-use Rattle.hy_chain.proofs.Linking.{parted}
-use Rattle.hy_chain.proofs.Steps.{keep_step}
+use Rattle.hy_chain.specs.Links.{walk}
+use Rattle.hy_chain.specs.Pruning.{alone, joined, joined_to, mark_of, by_fate, pruned_behind, pruned}
+use Rattle.hy_chain.specs.Settling.{hand_after, aside_after, put_back, stays_whole, SecondMerges, with_newest_joined}
+use Rattle.hy_chain.proofs.Linking.{opened}
+use Rattle.hy_chain.proofs.Steps.{keep_step, merge_step}
 
 -- by a record's fate, whether a chain from it on stays whole
 stays_by : (fate : Fate) (rest : Bool) → by_fate fate rest false false ≡ true → (fate ≡ Keep) × (rest ≡ true)
@@ -19,12 +19,7 @@ stays_by Keep rest h = (refl, h)
 stays_by Merge rest h = absurd (cc)
 stays_by Drop rest h = absurd (cc)
 
-goes_by : (fate : Fate) (rest : Bool) → (fate ≡ Keep → ⊥) → by_fate fate rest false false ≡ false
-goes_by Keep rest other = absurd (other refl)
-goes_by Merge rest other = refl
-goes_by Drop rest other = refl
-
-keeps_by : (fate : Fate) (rest : Bool) → fate ≡ Keep → by_fate fate rest false false ≡ rest
+pub keeps_by : (fate : Fate) (rest : Bool) → fate ≡ Keep → by_fate fate rest false false ≡ rest
 keeps_by fate rest e = ap (λ (f : Fate). by_fate f rest false false) e
 
 module _ {D : Type 0} (merged : D → D → D) (cover : Cover) where
@@ -52,15 +47,26 @@ module _ {D : Type 0} (merged : D → D → D) (cover : Cover) where
       let w = stays_by (fate_of cover (mark_of kept) undo.stamp.mark) _ h in
       keep_step merged cover kept undo chain w.0 ∙ ap (λ (rest : List (Undo D)). alone kept ++ rest) (unchanged (Some undo) chain w.1)
 
--- a chain in a slab, by its newest record
-module _ {D : Type 0} (cover : Cover) (kept : Option ℕ) (nodes : Slab (Node D)) (len key : ℕ) (keys : List ℕ) (node : Node D)
-    (lies : Lies nodes len key keys) (some : 0 < len) (at : get nodes key ≡ Some node) where
-  pub stays_on : fate_of cover kept node.stamp.mark ≡ Keep
-      → stays_whole cover kept (walk nodes len key) ≡ stays_whole cover (Some node.stamp.mark) (walk nodes (len - 1) node.older)
-  stays_on e = ap (λ (chain : List (Undo D)). stays_whole cover kept chain) (parted nodes len key keys node lies some at).walks ∙ keeps_by _ _ e
+  -- where only the second record merges, the pruned chain has the newest two as one
+  pub joins : (chain : List (Undo D)) → SecondMerges cover chain → pruned merged cover chain ≡ with_newest_joined merged chain
+  joins [] h = absurd h
+  joins (newer ∷ []) h = absurd h
+  joins (newer ∷ older ∷ rest) h =
+      keep_step merged cover None newer (older ∷ rest) h.0
+      ∙ (merge_step merged cover (Some newer) older rest h.1 ∙ unchanged (Some (joined merged newer older)) rest h.2)
 
-  pub goes_here : (fate_of cover kept node.stamp.mark ≡ Keep → ⊥) → stays_whole cover kept (walk nodes len key) ≡ false
-  goes_here other = ap (λ (chain : List (Undo D)). stays_whole cover kept chain) (parted nodes len key keys node lies some at).walks ∙ goes_by _ _ other
+-- there are two records where the second one merges
+pub two_there : {D : Type 0} (cover : Cover) (chain : List (Undo D)) → SecondMerges cover chain → 1 < length chain
+two_there cover [] h = absurd h
+two_there cover (newer ∷ []) h = absurd h
+two_there cover (newer ∷ older ∷ rest) h = omega arith
+
+-- a chain in a slab, by its newest record
+pub stays_on : {D : Type 0} (cover : Cover) (kept : Option ℕ) (nodes : Slab (Node D)) (len key : ℕ) (node : Node D) → 0 < len → get nodes key ≡ Some node
+    → fate_of cover kept node.stamp.mark ≡ Keep
+    → stays_whole cover kept (walk nodes len key) ≡ stays_whole cover (Some node.stamp.mark) (walk nodes (len - 1) node.older)
+stays_on {D} cover kept nodes len key node some at e =
+    ap (λ (chain : List (Undo D)). stays_whole cover kept chain) (opened nodes len key node some at) ∙ keeps_by _ _ e
 
 -- lists are the same where they are as long and have the same at each place
 pub same_lists : {A : Type 0} (xs ys : List A) (d : A) → length xs ≡ length ys → ((i : ℕ) → get_or xs i d ≡ get_or ys i d) → xs ≡ ys

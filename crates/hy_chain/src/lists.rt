@@ -3,7 +3,8 @@
 ghost use Rattle.std.specs.Prelude.{◌≡◌, ◌+◌, ◌<◌, ◌≤◌, [], ◌∷◌};
 ghost use Rattle.std.specs.Prelude.{None, Some, IfOk, OnSome, OnOk, OnErr, length, drop, replicate, slice_index_or, slice_set};
 ghost use Rattle.hy_chain.specs.Chains.{stops};
-ghost use Rattle.hy_chain.specs.Settling.{stays_whole};
+ghost use Rattle.hy_chain.specs.Links.{chain_at};
+ghost use Rattle.hy_chain.specs.Settling.{Foretells, stays_whole};
 
 use crate::Image;
 use hy_prune::{Cover, Fate, fate_behind};
@@ -27,11 +28,42 @@ struct Node<D> {
     older: usize,
 }
 
+/// What pruning by a cover does with a list.
+#[derive(Clone, Copy)]
+pub enum Outlook {
+    /// Each record stays.
+    Stays,
+    /// The newest two become one, and each other one stays.
+    JoinsNewest,
+    /// Anything else.
+    Mixed,
+}
+
 /// Whether a viewer goes no further than a record with this mark.
 pub fn is_end(viewer: &Viewer, mark: u64) -> bool
     ensures { result ≡ stops viewer.now mark }
 {
     mark == viewer.id || mark < viewer.start
+}
+
+/// Whether each of the records from a head on stays, the first one behind one of this mark.
+fn stay_behind<D: Image>(nodes: &Slab<Node<D>>, head: Head, newer: u64, cover: &Cover) -> bool
+    ensures { result ≡ stays_whole cover.now (Some newer) (chain_at nodes.now head) }
+{
+    let mut key = head.key;
+    let mut kept = newer;
+    for _passed in 0..head.len {
+        let Some(node) = nodes.get(key) else {
+            return true;
+        };
+        let mark = node.stamp.mark;
+        if fate_behind(Some(kept), mark, cover) != Fate::Keep {
+            return false;
+        }
+        kept = mark;
+        key = node.older;
+    }
+    true
 }
 
 /// Lists of undo records, newest first.
@@ -226,25 +258,38 @@ impl<D: Image> Lists<D> {
         }
     }
 
-    /// Whether pruning by a cover leaves a list as it is, since each of its records stays. It moves nothing.
-    pub fn is_pruned(&self, list: usize, cover: &Cover) -> bool
+    /// What pruning by a cover does with a list. It goes over the list once, and moves nothing.
+    pub fn outlook(&self, list: usize, cover: &Cover) -> Outlook
         requires { list < length self.now.chains }
-        ensures { result ≡ stays_whole cover.now None (slice_index_or self.now.chains list []) }
+        ensures { Foretells result cover.now (slice_index_or self.now.chains list []) }
     {
         let head = self.heads[list];
-        let mut key = head.key;
-        let mut kept = None;
-        for _passed in 0..head.len {
-            let Some(node) = self.nodes.get(key) else {
-                return true;
-            };
-            let mark = node.stamp.mark;
-            if fate_behind(kept, mark, cover) != Fate::Keep {
-                return false;
-            }
-            kept = Some(mark);
-            key = node.older;
+        if head.len == 0 {
+            return Outlook::Stays;
         }
-        true
+        let Some(newest) = self.nodes.get(head.key) else {
+            return Outlook::Stays;
+        };
+        let mark = newest.stamp.mark;
+        if fate_behind(None, mark, cover) != Fate::Keep {
+            return Outlook::Mixed;
+        }
+        if head.len == 1 {
+            return Outlook::Stays;
+        }
+        let Some(second) = self.nodes.get(newest.older) else {
+            return Outlook::Stays;
+        };
+        let second_mark = second.stamp.mark;
+        let rest = Head {
+            len: head.len - 2,
+            key: second.older,
+        };
+        // A second one that merges leaves the newest as the one that the third stands behind.
+        match fate_behind(Some(mark), second_mark, cover) {
+            Fate::Keep if stay_behind(&self.nodes, rest, second_mark, cover) => Outlook::Stays,
+            Fate::Merge if stay_behind(&self.nodes, rest, mark, cover) => Outlook::JoinsNewest,
+            _ => Outlook::Mixed,
+        }
     }
 }

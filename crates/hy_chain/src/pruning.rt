@@ -3,10 +3,10 @@
 ghost use Rattle.std.specs.Prelude.{◌≡◌, ◌≢◌, ℕ, ◌+◌, ◌<◌, ◌≤◌, [], length, slice_index_or, slice_set};
 ghost use Rattle.hy_prune.specs.Fates.{fate_of};
 ghost use Rattle.hy_chain.specs.Pruning.{pruned, in_hand, mark_of};
-ghost use Rattle.hy_chain.specs.Settling.{held, hand_after, aside_after, put_back};
+ghost use Rattle.hy_chain.specs.Settling.{held, hand_after, aside_after, put_back, with_newest_joined};
 
 use crate::Image;
-use crate::lists::Lists;
+use crate::lists::{Lists, Outlook};
 use hy_prune::{Cover, Fate, fate_behind};
 use hy_stamp::Stamp;
 
@@ -92,8 +92,23 @@ impl<D: Image> Lists<D> {
         }
     }
 
+    /// Makes one of the newest two records of a list that has two. It takes no memory.
+    fn join_newest(&mut self, list: usize)
+        requires within { list < length self.old.chains }
+        requires two { 1 < length (slice_index_or self.old.chains list []) }
+        ensures chains { self.new.chains
+            ≡ slice_set self.old.chains list (with_newest_joined D.merged (slice_index_or self.old.chains list [])) }
+        ensures room { self.old.room ≤ self.new.room }
+    {
+        let (newer, mut newer_image) = self.take_newest(list);
+        let (_older, older_image) = self.take_newest(list);
+        newer_image.merge_older(older_image);
+        self.push_reserved(list, newer, newer_image);
+    }
+
     /// Prunes a list by a cover, by way of the list `aside`, which is empty. A list of which each record stays isn't
-    /// touched. It takes no memory.
+    /// touched, and where only the second one merges, as beside an old reader, the others stay where they lie. It
+    /// takes no memory.
     pub fn prune(&mut self, list: usize, aside: usize, cover: &Cover)
         requires within { list < length self.old.chains }
         requires aside_within { aside < length self.old.chains }
@@ -102,10 +117,13 @@ impl<D: Image> Lists<D> {
         ensures chains { self.new.chains ≡ slice_set self.old.chains list (pruned D.merged cover.now (slice_index_or self.old.chains list [])) }
         ensures room { self.old.room ≤ self.new.room }
     {
-        if self.is_pruned(list, cover) {
-            return;
+        match self.outlook(list, cover) {
+            Outlook::Stays => {}
+            Outlook::JoinsNewest => self.join_newest(list),
+            Outlook::Mixed => {
+                self.prune_aside(list, aside, cover);
+                self.move_back(aside, list);
+            }
         }
-        self.prune_aside(list, aside, cover);
-        self.move_back(aside, list);
     }
 }

@@ -4,18 +4,23 @@ use Rattle.std.proofs.lemmas.Bool.{cases_eq}
 use Rattle.std.proofs.lemmas.List.{get_or-set_same, get_or-set_other, length-set, set-get_or}
 use Rattle.hy_chain.specs.Pruning.{pruned}
 use Rattle.hy_chain.specs.Settling.{put_back}
-use Rattle.hy_chain.proofs.Settlings.{same_lists, unchanged}
+use Rattle.hy_chain.proofs.Settlings.{same_lists, unchanged, joins}
 use Rattle.hy_chain.proofs.lists.Lists.prune.Goals as goal
 
-pub returns-then-is_pruned-clause-chains : goal.returns-then-is_pruned-clause-chains
-returns-then-is_pruned-clause-chains g c =
+pub returns-in-Stays-clause-chains : goal.returns-in-Stays-clause-chains
+returns-in-Stays-clause-chains g c =
     let before = c.args.self.now.chains in
-    let chain = get_or before c.args.list [] in
-    let same = unchanged g.D.Image.merged c.args.cover.now None chain (sym c.is_pruned.ensures ∙ c.if-is_pruned.true) in
+    let same = unchanged g.D.Image.merged c.args.cover.now None (get_or before c.args.list []) c.in-Stays.ensures in
     sym (ap (set before c.args.list) same ∙ set-get_or before c.args.list [])
 
-pub returns-clause-chains : goal.returns-clause-chains
-returns-clause-chains g c =
+pub returns-in-JoinsNewest-clause-chains : goal.returns-in-JoinsNewest-clause-chains
+returns-in-JoinsNewest-clause-chains g c =
+    let before = c.args.self.now.chains in
+    let joined = joins g.D.Image.merged c.args.cover.now (get_or before c.args.list []) c.in-JoinsNewest.ensures in
+    c.join_newest.ensures.chains ∙ sym (ap (set before c.args.list) joined)
+
+pub returns-in-Mixed-clause-chains : goal.returns-in-Mixed-clause-chains
+returns-in-Mixed-clause-chains g c =
     let before = c.args.self.now.chains in
     let after = c.move_back.new.self.chains in
     let result = pruned g.D.Image.merged c.args.cover.now (get_or before c.args.list []) in

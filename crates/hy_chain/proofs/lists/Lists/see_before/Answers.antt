@@ -1,5 +1,5 @@
-use Rattle.std.proofs.Common.{◌<◌, ℕ, [], length, get_or, sym, ap, ◌∙◌, arith}
-use Rattle.hy_chain.specs.Chains.{Undo, before_newest}
+use Rattle.std.proofs.Common.{◌<◌, [], length, get_or, sym, ap, ◌∙◌, arith}
+use Rattle.hy_chain.specs.Chains.{before_newest}
 use Rattle.hy_chain.specs.Histories.{Histories}
 use Rattle.hy_chain.proofs.Linking.{chain_read, own_lies, first_node, parted, length_chains}
 use Rattle.hy_chain.proofs.lists.Lists.see_before.Goals as goal

@@ -1,12 +1,11 @@
 -- A level is opened.
-use Rattle.std.proofs.Common.{◌≡◌, ℕ, zero, suc, ◌+◌, ◌≤◌, List, [], ◌∷◌, ◌++◌, Option, None, length, drop, map, refl, sym, ap, ◌∙◌, arith}
+use Rattle.std.proofs.Common.{◌≡◌, ℕ, zero, suc, ◌≤◌, List, [], ◌∷◌, ◌++◌, length, drop, map, refl, sym, ap, ◌∙◌, arith}
 use Rattle.std.specs.List.{AllByRecursion}
 use Rattle.std.specs.Option.{option_or}
 use Rattle.hy_value.specs.declared.change.Change.{Change}
 use Rattle.hy_notes.specs.declared.blocks.Blocks.{Blocks}
-use Rattle.hy_notes.specs.Notes.{Cell}
 use Rattle.hy_notes.specs.Blocks.{notes_in}
-use Rattle.hy_notes.specs.Levels.{before_at, was_at, note_from, noted_since}
+use Rattle.hy_notes.specs.Levels.{before_at, was_at, noted_since}
 use Rattle.hy_notes.proofs.Since.{or_none, was_from, drop_stretches, since_same}
 
 pushed_stretch : (olds : List Blocks) (b : Blocks) (k : ℕ) → k ≤ length olds → map notes_in (drop k (olds ++ b ∷ [])) ≡ map notes_in (drop k olds) ++ notes_in b ∷ []

@@ -1,6 +1,7 @@
 -- Spare buffers for rows.
-use Rattle.std.specs.Prelude.{ℕ, ◌-◌, ◌≤◌, ◌/◌, List, Option, None, Some, length, min, Bool, nat_lt, vec_len, if◌then◌else◌}
+use Rattle.std.specs.Prelude.{ℕ, ◌-◌, ◌≤◌, ◌/◌, ◌^◌, ◌&&◌, ◌==◌, List, Option, None, Some, length, min, Bool, nat_le, nat_lt, vec_len, if◌then◌else◌, refl}
 use Rattle.std.specs.List.{AllByRecursion}
+use Rattle.std.specs.Coded.{Coded, code_by, coded×, coded_ℕ}
 use Rattle.hy_value.specs.declared.Value.{Value}
 use Rattle.hy_value.specs.Cells.{texts_in}
 use Rattle.hy_value.specs.Roomy.{Roomy}
@@ -18,6 +19,29 @@ room_by opened notes stretch spare = if opened then min notes (min stretch (spar
 -- for how many more notes there is room
 abbrev pub rooms : Blocks → Levels → ℕ → ℕ
 rooms notes levels spare = room_by (nat_lt 0 (vec_len levels.begins)) (notes.limit - notes.count) (levels.newest.limit - levels.newest.count) spare
+
+-- what contracts see of spare rows: how many rows of up to so many values, of which so many are texts, can be kept
+pub record Spare : Type 0 where
+  pub rows : ℕ
+  pub width : ℕ
+  pub texts : ℕ
+
+-- they are stored as these
+abbrev pub spare_code : Coded Spare
+spare_code =
+    code_by (ℕ × (ℕ × ℕ)) (coded× coded_ℕ (coded× coded_ℕ coded_ℕ)) (λ s. (s.rows, (s.width, s.texts)))
+    (λ p. record { rows = p.0; width = p.1.0; texts = p.1.1 }) (λ _. refl)
+
+-- whether a row of so many values, of which so many are texts, takes no block
+abbrev pub takes_no_block : ℕ → ℕ → Bool
+takes_no_block width texts = nat_le width 4 && texts == 0
+
+-- how many rows can be kept: as many as can be counted where they take no block, else one in each buffer
+abbrev pub rows_by_block : Bool → ℕ → ℕ
+rows_by_block none buffers = if none then 2 ^ 64 - 1 else buffers
+
+abbrev pub rows_of : ℕ → ℕ → ℕ → ℕ
+rows_of width texts buffers = rows_by_block (takes_no_block width texts) buffers
 
 -- a buffer has room for so many values, of which so many are texts
 pub record IsSpare (width texts : ℕ) (buffer : Roomy) : Type 0 where

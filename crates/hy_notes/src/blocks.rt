@@ -1,6 +1,6 @@
 //! Notes in blocks: lists of bounded length, one behind the other, so that one more note moves few of them.
 
-ghost use Rattle.std.specs.Prelude.{◌≡◌, ◌++◌, ◌+◌, ◌<◌, ◌≤◌, List, [], IfOk, OnOk, OnErr, IfSome, IsTrue, not as negated};
+ghost use Rattle.std.specs.Prelude.{◌≡◌, ◌++◌, ◌+◌, ◌-◌, ◌<◌, ◌≤◌, List, [], IfOk, OnOk, OnErr, IfSome, IsTrue, not as negated};
 ghost use Rattle.std.specs.Prelude.{◌^◌, ◌*◌, max, None, Some, true, false, length, drop, take, map, option_map};
 ghost use Rattle.std.specs.Prelude.{slice_get, slice_index_or, slice_set, vec_len, vec_capacity};
 ghost use Rattle.std.specs.List.{AllByRecursion, prefix_len, insert};
@@ -297,6 +297,14 @@ impl Blocks {
         ensures { result ≡ length (notes_in self.now) }
     {
         self.count
+    }
+
+    /// For how many more notes there is room.
+    pub fn room(&self) -> usize
+        requires { AreBlocks self.now }
+        ensures { result ≡ self.now.limit - self.now.count }
+    {
+        self.limit - self.count
     }
 
     /// The block in which a position is or belongs: the first, or one behind it.

@@ -1,17 +1,17 @@
 //! The notes of a transaction.
 
 ghost use Rattle.std.specs.Prelude.{◌≡◌, ◌⊎◌, ◌++◌, ◌+◌, ◌<◌, ◌≤◌, [], ◌∷◌, IfOk, OnOk, OnErr};
-ghost use Rattle.std.specs.Prelude.{length, map, take, filter, option_map, slice_get, slice_index_or, vec_len};
+ghost use Rattle.std.specs.Prelude.{length, map, take, filter, option_map, slice_get, slice_index_or};
 ghost use Rattle.std.specs.List.{prefix_len};
 ghost use Rattle.std.specs.Option.{option_copied};
 ghost use Rattle.hy_notes.specs.Notes.{below, is_between, with_note, place_of};
-ghost use Rattle.hy_notes.specs.Spares.{AreSpare, cell_width, cell_texts};
+ghost use Rattle.hy_notes.specs.Spares.{cell_width, cell_texts};
 
 use crate::NotedPlace;
 use crate::blocks::{Blocks, count_below, is_noted};
 use crate::levels::{Between, Levels};
-use crate::rows::{blank_row, kept};
-use hy_value::{Change, Changes as ChangeList, Row, RowBuffer, Seq};
+use crate::rows::SpareRows;
+use hy_value::{Change, Changes as ChangeList, Row, Seq};
 use std::alloc::{AllocError, Global};
 use std::marker::Model;
 
@@ -21,13 +21,10 @@ use std::marker::Model;
 pub struct Changes {
     notes: Blocks,
     levels: Levels,
-    spare: Vec<RowBuffer>,
-    width: usize,
-    texts: usize,
+    spare: SpareRows,
 }
 
 impl Model for Changes {
-    ghost use Rattle.std.specs.Prelude.{vec_len};
     ghost use Rattle.hy_notes.specs.Blocks.{notes_in};
     ghost use Rattle.hy_notes.specs.Noted.{Noted, noted_code};
     ghost use Rattle.hy_notes.specs.Levels.{levels_of};
@@ -41,49 +38,12 @@ impl Model for Changes {
     ghost view = { λ a. record {
       notes = notes_in a.notes;
       levels = levels_of a.levels (notes_in a.notes);
-      room = rooms a.notes a.levels (vec_len a.spare);
-      width = a.width;
-      texts = a.texts;
+      room = rooms a.notes a.levels a.spare.rows;
+      width = a.spare.width;
+      texts = a.spare.texts;
     } };
 
-    ghost invariant = { λ a. Sound a.notes a.levels a.spare.items a.width a.texts };
-}
-
-/// So many buffers with room for so many values, of which so many are texts. Err is for want of memory.
-fn blank_rows(
-    alloc: Global,
-    count: usize,
-    width: usize,
-    texts: usize,
-) -> Result<Vec<RowBuffer>, AllocError>
-    ensures spare { IfOk result (λ rows. AreSpare width texts rows.items) }
-    ensures count { IfOk result (λ rows. vec_len rows ≡ count) }
-{
-    let mut rows = Vec::with_capacity(alloc, count)?;
-    for _row in 0..count {
-        rows.push(blank_row(alloc, width, texts)?)?;
-    }
-    Ok(rows)
-}
-
-/// Adds buffers until there are so many. Err is for want of memory.
-fn add_rows(
-    spare: &mut Vec<RowBuffer>,
-    count: usize,
-    width: usize,
-    texts: usize,
-) -> Result<(), AllocError>
-    requires { AreSpare width texts spare.old.items }
-    ensures spare { AreSpare width texts spare.new.items }
-    ensures ok { OnOk result (count ≤ vec_len spare.new) }
-    ensures kept { vec_len spare.old ≤ vec_len spare.new }
-    ensures err { OnErr result (vec_len spare.old < count) }
-{
-    let alloc = *spare.allocator();
-    for _row in spare.len()..count {
-        spare.push(blank_row(alloc, width, texts)?)?;
-    }
-    Ok(())
+    ghost invariant = { λ a. Sound a.notes a.levels };
 }
 
 impl Changes {
@@ -95,9 +55,7 @@ impl Changes {
         Changes {
             notes: Blocks::new(alloc),
             levels: Levels::new(alloc),
-            spare: Vec::new(alloc),
-            width: 0,
-            texts: 0,
+            spare: SpareRows::new(alloc),
         }
     }
 
@@ -121,18 +79,8 @@ impl Changes {
     {
         self.notes.reserve(additional)?;
         let rows = self.levels.reserve(additional)?;
-        let count = additional.checked_mul(rows).ok_or(AllocError)?;
-        if self.width < columns || self.texts < texts {
-            let alloc = *self.spare.allocator();
-            let width = self.width.max(columns);
-            let texts = self.texts.max(texts);
-            self.spare = blank_rows(alloc, count.max(self.spare.len()), width, texts)?;
-            self.width = width;
-            self.texts = texts;
-            Ok(())
-        } else {
-            add_rows(&mut self.spare, count, self.width, self.texts)
-        }
+        let all = self.notes.room();
+        self.spare.reserve(additional, all, rows, columns, texts)
     }
 
     /// Notes the rows before and after a write of a position, where there is room for them, in each level too. At a
@@ -152,17 +100,16 @@ impl Changes {
         ensures texts { self.new.texts ≡ self.old.texts }
     {
         let position = NotedPlace { table, pos };
-        self.levels
-            .note(&mut self.spare, self.width, self.texts, position, before);
+        self.levels.note(&mut self.spare, position, before);
         let place = u64::from(pos);
         let block = self.notes.find(table, place);
         let at = count_below(self.notes.notes(block), table, place);
         let noted = is_noted(self.notes.notes(block), at, table, place);
-        let after = kept(&mut self.spare, self.width, self.texts, after);
+        let after = self.spare.keep(after);
         if noted {
             self.notes.put_after(block, at, after);
         } else {
-            let before = kept(&mut self.spare, self.width, self.texts, before);
+            let before = self.spare.keep(before);
             self.notes.put_note(
                 block,
                 at,
@@ -233,7 +180,7 @@ impl Changes {
         ensures texts { OnOk result (self.new.texts ≡ self.old.texts) }
         ensures err { OnErr result (self.new ≡ self.old) }
     {
-        let alloc = *self.spare.allocator();
+        let alloc = self.spare.allocator();
         self.levels.open(alloc)?;
         Ok(())
     }
@@ -273,7 +220,7 @@ impl Changes {
         ensures { IfOk result (λ list. list ≡ filter (is_between table from to) (slice_index_or self.now.levels level [])) }
     {
         match self.levels.begin(level) {
-            None => Ok(Seq::new(*self.spare.allocator())),
+            None => Ok(Seq::new(self.spare.allocator())),
             Some(begin) => {
                 let wanted = Between { table, from, to };
                 Ok(Seq::from_vec(self.levels.notes_between(begin, &self.notes, &wanted)?))

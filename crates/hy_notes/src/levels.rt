@@ -9,12 +9,12 @@ ghost use Rattle.hy_notes.specs.Notes.{Cell, Ascends, below, is_between, with_no
 ghost use Rattle.hy_notes.specs.Blocks.{joined, notes_in, AreBlocks};
 ghost use Rattle.hy_notes.specs.Levels.{noted_since, note_from, first_told, before_at, before_in, was_at};
 ghost use Rattle.hy_notes.specs.Levels.{stretches_in, levels_of, IsStretch, AreLevels, AreCovered};
-ghost use Rattle.hy_notes.specs.Spares.{AreSpare, rows_by, cell_width, cell_texts, cell_rows};
+ghost use Rattle.hy_notes.specs.Spares.{rows_by, cell_width, cell_texts, cell_rows};
 
 use crate::NotedPlace;
 use crate::blocks::{Blocks, count_below, place};
-use crate::rows::kept;
-use hy_value::{Change, Row, RowBuffer, StoredRow};
+use crate::rows::SpareRows;
+use hy_value::{Change, Row, StoredRow};
 use std::alloc::{AllocError, Global};
 use std::mem;
 
@@ -55,21 +55,13 @@ impl Between {
 
 /// Notes what stands at a position, unless something is noted there. It takes no memory, and no more room than for one
 /// note.
-fn note_first(
-    stretch: &mut Blocks,
-    spare: &mut Vec<RowBuffer>,
-    width: usize,
-    texts: usize,
-    place: NotedPlace,
-    before: Option<&Row>,
-)
+fn note_first(stretch: &mut Blocks, spare: &mut SpareRows, place: NotedPlace, before: Option<&Row>)
     requires stretch { IsStretch stretch.old }
     requires room { stretch.old.count < stretch.old.limit }
-    // a buffer for the row
-    requires spare { AreSpare width texts spare.old.items }
-    requires enough { cell_rows (option_copied before) ≤ vec_len spare.old }
-    requires fits { cell_width (option_copied before) ≤ width }
-    requires texts { cell_texts (option_copied before) ≤ texts }
+    // the row can be kept
+    requires enough { cell_rows (option_copied before) ≤ spare.old.rows }
+    requires fits { cell_width (option_copied before) ≤ spare.old.width }
+    requires texts { cell_texts (option_copied before) ≤ spare.old.texts }
     // what is noted then
     ensures told { (table pos : ℕ) → before_at (notes_in stretch.new) table pos
         ≡ first_told place.table place.pos (option_copied before.entry) table pos (before_at (notes_in stretch.old) table pos) }
@@ -77,11 +69,11 @@ fn note_first(
     // the room that is left
     ensures count { stretch.new.count ≤ stretch.old.count + 1 }
     ensures limit { stretch.new.limit ≡ stretch.old.limit }
-    ensures spare { AreSpare width texts spare.new.items }
-    ensures left { vec_len spare.old ≤ vec_len spare.new + 1 }
+    ensures same { (spare.new.width ≡ spare.old.width) × (spare.new.texts ≡ spare.old.texts) }
+    ensures left { spare.old.rows ≤ spare.new.rows + 1 }
 {
     if stretch.note_of(place.table, u64::from(place.pos)).is_none() {
-        let before = kept(spare, width, texts, before);
+        let before = spare.keep(before);
         stretch.put_new(Change {
             table: place.table,
             pos: place.pos,
@@ -194,21 +186,13 @@ impl Levels {
 
     /// Notes what stands at a position in the newest stretch, unless something is noted there, if a level is open. It
     /// takes no memory, and no more room than for one note.
-    pub fn note(
-        &mut self,
-        spare: &mut Vec<RowBuffer>,
-        width: usize,
-        texts: usize,
-        place: NotedPlace,
-        before: Option<&Row>,
-    )
+    pub fn note(&mut self, spare: &mut SpareRows, place: NotedPlace, before: Option<&Row>)
         requires sound { AreLevels self.old }
         requires room { nat_lt 0 (vec_len self.old.begins) ≡ true → self.old.newest.count < self.old.newest.limit }
-        // a buffer for the row
-        requires spare { AreSpare width texts spare.old.items }
-        requires enough { nat_lt 0 (vec_len self.old.begins) ≡ true → cell_rows (option_copied before) ≤ vec_len spare.old }
-        requires fits { cell_width (option_copied before) ≤ width }
-        requires texts { cell_texts (option_copied before) ≤ texts }
+        // the row can be kept
+        requires enough { nat_lt 0 (vec_len self.old.begins) ≡ true → cell_rows (option_copied before) ≤ spare.old.rows }
+        requires fits { cell_width (option_copied before) ≤ spare.old.width }
+        requires texts { cell_texts (option_copied before) ≤ spare.old.texts }
         // each level of notes has one more note, whatever row comes after
         ensures levels { (after : Cell) (notes : List Change) → Ascends notes → AreCovered (stretches_in self.old) notes
             → levels_of self.new (with_note (record { table = place.table; pos = place.pos; before = option_copied before.entry; after = after }) notes)
@@ -221,12 +205,12 @@ impl Levels {
         // the room that is left
         ensures count { self.new.newest.count ≤ self.old.newest.count + 1 }
         ensures limit { self.new.newest.limit ≡ self.old.newest.limit }
-        ensures spare { AreSpare width texts spare.new.items }
-        ensures left { vec_len spare.old ≤ vec_len spare.new + 1 }
-        ensures closed { nat_lt 0 (vec_len self.old.begins) ≡ false → vec_len spare.new ≡ vec_len spare.old }
+        ensures same { (spare.new.width ≡ spare.old.width) × (spare.new.texts ≡ spare.old.texts) }
+        ensures left { spare.old.rows ≤ spare.new.rows + 1 }
+        ensures closed { nat_lt 0 (vec_len self.old.begins) ≡ false → spare.new.rows ≡ spare.old.rows }
     {
         if !self.begins.is_empty() {
-            note_first(&mut self.newest, spare, width, texts, place, before);
+            note_first(&mut self.newest, spare, place, before);
         }
     }
 

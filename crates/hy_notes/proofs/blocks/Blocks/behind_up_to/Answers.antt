@@ -1,7 +1,7 @@
 use Rattle.std.proofs.Common.{◌≡◌, ℕ, ◌+◌, ◌-◌, ◌++◌, max, List, take, drop, sym, ap, ◌∙◌, arith, subst}
 use Rattle.std.specs.Global.{Vec}
 use Rattle.hy_value.specs.declared.change.Change.{Change}
-use Rattle.hy_notes.specs.Blocks.{joined, notes_behind, next_block, AreBehind}
+use Rattle.hy_notes.specs.Blocks.{joined, notes_behind, AreBehind}
 use Rattle.hy_notes.proofs.Finding.{behind_is}
 use Rattle.hy_notes.proofs.Spans.{joined_span, behind_further}
 use Rattle.hy_notes.proofs.blocks.Blocks.behind_up_to.Goals as goal

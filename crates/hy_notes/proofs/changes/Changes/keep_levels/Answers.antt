@@ -1,4 +1,4 @@
-use Rattle.std.proofs.Common.{◌≡◌, ℕ, List, drop, take, map, ap, ◌∙◌}
+use Rattle.std.proofs.Common.{ℕ, List, drop, take, map, ap, ◌∙◌}
 use Rattle.hy_value.specs.declared.change.Change.{Change}
 use Rattle.hy_notes.specs.Blocks.{notes_in}
 use Rattle.hy_notes.specs.Levels.{noted_since, stretches_in}

@@ -31,12 +31,12 @@ invariant_of-self c =
     let made : notes_in c.put_after.new.self ≡ with_note new (notes_in b) =
     c.put_after.ensures.notes new
     ∙ (ap (λ (cell : Option (List Value)). notes_before b block
-    ++ (set (notes_at b block) c.count_below-at.result (with_after (get_or (notes_at b block) c.count_below-at.result new) cell) ++ notes_behind b block)) c.kept-after.ensures.row
+    ++ (set (notes_at b block) c.count_below-at.result (with_after (get_or (notes_at b block) c.count_below-at.result new) cell) ++ notes_behind b block)) c.keep-after.ensures.row
     ∙ noted_in b block new c.from-place.result same c.find-block.ensures c.notes.result.now c.notes-2.result.now c.count_below-at.result c.notes.ensures c.notes-2.ensures
     c.count_below-at.ensures.count (c.is_noted-noted.ensures.noted c.if-noted.true) (c.is_noted-noted.ensures.same c.if-noted.true)) in
     let covered : AreCovered (stretches_in c.note.new.self) (with_note new (notes_in b)) =
     c.note.ensures.covered (option_copied c.args.after) (notes_in b) c.self.invariant.ascends c.self.invariant.covered in
-    record { ascends = subst Ascends (sym made) (ascends_with new (notes_in b) c.self.invariant.ascends); blocks = c.put_after.ensures.sound; marked = c.note.ensures.sound; covered = subst (AreCovered (stretches_in c.note.new.self)) (sym made) covered; spares = c.kept-after.ensures.spare }
+    record { ascends = subst Ascends (sym made) (ascends_with new (notes_in b) c.self.invariant.ascends); blocks = c.put_after.ensures.sound; marked = c.note.ensures.sound; covered = subst (AreCovered (stretches_in c.note.new.self)) (sym made) covered }
 
 pub invariant_of-self-else-noted : goal.invariant_of-self-else-noted
 invariant_of-self-else-noted c =
@@ -48,12 +48,12 @@ invariant_of-self-else-noted c =
     c.put_note.ensures.notes
     ∙ (ap (λ (p : Option (List Value) × Option (List Value)). notes_before b block
     ++ (insert (notes_at b block) c.count_below-at.result (record { table = c.args.table; pos = c.args.pos; before = p.0; after = p.1 }) ++ notes_behind b block))
-    (λ i. (c.kept-before.ensures.row i, c.kept-after.ensures.row i))
+    (λ i. (c.keep-before.ensures.row i, c.keep-after.ensures.row i))
     ∙ absent_in b block new c.from-place.result same c.find-block.ensures c.notes.result.now c.notes-2.result.now c.count_below-at.result c.notes.ensures c.notes-2.ensures
     c.count_below-at.ensures.count (c.is_noted-noted.ensures.other (ap not c.if-noted.false))) in
     let covered : AreCovered (stretches_in c.note.new.self) (with_note new (notes_in b)) =
     c.note.ensures.covered (option_copied c.args.after) (notes_in b) c.self.invariant.ascends c.self.invariant.covered in
-    record { ascends = subst Ascends (sym made) (ascends_with new (notes_in b) c.self.invariant.ascends); blocks = c.put_note.ensures.sound; marked = c.note.ensures.sound; covered = subst (AreCovered (stretches_in c.note.new.self)) (sym made) covered; spares = c.kept-before.ensures.spare }
+    record { ascends = subst Ascends (sym made) (ascends_with new (notes_in b) c.self.invariant.ascends); blocks = c.put_note.ensures.sound; marked = c.note.ensures.sound; covered = subst (AreCovered (stretches_in c.note.new.self)) (sym made) covered }
 
 pub returns-then-noted-clause-notes : goal.returns-then-noted-clause-notes
 returns-then-noted-clause-notes c =
@@ -64,7 +64,7 @@ returns-then-noted-clause-notes c =
     let made : notes_in c.put_after.new.self ≡ with_note new (notes_in b) =
     c.put_after.ensures.notes new
     ∙ (ap (λ (cell : Option (List Value)). notes_before b block
-    ++ (set (notes_at b block) c.count_below-at.result (with_after (get_or (notes_at b block) c.count_below-at.result new) cell) ++ notes_behind b block)) c.kept-after.ensures.row
+    ++ (set (notes_at b block) c.count_below-at.result (with_after (get_or (notes_at b block) c.count_below-at.result new) cell) ++ notes_behind b block)) c.keep-after.ensures.row
     ∙ noted_in b block new c.from-place.result same c.find-block.ensures c.notes.result.now c.notes-2.result.now c.count_below-at.result c.notes.ensures c.notes-2.ensures
     c.count_below-at.ensures.count (c.is_noted-noted.ensures.noted c.if-noted.true) (c.is_noted-noted.ensures.same c.if-noted.true)) in
     made ∙ ap (λ (n : Noted). with_note new n.notes) c.self.view_is
@@ -79,7 +79,7 @@ returns-else-noted-clause-notes c =
     c.put_note.ensures.notes
     ∙ (ap (λ (p : Option (List Value) × Option (List Value)). notes_before b block
     ++ (insert (notes_at b block) c.count_below-at.result (record { table = c.args.table; pos = c.args.pos; before = p.0; after = p.1 }) ++ notes_behind b block))
-    (λ i. (c.kept-before.ensures.row i, c.kept-after.ensures.row i))
+    (λ i. (c.keep-before.ensures.row i, c.keep-after.ensures.row i))
     ∙ absent_in b block new c.from-place.result same c.find-block.ensures c.notes.result.now c.notes-2.result.now c.count_below-at.result c.notes.ensures c.notes-2.ensures
     c.count_below-at.ensures.count (c.is_noted-noted.ensures.other (ap not c.if-noted.false))) in
     made ∙ ap (λ (n : Noted). with_note new n.notes) c.self.view_is
@@ -93,7 +93,7 @@ returns-then-noted-clause-levels c =
     let made : notes_in c.put_after.new.self ≡ with_note new (notes_in b) =
     c.put_after.ensures.notes new
     ∙ (ap (λ (cell : Option (List Value)). notes_before b block
-    ++ (set (notes_at b block) c.count_below-at.result (with_after (get_or (notes_at b block) c.count_below-at.result new) cell) ++ notes_behind b block)) c.kept-after.ensures.row
+    ++ (set (notes_at b block) c.count_below-at.result (with_after (get_or (notes_at b block) c.count_below-at.result new) cell) ++ notes_behind b block)) c.keep-after.ensures.row
     ∙ noted_in b block new c.from-place.result same c.find-block.ensures c.notes.result.now c.notes-2.result.now c.count_below-at.result c.notes.ensures c.notes-2.ensures
     c.count_below-at.ensures.count (c.is_noted-noted.ensures.noted c.if-noted.true) (c.is_noted-noted.ensures.same c.if-noted.true)) in
     ap (levels_of c.note.new.self) made
@@ -110,7 +110,7 @@ returns-else-noted-clause-levels c =
     c.put_note.ensures.notes
     ∙ (ap (λ (p : Option (List Value) × Option (List Value)). notes_before b block
     ++ (insert (notes_at b block) c.count_below-at.result (record { table = c.args.table; pos = c.args.pos; before = p.0; after = p.1 }) ++ notes_behind b block))
-    (λ i. (c.kept-before.ensures.row i, c.kept-after.ensures.row i))
+    (λ i. (c.keep-before.ensures.row i, c.keep-after.ensures.row i))
     ∙ absent_in b block new c.from-place.result same c.find-block.ensures c.notes.result.now c.notes-2.result.now c.count_below-at.result c.notes.ensures c.notes-2.ensures
     c.count_below-at.ensures.count (c.is_noted-noted.ensures.other (ap not c.if-noted.false))) in
     ap (levels_of c.note.new.self) made

@@ -1,10 +1,10 @@
-use Rattle.std.proofs.Common.{◌≡◌, ℕ, ◌-◌, ◌++◌, List, Option, length, drop, take, sym, ap, ◌∙◌, subst, option_map, slice_get}
+use Rattle.std.proofs.Common.{◌≡◌, ℕ, ◌-◌, List, Option, length, drop, take, sym, ap, ◌∙◌, subst, option_map, slice_get}
 use Rattle.std.specs.List.{prefix_len}
 use Rattle.std.proofs.lemmas.List.{take_rest}
 use Rattle.hy_value.specs.declared.change.Change.{Change}
 use Rattle.hy_notes.specs.declared.NotedPlace.{NotedPlace}
 use Rattle.hy_notes.specs.Notes.{Ascends, below, place_of}
-use Rattle.hy_notes.specs.Blocks.{joined, notes_at, notes_before, notes_behind}
+use Rattle.hy_notes.specs.Blocks.{notes_at, notes_before, notes_behind}
 use Rattle.hy_notes.specs.Levels.{noted_since, stretches_in}
 use Rattle.hy_notes.proofs.Placing.{ascends_within}
 use Rattle.hy_notes.proofs.Edits.{all_at}

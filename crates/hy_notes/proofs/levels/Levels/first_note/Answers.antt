@@ -1,7 +1,6 @@
 use Rattle.std.proofs.Common.{◌≡◌, List, Option, drop, option_map, map, sym, ap, ◌∙◌}
 use Rattle.std.specs.Option.{option_copied, option_or}
 use Rattle.std.proofs.lemmas.List.{take_rest}
-use Rattle.hy_value.specs.declared.change.Change.{Change}
 use Rattle.hy_notes.specs.declared.blocks.Blocks.{Blocks}
 use Rattle.hy_notes.specs.Notes.{Cell}
 use Rattle.hy_notes.specs.Blocks.{notes_in}

@@ -1,4 +1,4 @@
-use Rattle.std.proofs.Common.{◌≡◌, ◌+◌, ◌++◌, List, None, Some, drop, option_map, slice_get, sym, ap, ◌∙◌, rules}
+use Rattle.std.proofs.Common.{◌≡◌, ◌+◌, List, None, Some, drop, option_map, slice_get, sym, ap, ◌∙◌, rules}
 use Rattle.hy_value.specs.declared.change.Change.{Change}
 use Rattle.hy_notes.specs.Notes.{place_of}
 use Rattle.hy_notes.specs.Blocks.{joined}

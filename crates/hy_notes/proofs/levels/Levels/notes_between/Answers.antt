@@ -3,7 +3,7 @@ use Rattle.std.specs.Global.{Vec}
 use Rattle.std.proofs.lemmas.List.{append-nil}
 use Rattle.hy_value.specs.declared.change.Change.{Change}
 use Rattle.hy_notes.specs.Notes.{is_between}
-use Rattle.hy_notes.specs.Blocks.{joined, notes_in, notes_at, notes_before, notes_behind}
+use Rattle.hy_notes.specs.Blocks.{joined, notes_in, notes_at, notes_before}
 use Rattle.hy_notes.specs.Levels.{noted_since, stretches_in}
 use Rattle.hy_notes.proofs.Edits.{all_at}
 use Rattle.hy_notes.proofs.Reading.{drop_past, wanted_within}

@@ -1,5 +1,4 @@
-use Rattle.std.proofs.Common.{◌≡◌, ℕ, ◌++◌, List, Option, drop, filter, sym, ap, ◌∙◌, rules}
-use Rattle.hy_value.specs.declared.change.Change.{Change}
+use Rattle.std.proofs.Common.{◌≡◌, ◌++◌, Option, drop, filter, sym, ap, ◌∙◌, rules}
 use Rattle.hy_notes.specs.Notes.{Cell, is_between}
 use Rattle.hy_notes.specs.Levels.{was_at, note_from, noted_since, stretches_in}
 use Rattle.hy_notes.proofs.Reading.{pushed, left_out}

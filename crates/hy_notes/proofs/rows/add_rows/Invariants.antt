@@ -1,10 +1,10 @@
 use Rattle.std.proofs.Common.{◌≡◌, vec_len}
 use Rattle.hy_notes.specs.Spares.{AreSpare}
-use Rattle.hy_notes.proofs.changes.blank_rows.Given as goal
+use Rattle.hy_notes.proofs.rows.add_rows.Given as goal
 
--- so many buffers are spare
+-- there are so many buffers, all spare
 abbrev pub invariant-loop-row : goal.invariant-loop-row
 invariant-loop-row l = record {
-  spare : AreSpare l.width l.texts l.rows.items;
-  count : vec_len l.rows ≡ l._row;
+  spare : AreSpare l.width l.texts l.spare.items;
+  count : vec_len l.spare ≡ l._row;
 }

@@ -10,11 +10,10 @@ ghost use Rattle.hy_threads.specs.Rule.{AreHome};
 use crate::known::Known;
 use crate::parted::Parted;
 use crate::rule::{Giving, Joining, PartsRule, Splitting, Taking, Telling};
-use crate::waiting::{LOOKS, Waiting};
+use crate::waiting::{LOOKS, Waiting, pause};
 use atomic_table::{Refused, Seat as TableSeat, Table};
 use crossbeam_utils::CachePadded;
 use std::alloc::{AllocError, Global};
-use std::hint;
 use std::marker::{Brand, Model};
 use std::snapshot::Snapshot;
 use std::sync::Wait;
@@ -343,11 +342,11 @@ impl<P: Parted> Parts<P> {
     fn look(&self, k: usize) -> bool
         requires { k < self.now.slots }
     {
-        for _ in 0..LOOKS {
+        for look in 0..LOOKS {
             if self.table.shared.peek(LINE * k) == 0 {
                 return true;
             }
-            hint::spin_loop();
+            pause(look);
         }
         false
     }

@@ -1,7 +1,8 @@
 //! How threads wait at a part, and when they are woken.
 //!
 //! Most visits are shorter than a call of the system. So a thread that waits looks for a while before it sleeps, and who gives
-//! a part calls the system only where a thread may sleep.
+//! a part calls the system only where a thread may sleep. Where there are more threads than processors, who has the part may
+//! stand behind the one that looks: so it lets others go on now and then.
 //!
 //! Nothing here is part of the rule: a thread that wakes for no reason looks again, and one that is never woken only
 //! waits. So these are plain atomics, of which no clause knows what they contain.
@@ -10,9 +11,22 @@ use crate::group::Group;
 use std::hint;
 use std::sync::Wait;
 use std::sync::atomic::{AtomicU64, Ordering};
+use std::thread::yield_now;
 
 /// How often a thread looks before it sleeps.
 pub(crate) const LOOKS: u32 = 16000;
+
+/// How often it looks in a row: longer than a visit that goes on takes. What is looked for longer may need the processor.
+const LOOKS_IN_A_ROW: u32 = 512;
+
+/// Lets a moment pass behind a look, and leaves the processor to others behind so many in a row.
+pub(crate) fn pause(look: u32) {
+    if look % LOOKS_IN_A_ROW == LOOKS_IN_A_ROW - 1 {
+        yield_now();
+    } else {
+        hint::spin_loop();
+    }
+}
 
 /// What is waited for at a part by those who are blocked there: that it is announced.
 #[derive(Drop)]
@@ -60,11 +74,11 @@ impl Turn {
 
     /// Looks for a while whether the count is another one.
     pub(crate) fn look(&self, count: u32) -> bool {
-        for _ in 0..LOOKS {
+        for look in 0..LOOKS {
             if self.count() != count {
                 return true;
             }
-            hint::spin_loop();
+            pause(look);
         }
         false
     }

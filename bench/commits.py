@@ -5,14 +5,19 @@ run: python3 bench/commits.py PROGRAM FOLDER [TURNS [SESSIONS..]]      PROGRAM i
 A transaction updates one row, in a chunk of its session's own. A line for each count of sessions has the commits a second of
 `hy run --log --threads`; of `hy run --log`, by the schedule, where each is sure before the next step; and of SQLite with a
 write-ahead log and synchronous=FULL: one connection, which commits one after another, since SQLite has one writer at a time.
-Those two have fewer commits of the same kind. What is timed of hy is the whole run by the clock, with what is read before and
-told behind; what the run on threads takes without a log is told beside it. Of SQLite, called from Python, it is the
-commits alone. Each is the best of so many turns. Where strace is there, it tells how many syncs the run on threads makes.
+Those two have fewer commits of the same kind.
+
+What is timed of hy is the whole run by the clock, with what is read before and told behind; what the run on threads takes
+without a log is told beside it. Of SQLite, called from Python, it is the commits alone. So where a C compiler is there, which
+makes syncs.c, the same is told of hy: the commits between the beginning of the first sync and the end of the last one, and how many
+syncs there are. Each is the best of so many turns, and behind it stands the middle one.
 """
 
 import os
 import shutil
 import sqlite3
+import statistics
+import struct
 import subprocess
 import sys
 import tempfile
@@ -57,11 +62,11 @@ def script_of(count, each):
     return "\n".join(lines).encode()
 
 
-def run(words, log, count, each):
-    """The seconds of one run, in which each session has to commit so often."""
+def run(words, log, count, each, more=()):
+    """The seconds of one run, in which each session has to commit so often. The environment has more variables, where they are given."""
     script = script_of(count, each)
     start = time.perf_counter()
-    ran = subprocess.run(words, input=script, stdout=subprocess.PIPE, env={"HY_LOG": log}, check=True)
+    ran = subprocess.run(words, input=script, stdout=subprocess.PIPE, env={"HY_LOG": log, **dict(more)}, check=True)
     seconds = time.perf_counter() - start
     if os.path.exists(log):
         os.remove(log)
@@ -70,17 +75,31 @@ def run(words, log, count, each):
     return seconds
 
 
-def syncs_of(words, log, count, each):
-    """How many syncs a run makes, in words. Nothing where they can't be counted."""
-    if not shutil.which("strace"):
+def syncs_library(room):
+    """The library that tells of syncs, made in a folder. None where no compiler is there."""
+    if not shutil.which("cc"):
+        return None
+    library = f"{room}/syncs.so"
+    source = os.path.join(os.path.dirname(os.path.abspath(__file__)), "syncs.c")
+    subprocess.run(["cc", "-shared", "-fPIC", "-O2", "-o", library, source, "-ldl"], check=True)
+    return library
+
+
+def commits_alone(words, log, count, each, turns):
+    """Of so many turns the best and the middle seconds from the first sync to the end of the last one, and the syncs, in words."""
+    room = os.path.dirname(log)
+    library = syncs_library(room)
+    if library is None:
         return ""
-    counted = ["strace", "-f", "-c", "-e", "trace=fsync,fdatasync", *words]
-    env = {**os.environ, "HY_LOG": log}
-    ran = subprocess.run(counted, input=script_of(count, each), capture_output=True, env=env, check=False)
-    os.remove(log)
-    lines = [line.split() for line in ran.stderr.decode().splitlines()]
-    syncs = sum(int(line[3]) for line in lines if len(line) > 3 and line[-1] in ("fsync", "fdatasync"))
-    return f"{syncs} syncs, "
+    told = f"{room}/syncs"
+    spans = []
+    for _ in range(turns):
+        run(words, log, count, each, [("SYNCS", told), ("LD_PRELOAD", library)])
+        with open(told, "rb") as file:
+            syncs, first, last = struct.unpack("qqq", file.read(24))
+        spans.append((last - first) / 1e9)
+    commits = count * each
+    return f"from the first sync to the last {commits / min(spans):.0f}, {commits / statistics.median(spans):.0f} ({syncs} syncs); "
 
 
 def by_sqlite(folder, count, each):
@@ -119,16 +138,16 @@ def measure(program, folder, count, turns):
     on_threads = [*by_schedule, "--threads"]
     with tempfile.TemporaryDirectory(dir=folder) as room:
         log = f"{room}/hy.log"
-        threads = min(run([*on_threads, "--log"], log, count, each) for _ in range(turns))
+        threads = [run([*on_threads, "--log"], log, count, each) for _ in range(turns)]
         without = min(run(on_threads, log, count, each) for _ in range(turns))
         schedule = min(run([*by_schedule, "--log"], log, count, fewer) for _ in range(turns))
-        syncs = syncs_of([*on_threads, "--log"], log, count, each)
+        alone = commits_alone([*on_threads, "--log"], log, count, each, turns)
     beside = min(by_sqlite(folder, count, fewer) for _ in range(turns))
     commits, some = count * each, count * fewer
     print(
-        f"{count} session{'s' * (count > 1)}: on threads {commits / threads:.0f} commits a second ({commits} in {threads:.3f} s, "
-        f"{syncs}without a log {without:.3f} s); by the schedule {some / schedule:.0f} ({some} in {schedule:.3f} s); "
-        f"SQLite {some / beside:.0f} ({some} in {beside:.3f} s)",
+        f"{count} session{'s' * (count > 1)}: on threads {commits / min(threads):.0f} commits a second, {commits / statistics.median(threads):.0f} "
+        f"({commits} in {min(threads):.3f} s, without a log {without:.3f} s); {alone}"
+        f"by the schedule {some / schedule:.0f} ({some} in {schedule:.3f} s); SQLite {some / beside:.0f} ({some} in {beside:.3f} s)",
         flush=True,
     )
 

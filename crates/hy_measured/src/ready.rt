@@ -21,12 +21,14 @@ use std::marker::Model;
 /// The start of the reader that stays open.
 pub const OLD_START: u64 = 1;
 
-/// A chunk of (id INT PRIMARY KEY, bal INT), with how many positions it has and the next time.
+/// A chunk of (id INT PRIMARY KEY, bal INT), with how many positions it has, the next time, and the notes of a transaction, whose
+/// room is handed on to the next one.
 #[derive(Drop)]
 pub struct Ready {
     chunk: Chunk,
     positions: usize,
     next: u64,
+    notes: Changes,
 }
 
 impl Model for Ready {
@@ -83,16 +85,6 @@ fn set_bal(alloc: Global, bal: i64) -> Result<Sets, AllocError>
         value: SetExpr::literal(alloc, Value::Int(bal))?,
     })?;
     Ok(sets)
-}
-
-/// Room to note so many writes.
-fn notes(alloc: Global, many: usize) -> Result<Changes, AllocError>
-    ensures room { IfOk result (λ changes. many ≤ changes.room) }
-    ensures width { IfOk result (λ changes. 2 ≤ changes.width) }
-{
-    let mut changes = Changes::new(alloc);
-    changes.reserve(many, 2, 0)?;
-    Ok(changes)
 }
 
 /// A start was drawn before the next time, and identifiers are above times.
@@ -153,6 +145,7 @@ impl Ready {
             chunk,
             positions,
             next: OLD_START + 1,
+            notes: Changes::new(alloc),
         })
     }
 
@@ -225,7 +218,7 @@ impl Ready {
         check_times(self.next, viewer)?;
         let sets = set_bal(alloc, bal)?;
         let places = self.chunk.find_candidates(pred)?;
-        let mut changes = notes(alloc, places.len())?;
+        self.notes.reserve(places.len(), 2, 0)?;
         self.chunk.reserve(places.len())?;
         let sweep = Sweep {
             viewer,
@@ -233,14 +226,15 @@ impl Ready {
             kind: RowWrite::Set(&sets),
             places: places.as_slice(),
         };
-        let _count = self.chunk.write(&sweep, writer.label, &mut changes);
+        let _count = self.chunk.write(&sweep, writer.label, &mut self.notes);
         Ok(())
     }
 
-    /// Commits a transaction.
+    /// Commits a transaction, and drops its notes.
     fn commit(&mut self, writer: &Writer) -> Result<(), AllocError> {
         let time = self.time()?;
         self.chunk.stamp(writer.viewer.id, time);
+        self.notes.clear();
         self.next = time + 1;
         Ok(())
     }

@@ -1,9 +1,12 @@
 //! The core, and what a transaction notes.
 
+ghost use Rattle.std.specs.Prelude.{◌≡◌, ◌<◌, ◌^◌};
+
 use hy_core::Core;
 use hy_given::pair;
 use hy_notes::{Changes, net};
 use hy_stamp::Label;
+use std::alloc::Global;
 use std::test::Fail;
 
 /// A writer, and another transaction.
@@ -41,14 +44,22 @@ fn notes_that_are_taken_leave_their_room(rt: HostRuntime) -> Result<(), Fail> {
     Ok(())
 }
 
+// Enters a transaction that noted nothing, whose commit time is answered.
+fn enter_none(core: &mut Core, start: u64, alloc: Global) -> Option<u64>
+    requires { core.old.next < 2 ^ 63 }
+    ensures { core.new.active ≡ core.old.active }
+{
+    core.enter(WRITER, start, &mut Changes::new(alloc)).ok()
+}
+
 #[test]
 fn a_commit_is_marked_until_its_end(rt: HostRuntime) -> Result<(), Fail> {
     let mut core = Core::new(rt.alloc());
     let begun = core.begin()?;
     assert_eq!(rt; (begun.start, begun.prefix, begun.cover.next), (1, 0, 2));
     assert_eq!(rt; begun.cover.starts.as_slice(), [1].as_slice());
-    let time = core.enter(WRITER, begun.start, &mut Changes::new(rt.alloc()));
-    assert_eq!(rt; time.ok(), Some(2));
+    let time = enter_none(&mut core, begun.start, rt.alloc());
+    assert_eq!(rt; time, Some(2));
     assert_eq!(rt;
         (core.blocked(OTHER), core.blocked(WRITER)),
         (Some(WRITER), None)

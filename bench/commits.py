@@ -9,8 +9,9 @@ Those two have fewer commits of the same kind.
 
 What is timed of hy is the whole run by the clock, with what is read before and told behind; what the run on threads takes
 without a log is told beside it. Of SQLite, called from Python, it is the commits alone. So where a C compiler is there, which
-makes syncs.c, the same is told of hy: the commits between the beginning of the first sync and the end of the last one, and how many
-syncs there are. Each is the best of so many turns, and behind it stands the middle one.
+makes syncs.c, the same is told of hy: the commits between the beginning of the first sync and the end of the last one, how many
+syncs there are, and how long one takes, both of the middle turn. All else is the best of so many turns, and behind it, of the runs
+on threads, stands the middle one. A turn measures all counts of sessions, so that a slow moment of the machine meets them alike.
 """
 
 import os
@@ -85,21 +86,13 @@ def syncs_library(room):
     return library
 
 
-def commits_alone(words, log, count, each, turns):
-    """Of so many turns the best and the middle seconds from the first sync to the end of the last one, and the syncs, in words."""
-    room = os.path.dirname(log)
-    library = syncs_library(room)
-    if library is None:
-        return ""
-    told = f"{room}/syncs"
-    spans = []
-    for _ in range(turns):
-        run(words, log, count, each, [("SYNCS", told), ("LD_PRELOAD", library)])
-        with open(told, "rb") as file:
-            syncs, first, last = struct.unpack("qqq", file.read(24))
-        spans.append((last - first) / 1e9)
-    commits = count * each
-    return f"from the first sync to the last {commits / min(spans):.0f}, {commits / statistics.median(spans):.0f} ({syncs} syncs); "
+def told_of_syncs(words, log, count, each, library):
+    """Of one run: the seconds from the first sync to the end of the last one, the syncs, and the microseconds of one."""
+    told = os.path.join(os.path.dirname(log), "syncs")
+    run(words, log, count, each, [("SYNCS", told), ("LD_PRELOAD", library)])
+    with open(told, "rb") as file:
+        syncs, first, last, within = struct.unpack("qqqq", file.read(32))
+    return (last - first) / 1e9, syncs, within / syncs / 1e3
 
 
 def by_sqlite(folder, count, each):
@@ -130,33 +123,61 @@ def sync_alone(folder):
         return (time.perf_counter() - start) / SYNCS
 
 
-def measure(program, folder, count, turns):
-    """Measures so many sessions, and tells it in a line."""
-    each = COUNTS.get(count, 250)
-    fewer = max(1, each // FEWER)
-    by_schedule = [program, "run", "--chunks", str(chunks_of(count)), "--rows", "1"]
-    on_threads = [*by_schedule, "--threads"]
-    with tempfile.TemporaryDirectory(dir=folder) as room:
-        log = f"{room}/hy.log"
-        threads = [run([*on_threads, "--log"], log, count, each) for _ in range(turns)]
-        without = min(run(on_threads, log, count, each) for _ in range(turns))
-        schedule = min(run([*by_schedule, "--log"], log, count, fewer) for _ in range(turns))
-        alone = commits_alone([*on_threads, "--log"], log, count, each, turns)
-    beside = min(by_sqlite(folder, count, fewer) for _ in range(turns))
-    commits, some = count * each, count * fewer
-    print(
-        f"{count} session{'s' * (count > 1)}: on threads {commits / min(threads):.0f} commits a second, {commits / statistics.median(threads):.0f} "
-        f"({commits} in {min(threads):.3f} s, without a log {without:.3f} s); {alone}"
-        f"by the schedule {some / schedule:.0f} ({some} in {schedule:.3f} s); SQLite {some / beside:.0f} ({some} in {beside:.3f} s)",
-        flush=True,
-    )
+class Sessions:
+    """What is measured of so many sessions, in seconds of each turn."""
+
+    def __init__(self, program, count):
+        self.by_schedule = [program, "run", "--chunks", str(chunks_of(count)), "--rows", "1"]
+        self.on_threads = [*self.by_schedule, "--threads"]
+        self.count = count
+        self.each = COUNTS.get(count, 250)
+        self.fewer = max(1, self.each // FEWER)
+        self.threads, self.without, self.schedule, self.beside, self.alone = [], [], [], [], []
+
+    def measure(self, folder, library):
+        """One turn."""
+        with tempfile.TemporaryDirectory(dir=folder) as room:
+            log = f"{room}/hy.log"
+            self.threads.append(run([*self.on_threads, "--log"], log, self.count, self.each))
+            self.without.append(run(self.on_threads, log, self.count, self.each))
+            self.schedule.append(run([*self.by_schedule, "--log"], log, self.count, self.fewer))
+            if library:
+                self.alone.append(told_of_syncs([*self.on_threads, "--log"], log, self.count, self.each, library))
+        self.beside.append(by_sqlite(folder, self.count, self.fewer))
+
+    def of_syncs(self):
+        """The commits a second from the first sync to the last, and the syncs, in words."""
+        if not self.alone:
+            return ""
+        spans, syncs, times = zip(*self.alone)
+        commits = self.count * self.each
+        best, middle = commits / min(spans), commits / statistics.median(spans)
+        sync = statistics.median(times)
+        return f"from the first sync to the last {best:.0f}, {middle:.0f} ({statistics.median(syncs):.0f} syncs of {sync:.0f} us); "
+
+    def tell(self):
+        """All of it, in a line."""
+        commits, some = self.count * self.each, self.count * self.fewer
+        best, middle, schedule, beside = min(self.threads), statistics.median(self.threads), min(self.schedule), min(self.beside)
+        print(
+            f"{self.count} session{'s' * (self.count > 1)}: on threads {commits / best:.0f} commits a second, {commits / middle:.0f} "
+            f"({commits} in {best:.3f} s, without a log {min(self.without):.3f} s); {self.of_syncs()}"
+            f"by the schedule {some / schedule:.0f} ({some} in {schedule:.3f} s); SQLite {some / beside:.0f} ({some} in {beside:.3f} s)",
+            flush=True,
+        )
 
 
 def main():
     program, folder, turns, *counts = sys.argv[1:] + ["3"] * (len(sys.argv) < 4)
     print(f"SQLite {sqlite3.sqlite_version}; a write behind a file's end and its sync take {sync_alone(folder) * 1e3:.2f} ms", flush=True)
-    for count in map(int, counts or COUNTS):
-        measure(os.path.abspath(program), folder, count, int(turns))
+    measured = [Sessions(os.path.abspath(program), count) for count in map(int, counts or COUNTS)]
+    with tempfile.TemporaryDirectory() as room:
+        library = syncs_library(room)
+        for _ in range(int(turns)):
+            for sessions in measured:
+                sessions.measure(folder, library)
+    for sessions in measured:
+        sessions.tell()
 
 
 if __name__ == "__main__":

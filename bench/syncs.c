@@ -1,6 +1,6 @@
-/* Loaded before a program's own libraries, it tells how often the program syncs files, and when the first sync began and the last
- * one ended: three numbers of 64 bits in the file that SYNCS names, the latter two in nanoseconds. They are there whatever way the
- * program ends. It proves nothing.
+/* Loaded before a program's own libraries, it tells how often the program syncs files, when the first sync began and the last
+ * one ended, and how long all of them took together: four numbers of 64 bits in the file that SYNCS names, the latter three in
+ * nanoseconds. They are there whatever way the program ends. It proves nothing.
  *
  * build: cc -shared -fPIC -O2 -o syncs.so bench/syncs.c -ldl      use: SYNCS=FILE LD_PRELOAD=./syncs.so PROGRAM ..
  */
@@ -22,6 +22,7 @@ struct told {
     atomic_int_fast64_t count;
     atomic_int_fast64_t first;
     atomic_int_fast64_t last;
+    atomic_int_fast64_t within;
 };
 
 /* Where it is told: in the file, else nowhere that anybody looks. */
@@ -53,10 +54,12 @@ __attribute__((constructor)) static void begin(void)
 static int counted(const char *name, int file)
 {
     sync_call *call = (sync_call *)dlsym(RTLD_NEXT, name);
-    int_fast64_t none = 0;
-    atomic_compare_exchange_strong(&told->first, &none, now());
+    int_fast64_t none = 0, begun = now();
+    atomic_compare_exchange_strong(&told->first, &none, begun);
     int answer = call(file);
-    atomic_store(&told->last, now());
+    int_fast64_t ended = now();
+    atomic_store(&told->last, ended);
+    atomic_fetch_add(&told->within, ended - begun);
     atomic_fetch_add(&told->count, 1);
     return answer;
 }

@@ -15,7 +15,7 @@ ghost use Rattle.hy_top.specs.Served.{IsServed, LeavesServed};
 
 use hy_disk::{Disk, FileDisk, FileFault};
 use hy_outside::{Sink, Source, StdSink, StdSource};
-use hy_threads::OpenGate;
+use hy_threads::TimedGate;
 use std::alloc::{AllocError, Global};
 use std::env::VarError;
 use std::fmt::Display;
@@ -23,6 +23,7 @@ use std::process::ExitCode;
 use std::rt::{Env, Runtime};
 use std::sync::Wait;
 use std::thread::Threads;
+use std::time::Clock;
 use std::{env, io, mem};
 
 /// The variable that names the file of the log.
@@ -123,7 +124,7 @@ fn found_instead(words: &[String], disk: &FileDisk<'_>) -> &'static str {
 }
 
 /// Calls the program, and gives the code of its status.
-fn exit_code_of<T: Threads + Wait + Sync, R: Source, W: Sink, D: Disk + Send + Sync>(
+fn exit_code_of<T: Threads + Wait + Clock + Sync, R: Source, W: Sink, D: Disk + Send + Sync>(
     rt: &T,
     alloc: Global,
     words: &[String],
@@ -170,7 +171,7 @@ fn exit_code_of<T: Threads + Wait + Sync, R: Source, W: Sink, D: Disk + Send + S
     ensures kept { exit_status result ≡ 7 → D.held disk.new ≡ D.held disk.old }
     ensures statuses { exit_status result ≤ 7 }
 {
-    let report = hy_top::run(rt, alloc, words, source, sink, &OpenGate, disk);
+    let report = hy_top::run(rt, alloc, words, source, sink, &TimedGate::new(rt), disk);
     let status = report.status;
     // The process ends here, and with it the memory of what was read and told: no need to give it back row by row.
     mem::forget(report);

@@ -106,6 +106,38 @@ module _ {S : Type 0} (home : Home) where
     all_fit n m (w ∷ ws) h le wide zero d below = let here = wide 0 w.session (omega arith) in (h.0, omega arith)
     all_fit n m (w ∷ ws) h le wide (suc k) d below = all_fit (n + 1) m ws h.2 le (λ i s low. wide (suc i) s (omega arith)) k d (omega arith)
 
+-- rows of the same workers, in order
+module _ {S : Type 0} (width_of : S → ℕ) where
+  abbrev pub AreSame : List (Task S) → List (Task S) → Type 0
+  AreSame vs ws = (k : ℕ) (d : Task S) → k < length vs → IsSameWorker width_of (get_or vs k d) (get_or ws k d)
+
+  same_still : (u v w : Task S) → IsSameWorker width_of u v → IsSameWorker width_of v w → IsSameWorker width_of u w
+  same_still u v w before after = (after.0 ∙ before.0, after.1 ∙ before.1, after.2 ∙ before.2)
+
+  pub are_same : (ws : List (Task S)) → AreSame ws ws
+  are_same ws k d below = (refl, refl, refl)
+
+  pub are_same_still : (us vs ws : List (Task S)) → length vs ≡ length us → AreSame us vs → AreSame vs ws → AreSame us ws
+  are_same_still us vs ws as_many before after k d below =
+      same_still (get_or us k d) (get_or vs k d) (get_or ws k d) (before k d below) (after k d (omega arith))
+
+  -- one of them went on
+  pub are_same_at : (vs ws : List (Task S)) (k : ℕ) (w : Task S) → length ws ≡ length vs → AreSame vs ws → k < length ws
+      → ((d : Task S) → IsSameWorker width_of (get_or ws k d) w) → AreSame vs (set ws k w)
+  are_same_at [] ws k w as_many h low new i d below = absurd (omega arith)
+  are_same_at (v ∷ vs) [] k w as_many h low new i d below = absurd (omega arith)
+  are_same_at (v ∷ vs) (u ∷ us) zero w as_many h low new zero d below = same_still v u w (h 0 d below) (new d)
+  are_same_at (v ∷ vs) (u ∷ us) zero w as_many h low new (suc i) d below = h (suc i) d below
+  are_same_at (v ∷ vs) (u ∷ us) (suc k) w as_many h low new zero d below = h 0 d below
+  are_same_at (v ∷ vs) (u ∷ us) (suc k) w as_many h low new (suc i) d below =
+      are_same_at vs us k w (omega arith) (λ j e lower. h (suc j) e (omega arith)) (omega arith) new i d (omega arith)
+
+  -- and need no parts beyond those that they needed
+  pub fit_still : (home : Home) (vs ws : List (Task S)) → length ws ≡ length vs → All (Fits width_of home) vs → AreSame vs ws → All (Fits width_of home) ws
+  fit_still home vs ws as_many fit same k d below =
+      let fits = fit k d (omega arith) in let now = same k d (omega arith) in let wide = now.2 in let within = fits.1 in
+      (now.0 ∙ fits.0, omega arith)
+
 module _ {S P : Type 0} (point_of : S → Option P) where
   -- how a worker that stopped is, by whether it starved
   abbrev Stopped : Task S → Bool → Type 0

@@ -1,5 +1,7 @@
 //! Where a visit stands, and who is told of it.
 
+use std::time::Clock;
+
 /// When a gate is told of a visit.
 #[derive(Clone, Copy, Debug, PartialEq, Eq)]
 pub enum Moment {
@@ -42,6 +44,12 @@ pub trait PieceGate: Sync {
 pub trait Gate: PieceGate {
     /// A worker stands at this point.
     fn pass(&self, point: &Point);
+
+    /// The nanoseconds of a clock, by which it is seen whether workers do well on one thread. None where each is to have a thread of
+    /// its own from the beginning: only then may a gate hold one worker up until another one gets on.
+    fn nanos(&self) -> Option<u64> {
+        None
+    }
 }
 
 /// A gate that holds no one up.
@@ -54,4 +62,30 @@ impl PieceGate for OpenGate {
 
 impl Gate for OpenGate {
     fn pass(&self, _point: &Point) {}
+}
+
+/// A gate that holds no one up, and tells the time of a clock.
+#[derive(Clone, Copy, Debug)]
+pub struct TimedGate<'a, C> {
+    clock: &'a C,
+}
+
+impl<'a, C: Clock> TimedGate<'a, C> {
+    /// The gate that tells this clock's time.
+    pub fn new(clock: &'a C) -> TimedGate<'a, C> {
+        TimedGate { clock }
+    }
+}
+
+impl<C: Clock + Sync> PieceGate for TimedGate<'_, C> {
+    fn piece(&self, _piece: usize) {}
+}
+
+impl<C: Clock + Sync> Gate for TimedGate<'_, C> {
+    fn pass(&self, _point: &Point) {}
+
+    fn nanos(&self) -> Option<u64> {
+        let time = self.clock.monotonic().ok()?;
+        u64::try_from(time.as_nanos()).ok()
+    }
 }

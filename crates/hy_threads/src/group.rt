@@ -73,7 +73,8 @@ impl Group {
         self.done.announce();
     }
 
-    fn has_reached(&self, awaited: u64) -> bool {
+    /// Whether the part has come as far as is awaited.
+    pub(crate) fn has_reached(&self, awaited: u64) -> bool {
         self.reached.load(Ordering::SeqCst) >= awaited
     }
 

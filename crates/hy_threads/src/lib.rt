@@ -1,4 +1,4 @@
-//! Sessions that run over shared parts, each in a thread of its own.
+//! Sessions that run over shared parts, each in a thread of its own, or together on one.
 //!
 //! A worker is a session with its seat. It asks its session which part it needs next, takes the part, lets the session
 //! visit it, and gives it back, until the session is at its end. A gate is told of each visit before the part is taken,
@@ -21,11 +21,12 @@ mod parts;
 mod rule;
 mod runs;
 mod threads;
+mod together;
 mod waiting;
 mod worked;
 mod worker;
 
-pub use gate::{Gate, Moment, OpenGate, PieceGate, Point};
+pub use gate::{Gate, Moment, OpenGate, PieceGate, Point, TimedGate};
 pub use known::Known;
 pub use parted::Parted;
 pub use parts::{Parts, Seat};

@@ -83,7 +83,7 @@ fn join_all<P: Worked>(
     sessions
 }
 
-/// Runs each session over the parts to its end, each in a thread of its own, and gives the parts and the sessions
+/// Runs each session over the parts to its end, on threads as `work` does, and gives the parts and the sessions
 /// back, in order. Where memory runs out they come back too: before the run as they were, and in a visit as the others, each
 /// of which that found memory ran to its end, have left them. After the run it takes none. See `work` on threads.
 pub fn run_all<T: Threads + Wait + Sync, P: Worked + Send + Sync, G: Gate>(

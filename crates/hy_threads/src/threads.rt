@@ -1,17 +1,29 @@
-//! Every worker runs to its end, in a thread of its own.
+//! Every worker runs to its end, in a thread of its own, or on one with the others.
 ghost use Rattle.std.specs.Prelude.{◌≡◌, ◌<◌, ℕ, All, Any, length, slice_index_or, OnOk, OnErr};
 ghost use Rattle.std.specs.List.{AllZip, list_any};
 ghost use Rattle.hy_threads.specs.Tasks.{Task, Fits, IsSameWorker, Stops, HasEnded, HasStarved, HasStopped};
 
 use crate::Parts;
 use crate::gate::Gate;
+use crate::together::run_together;
 use crate::worked::Worked;
 use crate::worker::Worker;
 use std::alloc::{AllocError, Global};
 use std::sync::Wait;
 use std::thread::{Threads, for_each_mut};
 
-// Runs each worker, in a thread of its own.
+// How many threads workers need that go on: none beside this one where all have stopped.
+fn threads_for<P: Worked>(workers: &[Worker<P>]) -> usize
+    ensures { 0 < result }
+{
+    if workers.iter().all(|worker| worker.has_stopped()) {
+        1
+    } else {
+        workers.len().max(1)
+    }
+}
+
+// Runs each worker, together with the others as long as they do well so, and then in a thread of its own.
 fn run_each<T: Threads + Wait + Sync, P: Worked + Send + Sync, G: Gate>(
     rt: &T,
     alloc: Global,
@@ -23,7 +35,8 @@ fn run_each<T: Threads + Wait + Sync, P: Worked + Send + Sync, G: Gate>(
     ensures { (k : ℕ) (d : Task P.Session) → k < length workers.old
         → Stops P.width_of P.point_of (slice_index_or workers.old k d) (slice_index_or workers.new k d) }
 {
-    let threads = workers.len().max(1);
+    run_together(rt, alloc, parts, workers, gate);
+    let threads = threads_for(workers);
     for_each_mut(
         rt,
         workers,
@@ -42,10 +55,11 @@ fn any_starved<P: Worked>(workers: &[Worker<P>]) -> bool
     workers.iter().any(|worker| worker.is_starved())
 }
 
-/// Runs each worker until its session is at its end, each in a thread of its own. One whose session is blocked gives
-/// its part back as it was, sleeps until a change of that part is announced, and tries again. One that finds no memory
-/// gives its part back as it was and stops before that visit; the others go on to their ends. The answer is then Err.
-/// Workers that stopped so may be run again.
+/// Runs each worker until its session is at its end, each in a thread of its own; where the gate tells the time, together on one
+/// thread before, as long as they do well there. One whose session is blocked gives its part back as it was, sleeps until a change
+/// of that part is announced, and tries again. One that finds no memory gives its part back as it was and stops before that visit;
+/// the others go on to their ends, and where they were together it tries once more behind them. The answer is then Err. Workers that
+/// stopped so may be run again.
 ///
 /// Nothing is said of progress. A worker that is blocked, where the system gives too few threads, by one that has not
 /// begun, sleeps for ever; and so does one that waits for a session whose worker found no memory. So the visits of a

@@ -5,6 +5,7 @@ ghost use Rattle.hy_threads.specs.Tasks.{IsReady, Fits, IsSameWorker, HasStopped
 
 use crate::ahead::prepare;
 use crate::gate::{Gate, Moment, PieceGate, Point};
+use crate::together::{MOST_VISITS, StintEnd, VISITS_A_STINT};
 use crate::worked::{Visited, Worked};
 use crate::{Parts, Seat};
 use std::alloc::Global;
@@ -80,6 +81,21 @@ impl<P: Worked> Worker<P> {
             leads: _,
         } = self;
         (seat, session)
+    }
+
+    /// Whether its session waits for what takes long, and it doesn't lead those who do.
+    pub(crate) fn has_to_wait(&self, parts: &Parts<P>) -> bool
+        requires { Fits P.width_of parts.now self.now }
+    {
+        match P::need(&self.session) {
+            Some(point) => !self.leads && parts.has_to_wait(point.part, P::awaited(&self.session)),
+            None => false,
+        }
+    }
+
+    /// Whether its session is at the end, or it found no memory.
+    pub(crate) fn has_stopped(&self) -> bool {
+        self.starved || P::need(&self.session).is_none()
     }
 
     // One visit of the part that the session needs. False where it needs none, or finds no memory for that visit.
@@ -168,6 +184,47 @@ impl<P: Worked + Send + Sync> Worker<P> {
         ensures { self.new ≡ self.old }
     {
         prepare::<T, P, G>(rt, alloc, &mut self.session, gate);
+    }
+
+    /// Visits what the session needs for a stint, which ends between two statements, or where the session is blocked or has to wait,
+    /// and tells why it ended: so no other session waits for this one. It may begin as one who leads those who wait.
+    pub(crate) fn run_stint<T: Threads + Wait + Sync, G: Gate>(
+        &mut self,
+        rt: &T,
+        alloc: Global,
+        parts: &Parts<P>,
+        gate: &G,
+        leads: bool,
+    ) -> StintEnd
+        requires { Fits P.width_of parts.now self.old }
+        ensures { IsSameWorker P.width_of self.old self.new }
+    {
+        if self.starved {
+            return StintEnd::Stopped;
+        }
+        let mut begun = None;
+        for visit in 0..MOST_VISITS {
+            let Some(point) = P::need(&self.session) else {
+                return StintEnd::Stopped;
+            };
+            let statement = Some((point.txn, point.statement));
+            if visit >= VISITS_A_STINT && statement != begun {
+                return StintEnd::Going;
+            }
+            if self.has_to_wait(parts) && !(leads && visit == 0) {
+                return StintEnd::Waiting;
+            }
+            begun = statement;
+            self.prepare(rt, alloc, gate);
+            let goes_on = self.visit_once(rt, alloc, parts, gate);
+            if !goes_on {
+                return StintEnd::Stopped;
+            }
+            if self.blocked.is_some() {
+                return StintEnd::Blocked;
+            }
+        }
+        StintEnd::Going
     }
 
     /// Visits what the session needs, until it is at its end or finds no memory.

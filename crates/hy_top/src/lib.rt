@@ -66,7 +66,7 @@ pub struct Report {
 /// How a script is run.
 #[derive(Clone, Copy)]
 struct Mode {
-    /// Whether each session runs on a thread of its own, and not by the schedule.
+    /// Whether sessions run on threads, and not by the schedule.
     threads: bool,
     /// Whether chains of versions are pruned.
     prunes: bool,
@@ -86,8 +86,8 @@ const USAGE: &[u8] = b"usage: hy run|check|gen\n";
 
 /// Runs the command that these words are: `run` reads a script from the source, runs it, and writes the
 /// text of its outcome to the sink; `check` reads a script and writes what it has; `gen` makes a script, runs it, and
-/// writes a summary of its outcome. The first word is the program's name. With `--threads` each session runs on a thread
-/// of its own, and the gate is told of each of its visits; then the call waits for locks and for the threads' ends. With
+/// writes a summary of its outcome. The first word is the program's name. With `--threads` sessions run on threads,
+/// as `work` of hy_threads has them, and the gate is told of each visit; then the call waits for locks and for the threads' ends. With
 /// `--log` a redo log is made on the disk, and has each entry of the commit order before another step is taken, or on threads
 /// all of them before anything is written; `recover` reads a script, and writes the tables that the log on the disk makes of
 /// its first rows, with `--script` as the lines of a script that makes them. `trace` reads a script, and writes the steps of its

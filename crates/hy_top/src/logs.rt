@@ -172,7 +172,7 @@ fn logged_by_schedule<D: Disk>(
     Ok((outcome, names))
 }
 
-/// The outcome of a script that is run with each session on a thread of its own, each of which is told how a transaction ended
+/// The outcome of a script whose sessions run on threads, each of which is told how a transaction ended
 /// once its entry is in this log, and the names that it is printed with.
 fn logged_by_threads<T: Threads + Wait + Sync, G: Gate, D: Disk + Send + Sync>(
     crew: &Crew<'_, T, G>,

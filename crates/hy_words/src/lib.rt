@@ -19,7 +19,7 @@ use std::alloc::{AllocError, Global};
 pub enum Command {
     /// Run a script.
     Run {
-        /// Whether each session runs on a thread of its own.
+        /// Whether sessions run on threads.
         threads: bool,
         /// Whether chains of versions are pruned.
         prune: bool,
@@ -81,7 +81,7 @@ pub enum Command {
         sessions: u32,
         /// How many transactions each has.
         txns: u32,
-        /// Whether each session runs on a thread of its own.
+        /// Whether sessions run on threads.
         threads: bool,
     },
 }

@@ -1,4 +1,4 @@
-//! A run with each session on a thread of its own that keeps a log: each session is told how a transaction ended once what that
+//! A run with sessions on threads that keeps a log: each session is told how a transaction ended once what that
 //! stands on is in the log, and several share an append.
 
 ghost use Rattle.std.specs.Prelude.{◌≡◌, ◌+◌, ◌++◌, ◌∷◌, ◌<◌, ◌≤◌, ℕ, suc, List, [], length, map, All};
@@ -39,7 +39,7 @@ use std::marker::{Brand, PhantomData};
 use std::sync::Wait;
 use std::thread::Threads;
 
-/// What sessions on threads of their own are run with.
+/// What sessions on threads are run with.
 #[derive(Drop)]
 pub struct Crew<'a, T, G> {
     /// What starts threads and waits for them.
@@ -341,7 +341,7 @@ fn make_ready<K: Case>(
     })
 }
 
-/// Runs sessions over parts that keep a log, each on a thread of its own, until all are at their end. One that finds no memory stops before
+/// Runs sessions on threads over parts that keep a log, until all are at their end. One that finds no memory stops before
 /// its visit, and where the log is broken all stop.
 fn run_shared<K: Case + Send + Sync, D: Disk + Send + Sync, T: Threads + Wait + Sync, G: Gate>(
     crew: &Crew<'_, T, G>,
@@ -417,7 +417,7 @@ fn come_back<K: Case, D: Disk>(
     }
 }
 
-/// Runs a setting, which is told by a type, with each session on a thread of its own and its commit order in a log.
+/// Runs a setting, which is told by a type, with its sessions on threads and its commit order in a log.
 #[tactic(none)]
 fn run_case<K: Case + Send + Sync, D: Disk + Send + Sync, T: Threads + Wait + Sync, G: Gate>(
     crew: &Crew<'_, T, G>,
@@ -468,7 +468,7 @@ fn finish(alloc: Global, world: Result<World, AppendError>) -> Result<Outcome, A
     Ok(world?.finish(alloc)?)
 }
 
-/// Runs a setting with each session on a thread of its own and its commit order in this log, in which nothing is: each session is told how
+/// Runs a setting with its sessions on threads and its commit order in this log, in which nothing is: each session is told how
 /// a transaction ended once what that reads and wrote is in the log, and several share an append. The outcome is what the snapshot machine
 /// comes to by some schedule, which the threads decide, and what a crash leaves at any moment recovers to the tables after some first entries
 /// of its commit order. It waits for locks and for the threads' ends. Err is for a fault of the disk, or for want of memory: then each

@@ -1,5 +1,5 @@
-//! A run with each session on a thread of its own: it takes the part that it needs, visits it and gives it back, with one
-//! lock word per chunk and one for the core.
+//! A run with sessions on threads: each takes the part that it needs, visits it and gives it back, with one lock word per chunk
+//! and one for the core.
 
 ghost use Rattle.std.specs.Prelude.{◌≡◌, ℕ, IfOk, List, None};
 ghost use Rattle.std.specs.List.{All};
@@ -211,7 +211,7 @@ pub(crate) fn world_of<K: Case>(
     })
 }
 
-/// Runs sessions over shared parts, each on a thread of its own, until all are at their end.
+/// Runs sessions on threads over shared parts, until all are at their end.
 fn run_shared<K: Case + Send + Sync, T: Threads + Wait + Sync, G: Gate>(
     rt: &T,
     alloc: Global,
@@ -230,7 +230,7 @@ fn run_shared<K: Case + Send + Sync, T: Threads + Wait + Sync, G: Gate>(
     Ok((ran.parts, ran.sessions))
 }
 
-/// Runs a setting with each session on a thread of its own, where the setting is told by a type.
+/// Runs a setting with its sessions on threads, where the setting is told by a type.
 fn run_case<K: Case + Send + Sync, T: Threads + Wait + Sync, G: Gate>(
     rt: &T,
     alloc: Global,
@@ -263,7 +263,7 @@ fn run_case<K: Case + Send + Sync, T: Threads + Wait + Sync, G: Gate>(
     world_of::<K>(alloc, shapes, per_table, parts, sessions)
 }
 
-/// The world of a setting after a run with each session on a thread of its own, until every session has ended. It shows what
+/// The world of a setting after a run with its sessions on threads, until every session has ended. It shows what
 /// the snapshot machine comes to by some schedule, whether chunks are pruned or not: by which one, the threads decide. The
 /// gate is told of each visit. It waits for locks and for the threads' ends. Err is for want of memory: the session that
 /// finds none stops before its step, the others go on to their end, and there is no world.
@@ -282,7 +282,7 @@ pub fn world_by_threads<T: Threads + Wait + Sync, G: Gate>(
     run_case::<Brand, T, G>(rt, alloc, setting, kinds, prunes, gate)
 }
 
-/// What a run comes to with each session on a thread of its own, as `world_by_threads` runs them: an outcome that the
+/// What a run comes to with sessions on threads, as `world_by_threads` runs them: an outcome that the
 /// snapshot machine comes to by some steps. Err is for want of memory, and then there is no outcome.
 pub fn run_threads<T: Threads + Wait + Sync, G: Gate>(
     rt: &T,

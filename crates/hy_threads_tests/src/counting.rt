@@ -1,4 +1,4 @@
-//! An engine of one counter: each session adds 1 to it, so many times.
+//! An engine of one counter: each session adds 1 to it, so many times, and some make sure of what they added before they go on.
 
 ghost use Rattle.std.specs.Prelude.{◌≡◌};
 ghost use Rattle.hy_threads.specs.Shares.{AreShares};
@@ -12,9 +12,11 @@ use std::alloc::{AllocError, Global};
 pub struct Counter {
     /// The sum so far.
     pub count: u64,
+    /// Up to which sum it was made sure.
+    pub sure: u64,
 }
 
-/// A session that adds 1 in each turn.
+/// A session that adds 1 in each turn, or in every second one.
 #[derive(Drop)]
 pub struct Adder {
     /// Its number.
@@ -27,6 +29,10 @@ pub struct Adder {
     pub starves: bool,
     /// So many shares of each turn's work are made ahead of it.
     pub offers: usize,
+    /// Behind each turn in which it adds there is one in which the sum is made sure.
+    pub commits: bool,
+    /// The sum that has to be sure before it goes on, in such a turn.
+    pub owes: Option<u64>,
 }
 
 /// The engine.
@@ -92,12 +98,12 @@ impl Worked for Counting {
         let _ = (session.offers, shares.len());
     }
 
-    fn awaited(_session: &Adder) -> Option<u64> {
-        None
+    fn awaited(session: &Adder) -> Option<u64> {
+        session.owes
     }
 
-    fn reached(_counter: &Counter) -> Option<u64> {
-        None
+    fn reached(counter: &Counter) -> Option<u64> {
+        Some(counter.sure)
     }
 
     fn is_leading(_session: &Adder) -> bool {
@@ -121,7 +127,13 @@ impl Worked for Counting {
         if session.starves && left == 0 {
             return Err(AllocError);
         }
-        counter.count = counter.count.saturating_add(1);
+        session.owes = if session.owes.is_some() {
+            counter.sure = counter.count;
+            None
+        } else {
+            counter.count = counter.count.saturating_add(1);
+            session.commits.then_some(counter.count)
+        };
         session.turns = if left == 0 { None } else { Some(left) };
         Ok(Visited::Moved)
     }

@@ -12,6 +12,8 @@ fn ended(number: u32) -> Adder {
         awaits: 0,
         starves: false,
         offers: 0,
+        commits: false,
+        owes: None,
     }
 }
 
@@ -19,7 +21,7 @@ fn ended(number: u32) -> Adder {
 fn a_part_that_is_out_is_not_taken(rt: HostRuntime) -> Result<(), Fail> {
     let alloc = rt.alloc();
     let mut counters = Vec::new(alloc);
-    counters.push(Counter { count: 7 })?;
+    counters.push(Counter { count: 7, sure: 0 })?;
     let mut sessions = Vec::new(alloc);
     sessions.push(ended(0))?;
     sessions.push(ended(1))?;
@@ -36,7 +38,7 @@ fn a_part_that_is_out_is_not_taken(rt: HostRuntime) -> Result<(), Fail> {
         return Err(Fail::new("the part is out"));
     };
     assert_eq!(rt; counter.count, 7);
-    parts.give(&mut one, &sessions[0], 0, Counter { count: 8 });
+    parts.give(&mut one, &sessions[0], 0, Counter { count: 8, sure: 0 });
     let Some(counter) = parts.try_take(&mut other, 0) else {
         return Err(Fail::new("the part is out"));
     };

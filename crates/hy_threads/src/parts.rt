@@ -416,11 +416,11 @@ impl<P: Parted> Parts<P> {
         }
     }
 
-    /// Whether something is awaited at the part k, and the part has not come as far as that.
-    pub(crate) fn has_to_wait(&self, k: usize, awaited: Option<u64>) -> bool
+    /// Whether the part k has not come as far as is awaited there.
+    pub(crate) fn has_to_wait(&self, k: usize, awaited: u64) -> bool
         requires { k < self.now.slots }
     {
-        awaited.is_some_and(|awaited| !self.waiting[k].group.has_reached(awaited))
+        !self.waiting[k].group.has_reached(awaited)
     }
 
     /// Who led those who wait at the part k has done, and the part has come so far, where that is known.

@@ -1,5 +1,5 @@
 //! A session with its seat, and its way to the end.
-ghost use Rattle.std.specs.Prelude.{◌≡◌, ◌<◌, false, MatchBool};
+ghost use Rattle.std.specs.Prelude.{◌≡◌, ◌<◌, false, Some, MatchBool};
 ghost use Rattle.hy_threads.specs.Seats.{number_of};
 ghost use Rattle.hy_threads.specs.Tasks.{IsReady, Fits, IsSameWorker, HasStopped};
 
@@ -87,8 +87,11 @@ impl<P: Worked> Worker<P> {
     pub(crate) fn has_to_wait(&self, parts: &Parts<P>) -> bool
         requires { Fits P.width_of parts.now self.now }
     {
+        let Some(awaited) = P::awaited(&self.session) else {
+            return false;
+        };
         match P::need(&self.session) {
-            Some(point) => !self.leads && parts.has_to_wait(point.part, P::awaited(&self.session)),
+            Some(point) => !self.leads && parts.has_to_wait(point.part, awaited),
             None => false,
         }
     }
@@ -111,9 +114,27 @@ impl<P: Worked> Worker<P> {
         ensures same { IsSameWorker P.width_of self.old self.new }
         ensures more { MatchBool result (self.new.starved ≡ false) (HasStopped P.point_of self.new) }
     {
-        let Some(point) = P::need(&self.session) else {
-            return false;
-        };
+        match P::need(&self.session) {
+            Some(point) => self.visit_at(rt, alloc, parts, gate, point),
+            None => false,
+        }
+    }
+
+    // The visit of the part that the session needs, which is at this point. False where it finds no memory.
+    fn visit_at<T: Wait, G: Gate>(
+        &mut self,
+        rt: &T,
+        alloc: Global,
+        parts: &Parts<P>,
+        gate: &G,
+        point: Point,
+    ) -> bool
+        requires next { P.point_of self.old.session ≡ Some point }
+        requires fits { Fits P.width_of parts.now self.old }
+        requires fed { self.old.starved ≡ false }
+        ensures same { IsSameWorker P.width_of self.old self.new }
+        ensures more { MatchBool result (self.new.starved ≡ false) (HasStopped P.point_of self.new) }
+    {
         gate.pass(&point);
         self.leads |= parts.join_group(rt, point.part, P::awaited(&self.session));
         let mut part = parts.take(rt, &mut self.seat, point.part);
@@ -216,8 +237,7 @@ impl<P: Worked + Send + Sync> Worker<P> {
             }
             begun = statement;
             self.prepare(rt, alloc, gate);
-            let goes_on = self.visit_once(rt, alloc, parts, gate);
-            if !goes_on {
+            if !self.visit_at(rt, alloc, parts, gate, point) {
                 return StintEnd::Stopped;
             }
             if self.blocked.is_some() {

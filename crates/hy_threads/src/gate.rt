@@ -46,7 +46,7 @@ pub trait Gate: PieceGate {
     fn pass(&self, point: &Point);
 
     /// The nanoseconds of a clock, by which it is seen whether workers do well on one thread. None where each is to have a thread of
-    /// its own from the beginning: only then may a gate hold one worker up until another one gets on.
+    /// its own from the beginning: else, where sessions may await something, a gate that holds one up may hold up all.
     fn nanos(&self) -> Option<u64> {
         None
     }

@@ -3,7 +3,7 @@
 //! A thread that sleeps takes longer to wake than a short transaction takes, and threads that commit short transactions hold each
 //! other up (Stonebraker, Madden, Abadi, Harizopoulos, Hachem, Helland, "The End of an Architectural Era", VLDB 2007). So where
 //! sessions wait for a sync, and do little between two syncs, one thread runs them one after another, and leads them all.
-//! Where they do more, or none of them waits, each gets a thread of its own.
+//! Where they do more, each gets a thread of its own.
 //!
 //! Nothing here is part of the rule: wherever that ends, each worker goes on from where it stands.
 
@@ -152,8 +152,8 @@ fn run_round<T: Threads + Wait + Sync, P: Worked + Send + Sync, G: Gate>(
     }
 }
 
-/// Runs workers one after another on this thread, round after round, as long as they do well there. Where the gate tells no time,
-/// or there is one worker alone, it runs none.
+/// Runs workers one after another on this thread, round after round, as long as they do well there. It runs none where their sessions
+/// never wait for what takes long, where the gate tells no time, and where there is one worker alone.
 pub(crate) fn run_together<T: Threads + Wait + Sync, P: Worked + Send + Sync, G: Gate>(
     rt: &T,
     alloc: Global,
@@ -168,7 +168,7 @@ pub(crate) fn run_together<T: Threads + Wait + Sync, P: Worked + Send + Sync, G:
     let Some(now) = gate.nanos() else {
         return;
     };
-    if workers.len() < 2 {
+    if !P::may_await() || workers.len() < 2 {
         return;
     }
     let mut pace = Pace::new(workers.len(), now);

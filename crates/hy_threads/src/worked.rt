@@ -62,6 +62,9 @@ pub trait Worked: Parted {
     /// it waits for nothing like that.
     fn awaited(session: &Self::Session) -> Option<u64>;
 
+    /// Whether sessions ever wait so.
+    fn may_await() -> bool;
+
     /// How far a part has come at which sessions wait so. None of any other.
     fn reached(part: &Self::Part) -> Option<u64>;
 

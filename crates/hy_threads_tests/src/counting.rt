@@ -102,6 +102,10 @@ impl Worked for Counting {
         session.owes
     }
 
+    fn may_await() -> bool {
+        true
+    }
+
     fn reached(counter: &Counter) -> Option<u64> {
         Some(counter.sure)
     }

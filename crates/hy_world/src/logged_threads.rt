@@ -122,6 +122,10 @@ impl<K: Case, D: Disk + Send + Sync> Worked for ShownLogged<K, D> {
         }
     }
 
+    fn may_await() -> bool {
+        true
+    }
+
     fn reached(part: &LoggedPart<D>) -> Option<u64> {
         let LoggedPart::Core(_, durability) = part else {
             return None;

@@ -130,6 +130,10 @@ impl<K: Case> Worked for Shown<K> {
         None
     }
 
+    fn may_await() -> bool {
+        false
+    }
+
     fn reached(_part: &SharedPart) -> Option<u64> {
         None
     }

@@ -29,7 +29,7 @@ hy runs a script of concurrent SQL transactions, and prints what each was told a
 
 FILE is the script. Where none is named, or it is -, the script is standard input.
 
-    --threads           each session on a thread of its own; the schedule isn't used
+    --threads           sessions run on threads; the schedule isn't used
     --no-prune          old versions are kept
     --log               the commits are kept in a log
     --script            the tables as the beginning of a script that goes on from them
